@@ -1,0 +1,9 @@
+pub mod Hierarchy
+pub mod Text
+pub mod Expression
+pub mod Tokens
+pub mod Grammar
+pub mod Generation
+pub mod Support
+pub mod Answer
+pub mod AnswerText

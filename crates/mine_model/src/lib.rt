@@ -1,6 +1,19 @@
-//! The meaning of the miner: its types, and the definitions that every contract of the workspace cites.
+//! The meaning of the miner: the types that its crates pass to each other, and in `specs/` the definitions that
+//! every contract of the workspace cites. `docs/DEFINITIONS.md` leads through them.
 #![tactic(auto)]
 
+mod expression;
+mod fault;
+mod gate;
+mod item;
+mod laws;
 mod memory;
+mod row;
 
+pub use expression::{Expr, Leaf};
+pub use fault::{Fault, Which};
+pub use gate::{Gate, OpenGate};
+pub use item::{Item, Name, Pattern};
+pub use laws::at_most_one_answer;
 pub use memory::NoMemory;
+pub use row::Row;
