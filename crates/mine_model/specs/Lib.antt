@@ -7,3 +7,4 @@ pub mod Generation
 pub mod Support
 pub mod Answer
 pub mod AnswerText
+pub mod Narrow

@@ -8,6 +8,7 @@ mod gate;
 mod item;
 mod laws;
 mod memory;
+mod names_fault;
 mod row;
 
 pub use expression::{Expr, Leaf};
@@ -16,4 +17,5 @@ pub use gate::{Gate, OpenGate};
 pub use item::{Item, Name, Pattern};
 pub use laws::at_most_one_answer;
 pub use memory::NoMemory;
+pub use names_fault::NamesFault;
 pub use row::Row;

@@ -1,0 +1,2 @@
+//! Names and their numbers, one to one.
+#![tactic(auto)]

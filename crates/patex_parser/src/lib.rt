@@ -1,0 +1,8 @@
+//! Reads pattern expressions.
+#![tactic(auto)]
+
+mod parsed;
+mod pieces;
+
+pub use parsed::{NameUse, Parsed};
+pub use pieces::narrow;
