@@ -1,0 +1,2 @@
+pub mod SupportLemmas
+pub mod AnswerLemmas
