@@ -1,4 +1,4 @@
 //! One run of the command: words and files in, the answer or one message out.
 #![tactic(auto)]
 
-mod evaluator;
+mod words;
