@@ -2,5 +2,6 @@
 #![tactic(auto)]
 
 mod reading;
+mod splitting;
 mod words;
 mod writing;
