@@ -1,0 +1,111 @@
+ghost use Rattle.std.specs.Prelude.{◌≡◌, ℕ, ◌≤◌, ◌<◌, ◌↔◌, true, List, [], Option, Some, None, IfSome, IfNone, IsTrue, length, take, drop};
+ghost use Rattle.text_ports.specs.Memory.{bytes_of, bytes_at};
+
+use super::faults::Calls;
+use super::files::{Failed, Files};
+
+/// A file that is held in memory.
+#[derive(Debug, Drop)]
+pub struct MemFile {
+    pub name: Vec<u8>,
+    pub bytes: Vec<u8>,
+}
+
+/// Files that are held in memory and tell their bytes. They give short reads, and they fail where they are told to.
+/// A missing name is a fault. A call of `open` that fails leaves nothing to read, and one of `read` takes nothing.
+#[derive(Drop)]
+pub struct MemFiles {
+    files: Vec<MemFile>,
+    cut: usize,
+    place: Option<usize>,
+    at: usize,
+    calls: Calls,
+    ghost cut_takes: { 0 < cut },
+    ghost at_within: { at ≤ length (bytes_at files.items place) },
+}
+
+impl MemFiles {
+    /// Of two files of one name the first counts. The calls of `open` and `read` are counted together, from 1, and
+    /// those in `fails` fail. A read gives at most `cut` bytes.
+    pub fn new(files: Vec<MemFile>, fails: Vec<u64>, cut: usize) -> MemFiles
+        requires { 0 < cut }
+        ensures may { (name : List ℕ) → IsTrue (⟦<MemFiles as Files>⟧.may result name) }
+        ensures holds { ⟦<MemFiles as Files>⟧.holds result ≡ bytes_of files.items }
+        ensures left { ⟦<MemFiles as Files>⟧.left result ≡ Some [] }
+        ensures faults { ⟦<MemFiles as Files>⟧.faults result ≡ 0 }
+    {
+        MemFiles {
+            files,
+            cut,
+            place: None,
+            at: 0,
+            calls: Calls::new(fails),
+        }
+    }
+}
+
+impl Files for MemFiles {
+    ghost may = { λ _ _. true };
+
+    ghost holds = { λ files. bytes_of files.files.items };
+
+    ghost left = { λ files. Some (drop files.at (bytes_at files.files.items files.place)) };
+
+    ghost faults = { λ files. files.calls.faults };
+
+    fn open(&mut self, name: &str) -> Result<(), Failed> {
+        self.at = 0;
+        self.place = None;
+        self.calls.next()?;
+        self.place = place_of(self.files.as_slice(), name);
+        match self.place {
+            Some(_) => Ok(()),
+            None => Err(self.calls.fail()),
+        }
+    }
+
+    fn read(&mut self, buffer: &mut [u8]) -> Result<usize, Failed> {
+        self.calls.next()?;
+        let bytes = file_at(self.files.as_slice(), self.place);
+        let count = copy_some(&bytes[self.at..], self.cut, buffer);
+        self.at += count;
+        Ok(count)
+    }
+}
+
+/// The place of the first file of this name.
+fn place_of(files: &[MemFile], name: &str) -> Option<usize>
+    ensures found { IfSome result (λ place. bytes_of files.now name.now ≡ Some (bytes_at files.now (Some place))) }
+    ensures missing { IfNone result (bytes_of files.now name.now ≡ None) }
+{
+    files
+        .iter()
+        .position(|file| file.name.as_slice() == name.as_bytes())
+}
+
+/// The bytes of the file at this place, and no byte where no file is open.
+fn file_at(files: &[MemFile], place: Option<usize>) -> &[u8]
+    ensures { result.now ≡ bytes_at files.now place }
+{
+    let Some(place) = place else {
+        return &[];
+    };
+    match files.get(place) {
+        Some(file) => file.bytes.as_slice(),
+        None => &[],
+    }
+}
+
+/// Copies from the front of `from` to the front of `to`, at most `cut` bytes, and answers how many they are.
+fn copy_some(from: &[u8], cut: usize, to: &mut [u8]) -> usize
+    requires cut_takes { 0 < cut }
+    requires room { 0 < length to.old }
+    ensures within { result ≤ length from.now }
+    ensures fits { result ≤ length to.new }
+    ensures copied { take result to.new ≡ take result from.now }
+    ensures end { (result ≡ 0) ↔ (from.now ≡ []) }
+{
+    let count = from.len().min(cut).min(to.len());
+    to[..count].copy_from_slice(&from[..count]);
+    count
+}
