@@ -1,4 +1,4 @@
-ghost use Rattle.std.specs.Prelude.{◌≡◌, ℕ, ◌≤◌, ◌<◌, ◌↔◌, true, List, [], Option, Some, None, IfSome, IfNone, IsTrue, length, take, drop};
+ghost use Rattle.std.specs.Prelude.{◌≡◌, ℕ, ◌≤◌, ◌<◌, ◌↔◌, true, List, [], Option, Some, None, IfSome, IsTrue, length, take, drop, position, bytes_eq};
 ghost use Rattle.text_ports.specs.Memory.{bytes_of, bytes_at};
 
 use super::faults::Calls;
@@ -75,8 +75,7 @@ impl Files for MemFiles {
 
 /// The place of the first file of this name.
 fn place_of(files: &[MemFile], name: &str) -> Option<usize>
-    ensures found { IfSome result (λ place. bytes_of files.now name.now ≡ Some (bytes_at files.now (Some place))) }
-    ensures missing { IfNone result (bytes_of files.now name.now ≡ None) }
+    ensures { result ≡ position (λ file. bytes_eq file.name.items name.now) files.now }
 {
     files
         .iter()
