@@ -1,11 +1,9 @@
 ghost use Rattle.std.specs.Prelude.{◌≡◌, ℕ, ◌≤◌, true, List, None, IfOk, IsTrue, length};
 
-use std::fs;
-use std::io::{ErrorKind, Input, Read};
-use std::rt;
-
 use super::faults::raised;
 use super::files::{Failed, Files};
+use std::io::{ErrorKind, Input, Read};
+use std::{fs, rt};
 
 /// The name that stands for standard input.
 const STANDARD_INPUT: &str = "-";
@@ -108,4 +106,33 @@ fn read_some<S: Read>(source: &mut S, buffer: &mut [u8]) -> Result<usize, Failed
         }
     }
     Err(Failed)
+}
+
+#[cfg(test)]
+mod tests {
+    use super::DiskFiles;
+    use crate::files::{Failed, Files};
+    use std::fs;
+    use std::test::Fail;
+
+    #[test]
+    fn reads_the_disk(rt: HostRuntime) -> Result<(), Fail> {
+        let mut buffer = [0u8; 64];
+        fs::write(&rt, "ports_rows.txt", "b 1\nc 2\n")?;
+        fs::create_dir(&rt, "ports_folder")?;
+        let mut files = DiskFiles::new(&rt);
+        assert_eq!(rt; files.read(&mut buffer), Ok(0));
+        assert_eq!(rt; files.open("ports_rows.txt"), Ok(()));
+        assert_eq!(rt; files.read(&mut buffer), Ok(8));
+        assert_eq!(rt; &buffer[..8], b"b 1\nc 2\n".as_slice());
+        assert_eq!(rt; files.read(&mut buffer), Ok(0));
+        assert_eq!(rt; files.open("ports_absent.txt"), Err(Failed));
+        assert_eq!(rt; files.read(&mut buffer), Ok(0));
+        let opened = files.open("ports_folder");
+        assert!(rt; opened.is_err() || files.read(&mut buffer).is_err());
+        assert_eq!(rt; files.open("-"), Ok(()));
+        fs::remove_file(&rt, "ports_rows.txt")?;
+        fs::remove_dir(&rt, "ports_folder")?;
+        Ok(())
+    }
 }

@@ -108,3 +108,67 @@ fn copy_some(from: &[u8], cut: usize, to: &mut [u8]) -> usize
     to[..count].copy_from_slice(&from[..count]);
     count
 }
+
+#[cfg(test)]
+mod tests {
+    use super::{MemFile, MemFiles};
+    use crate::files::{Failed, Files};
+    use std::alloc::{AllocError, Global};
+    use std::test::Fail;
+
+    fn named(alloc: Global, name: &str, bytes: &str) -> Result<MemFile, AllocError> {
+        Ok(MemFile {
+            name: Vec::from_slice(alloc, name.as_bytes())?,
+            bytes: Vec::from_slice(alloc, bytes.as_bytes())?,
+        })
+    }
+
+    fn read_to_end(alloc: Global, files: &mut MemFiles) -> Result<Vec<u8>, Fail> {
+        let mut all = Vec::new(alloc);
+        let mut buffer = [0u8; 5];
+        for _ in 0..12 {
+            let count = files.read(&mut buffer)?;
+            all.extend_from_slice(&buffer[..count])?;
+        }
+        Ok(all)
+    }
+
+    #[test]
+    fn gives_the_first_file_of_a_name_at_each_cut(rt: HostRuntime) -> Result<(), Fail> {
+        for cut in 1..8 {
+            let mut held = Vec::new(rt.alloc());
+            held.push(named(rt.alloc(), "rows", "b 1\nc 2\n")?)?;
+            held.push(named(rt.alloc(), "names", "one")?)?;
+            held.push(named(rt.alloc(), "names", "another")?)?;
+            let mut files = MemFiles::new(held, Vec::new(rt.alloc()), cut);
+            assert_eq!(rt; files.read(&mut [0u8; 2]), Ok(0));
+            for (name, bytes) in [
+                ("rows", "b 1\nc 2\n"),
+                ("names", "one"),
+                ("rows", "b 1\nc 2\n"),
+            ] {
+                assert_eq!(rt; files.open(name), Ok(()));
+                let all = read_to_end(rt.alloc(), &mut files)?;
+                assert_eq!(rt; all.as_slice(), bytes.as_bytes(), "cut {cut}");
+            }
+        }
+        Ok(())
+    }
+
+    #[test]
+    fn fails_where_it_is_told_to(rt: HostRuntime) -> Result<(), Fail> {
+        let mut held = Vec::new(rt.alloc());
+        held.push(named(rt.alloc(), "rows", "abc")?)?;
+        let mut files = MemFiles::new(held, vec![in rt.alloc(); 1, 4]?, 2);
+        let mut buffer = [0u8; 4];
+        assert_eq!(rt; files.open("rows"), Err(Failed));
+        assert_eq!(rt; files.open("rows"), Ok(()));
+        assert_eq!(rt; files.read(&mut buffer), Ok(2));
+        assert_eq!(rt; files.read(&mut buffer), Err(Failed));
+        assert_eq!(rt; files.read(&mut buffer), Ok(1));
+        assert_eq!(rt; buffer, [b'c', b'b', 0, 0]);
+        assert_eq!(rt; files.open("absent"), Err(Failed));
+        assert_eq!(rt; files.read(&mut buffer), Ok(0));
+        Ok(())
+    }
+}

@@ -1,12 +1,10 @@
 ghost use Rattle.std.specs.Prelude.{◌≡◌, ℕ, ◌≤◌, ◌<◌, [], Some, IfOk, vec_len, vec_capacity};
 
-use std::alloc::Global;
-
-use mine_model::NoMemory;
-
 use super::faults::Calls;
 use super::files::Failed;
 use super::sink::Sink;
+use mine_model::NoMemory;
+use std::alloc::Global;
 
 /// A sink that holds what was written to it, and tells it. It makes short writes, it is full at last, and it fails
 /// where it is told to.
@@ -59,5 +57,30 @@ impl Sink for MemSink {
         }
         self.held.extend_from_slice(&piece[..count]).unwrap();
         Ok(count)
+    }
+}
+
+#[cfg(test)]
+mod tests {
+    use super::MemSink;
+    use crate::files::Failed;
+    use crate::sink::Sink;
+    use std::test::Fail;
+
+    #[test]
+    fn is_cut_fails_and_is_full(rt: HostRuntime) -> Result<(), Fail> {
+        let mut sink = MemSink::new(rt.alloc(), 5, 3, vec![in rt.alloc(); 2]?)?;
+        let calls = [
+            ("abcd", Ok(3), "abc"),
+            ("defg", Err(Failed), "abc"),
+            ("defg", Ok(2), "abcde"),
+            ("", Ok(0), "abcde"),
+            ("fg", Err(Failed), "abcde"),
+        ];
+        for (piece, outcome, held) in calls {
+            assert_eq!(rt; sink.write(piece.as_bytes()), outcome);
+            assert_eq!(rt; sink.bytes(), held.as_bytes());
+        }
+        Ok(())
     }
 }

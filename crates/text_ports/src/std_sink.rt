@@ -1,11 +1,11 @@
 ghost use Rattle.std.specs.Prelude.{◌≡◌, ℕ, ◌≤◌, ◌<◌, None, IfOk, length};
 
-use std::io::{ErrorKind, Stderr, Stdout, Write};
-
 use super::disk_files::TRIES;
 use super::faults::raised;
 use super::files::Failed;
 use super::sink::Sink;
+use std::io;
+use std::io::{ErrorKind, Printer, Stderr, Write};
 
 /// A stream of the process, or another writer. Nothing is told of what was written. Each write is followed by a
 /// flush, and a stream that takes nothing of a piece that is not empty is a fault.
@@ -24,17 +24,17 @@ impl<W: Write> StdSink<W> {
     }
 }
 
-impl StdSink<Stdout> {
+impl<'a, P: Print> StdSink<Printer<'a, P>> {
     /// Standard output.
-    pub fn out(rt: &HostRuntime) -> StdSink<Stdout>
-        ensures { ⟦<StdSink<Stdout> as Sink>⟧.faults result ≡ 0 }
+    pub fn out(rt: &'a P) -> StdSink<Printer<'a, P>>
+        ensures { ⟦<StdSink<Printer<'a, P>> as Sink>⟧.faults result ≡ 0 }
     {
-        StdSink::new(rt.stdout())
+        StdSink::new(io::writer(rt))
     }
 }
 
 impl StdSink<Stderr> {
-    /// Standard error.
+    /// Standard error. It takes the runtime itself, since no bound of it writes bytes there.
     pub fn err(rt: &HostRuntime) -> StdSink<Stderr>
         ensures { ⟦<StdSink<Stderr> as Sink>⟧.faults result ≡ 0 }
     {
@@ -87,4 +87,47 @@ fn flush<W: Write>(stream: &mut W) -> Result<(), Failed> {
         }
     }
     Err(Failed)
+}
+
+#[cfg(test)]
+mod tests {
+    use super::StdSink;
+    use crate::files::Failed;
+    use crate::sink::Sink;
+    use std::io;
+    use std::io::{ErrorKind, Write};
+    use std::test::Fail;
+
+    /// Is interrupted, takes two bytes at most, takes nothing, and then has no reader.
+    #[derive(Drop)]
+    struct Fussy {
+        calls: u8,
+    }
+
+    impl Write for Fussy {
+        fn write(&mut self, buf: &[u8]) -> io::Result<usize> {
+            self.calls = self.calls.saturating_add(1);
+            match self.calls {
+                1 => Err(io::Error::from(ErrorKind::Interrupted)),
+                2 => Ok(buf.len().min(2)),
+                3 => Ok(0),
+                _ => Err(io::Error::from(ErrorKind::BrokenPipe)),
+            }
+        }
+
+        fn flush(&mut self) -> io::Result<()> {
+            Ok(())
+        }
+    }
+
+    #[test]
+    fn tries_again_and_fails(rt: HostRuntime) -> Result<(), Fail> {
+        let mut sink = StdSink::new(Fussy { calls: 0 });
+        assert_eq!(rt; sink.write(b"abc"), Ok(2));
+        assert_eq!(rt; sink.write(b"c"), Err(Failed));
+        assert_eq!(rt; sink.write(b"c"), Err(Failed));
+        assert_eq!(rt; StdSink::out(&rt).write(b"\n"), Ok(1));
+        assert_eq!(rt; StdSink::err(&rt).write(b"\n"), Ok(1));
+        Ok(())
+    }
 }
