@@ -1,5 +1,5 @@
 -- The place of a file, and its bytes.
-use Rattle.std.proofs.Common.{◌≡◌, ℕ, List, Some, None, arith, bytes_eq, position}
+use Rattle.std.proofs.Common.{◌≡◌, ℕ, List, Some, arith, bytes_eq, position}
 use Rattle.std.proofs.lemmas.List.Folds.{find_at}
 use Rattle.std.proofs.lemmas.Option.{slice_get_cases}
 use Rattle.std.specs.List.{position_or_len}
