@@ -25,6 +25,7 @@ pub trait Files {
         ensures same_names { may self.new ≡ may self.old }
         ensures same_files { holds self.new ≡ holds self.old }
         ensures opened { OnOk result (left self.new ≡ holds self.old name.now) }
+        ensures passed { OnOk result (faults self.new ≡ faults self.old) }
         ensures failed { OnErr result (Rose (faults self.old) (faults self.new)) }
         ensures never_falls { faults self.old ≤ faults self.new };
 
@@ -39,6 +40,7 @@ pub trait Files {
         ensures rest { IfOk result (λ n. IfSome (left self.old) (λ bytes. left self.new ≡ Some (drop n bytes))) }
         ensures within { IfOk result (λ n. IfSome (left self.old) (λ bytes. n ≤ length bytes)) }
         ensures end { IfOk result (λ n. IfSome (left self.old) (λ bytes. (n ≡ 0) ↔ (bytes ≡ []))) }
+        ensures passed { OnOk result (faults self.new ≡ faults self.old) }
         ensures failed { OnErr result (Rose (faults self.old) (faults self.new)) }
         ensures never_falls { faults self.old ≤ faults self.new };
 }

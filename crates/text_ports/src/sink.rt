@@ -1,4 +1,4 @@
-ghost use Rattle.std.specs.Prelude.{◌≡◌, ℕ, ◌≤◌, ◌<◌, ◌++◌, List, Option, Some, IfOk, OnErr, IfSome, length, take};
+ghost use Rattle.std.specs.Prelude.{◌≡◌, ℕ, ◌≤◌, ◌<◌, ◌++◌, List, Option, Some, IfOk, OnOk, OnErr, IfSome, length, take};
 ghost use Rattle.text_ports.specs.Faults.{Rose};
 
 use super::files::Failed;
@@ -16,6 +16,7 @@ pub trait Sink {
         ensures fits { IfOk result (λ n. n ≤ length piece.now) }
         ensures some { IfOk result (λ n. 0 < length piece.now → 0 < n) }
         ensures appends { IfOk result (λ n. IfSome (written self.old) (λ before. written self.new ≡ Some (before ++ take n piece.now))) }
+        ensures passed { OnOk result (faults self.new ≡ faults self.old) }
         ensures failed { OnErr result (Rose (faults self.old) (faults self.new)) }
         ensures unchanged { OnErr result (written self.new ≡ written self.old) }
         ensures never_falls { faults self.old ≤ faults self.new };
