@@ -2,3 +2,4 @@ pub mod Told
 pub mod Pieces
 pub mod FieldLemmas
 pub mod DatabaseLemmas
+pub mod PlainLemmas

@@ -2,6 +2,7 @@
 #![tactic(auto)]
 
 mod database;
+mod plain;
 mod reading;
 mod splitting;
 mod words;
