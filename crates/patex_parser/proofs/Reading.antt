@@ -2,6 +2,7 @@
 use Rattle.std.proofs.Common.{◌≡◌, ℕ, ◌+◌, ◌-◌, ◌<◌, ◌≤◌, ◌≢◌, Bool, true, false, List, [], ◌∷◌, ◌++◌, map, length, take, drop, get_or, refl, sym, ap, subst, ◌∙◌, arith, append_assoc, length-append, length-drop, vec_len}
 use Rattle.std.specs.List.{flat_map, AllByRecursion}
 use Rattle.std.proofs.lemmas.List.{drop_more, drop-drop, drop_all, take-append-drop, length-take-le, append-nil, map-append, length-map}
+use Rattle.std.proofs.lemmas.Grind.{flat_map-append}
 use Rattle.mine_model.specs.declared.expression.Leaf.{Leaf}
 use Rattle.mine_model.specs.declared.expression.Leaf.TheVariants.{Under, Any}
 use Rattle.mine_model.specs.Tokens.{Token, name, sign, repeat, open_repeat, Placed, Each, BeginsOtherwise, is_free, is_bare_byte}
@@ -41,10 +42,6 @@ length-uses_of (first ∷ others) =
     ∙ ap (λ n. name_count (first.token ∷ []) + n) (length-uses_of others)
     ∙ sym (name_count-cons first.token (tokens_in others))
 
-uses_of-append : (xs ys : List Placed) → uses_of (xs ++ ys) ≡ uses_of xs ++ uses_of ys
-uses_of-append [] ys = refl
-uses_of-append (x ∷ xs) ys = ap (λ us. use_of x.column x.token ++ us) (uses_of-append xs ys) ∙ sym (append_assoc (use_of x.column x.token) (uses_of xs) (uses_of ys))
-
 -- what was read, and one step on
 read_more : (text : List ℕ) (at next : ℕ) (kept more : List NarrowToken) (uses named : List Use) (added : List Placed)
     → (r : IsReadTo text at kept uses) → Advances (at + 1) (drop at text) added (next + 1) (drop next text) → next ≤ length text → length (uses ++ named) ≤ next
@@ -57,7 +54,7 @@ read_more text at next kept more uses named added r a within few k u =
       tokens = r.tokens ++ added;
       advances = Advances-then 1 (at + 1) (next + 1) text (drop at text) (drop next text) r.tokens added r.advances a;
       are_kept = subst (λ ts. AreKept 0 ts (kept ++ more)) (sym (map-append (λ placed. placed.token) r.tokens added)) (AreKept-append 0 (tokens_in r.tokens) (tokens_in added) kept more r.are_kept (subst (λ n. AreKept n (tokens_in added) more) count k));
-      named = uses_of-append r.tokens added ∙ ap (λ us. us ++ uses_of added) r.named ∙ ap (λ us. uses ++ us) u;
+      named = flat_map-append (λ placed. use_of placed.column placed.token) r.tokens added ∙ ap (λ us. us ++ uses_of added) r.named ∙ ap (λ us. uses ++ us) u;
     }
 
 pub read_nothing : (text : List ℕ) → IsReadTo text 0 [] []
@@ -128,3 +125,15 @@ read_all text at kept uses le r =
       are_kept = r.are_kept;
       named = r.named;
     }
+
+not_first_bare : (text : List ℕ) (at next : ℕ) → at < length text → is_bare_byte (get_or text at 0) ≡ true → BeginsOtherwise is_bare_byte (drop next text) → next ≡ at → ⊥
+not_first_bare text at next lt bare ends e =
+    let here : BeginsOtherwise is_bare_byte (get_or text at 0 ∷ drop (at + 1) text) = subst (λ x. BeginsOtherwise is_bare_byte x) (drop_more text at 0 lt) (subst (λ n. BeginsOtherwise is_bare_byte (drop n text)) e ends) in
+    let wrong : false ≡ true = sym here ∙ bare in
+    cc
+
+-- a name has a byte
+pub name_ends_behind : (text : List ℕ) (at next : ℕ) → at < length text → at ≤ next → is_bare_byte (get_or text at 0) ≡ true → BeginsOtherwise is_bare_byte (drop next text) → at < next
+name_ends_behind text at next lt le bare ends =
+    let other : next ≢ at = not_first_bare text at next lt bare ends in
+    omega arith
