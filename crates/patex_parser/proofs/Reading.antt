@@ -102,8 +102,8 @@ read_name text at next kept uses lt within bare ends r =
     let column : at + 1 + length word ≡ next + 1 = omega arith in
     let added : List Placed = record { column = at + 1; token = name word } ∷ [] in
     read_more text at next kept (Item (Under (nth_use (length uses))) ∷ []) uses (record { column = at + 1; name = word } ∷ []) added r
-      (subst (λ x. Advances (at + 1) x added (next + 1) (drop next text)) cut (subst (λ c. Advances (at + 1) (word ++ drop next text) added c (drop next text)) column step))
-      within (let f = r.few in omega (arith, length-append uses (record { column = at + 1; name = word } ∷ []))) (refl, tt) refl
+    (subst (λ x. Advances (at + 1) x added (next + 1) (drop next text)) cut (subst (λ c. Advances (at + 1) (word ++ drop next text) added c (drop next text)) column step))
+    within (let f = r.few in omega (arith, length-append uses (record { column = at + 1; name = word } ∷ []))) (refl, tt) refl
 
 pub not_read : (text : List ℕ) (at : ℕ) (kept : List NarrowToken) (uses : List Use) → at < length text → is_free (get_or text at 0) ≡ false → is_bare_byte (get_or text at 0) ≡ false → is_narrow_sign (get_or text at 0) ≡ false
     → IsReadTo text at kept uses → HasNarrowTokens text → ⊥
@@ -119,9 +119,9 @@ read_all text at kept uses le r =
       tokens = r.tokens;
       are_tokens = subst (λ ts. AreNarrowTokens 1 text ts) (append-nil r.tokens) (r.advances.forth [] (subst (λ x. AreNarrowTokens (at + 1) x []) (sym left) nothing));
       only = λ all n.
-        let q = r.advances.back all n in
-        let none : q.0 ≡ [] = no_token_left (at + 1) q.0 (subst (λ x. AreNarrowTokens (at + 1) x q.0) left q.2) in
-        q.1 ∙ ap (λ ts. r.tokens ++ ts) none ∙ append-nil r.tokens;
+          let q = r.advances.back all n in
+          let none : q.0 ≡ [] = no_token_left (at + 1) q.0 (subst (λ x. AreNarrowTokens (at + 1) x q.0) left q.2) in
+          q.1 ∙ ap (λ ts. r.tokens ++ ts) none ∙ append-nil r.tokens;
       are_kept = r.are_kept;
       named = r.named;
     }

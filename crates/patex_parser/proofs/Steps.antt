@@ -178,11 +178,15 @@ free_step column b rest f = record {
     narrow = n.narrow;
     are_tokens = free_forth column b rest others f n.are_tokens;
   };
-  back = λ all n. (all, refl, record {
-    unquoted = n.unquoted.1;
-    narrow = n.narrow;
-    are_tokens = free_back column b rest all f n.narrow n.are_tokens;
-  });
+  back = λ all n. (
+    all,
+    refl,
+    record {
+      unquoted = n.unquoted.1;
+      narrow = n.narrow;
+      are_tokens = free_back column b rest all f n.narrow n.are_tokens;
+    },
+  );
 }
 
 spelled_some : (bytes : List ℕ) (token : Token) (following : List ℕ) → IsNarrowToken token → Spells bytes token following → bytes ≢ []
@@ -315,7 +319,7 @@ pub Advances-then : (c d e : ℕ) (text more last : List ℕ) (tokens others : L
 Advances-then c d e text more last tokens others a b = record {
   forth = λ rest n. subst (λ ts. AreNarrowTokens c text ts) (sym (append_assoc tokens others rest)) (a.forth (others ++ rest) (b.forth rest n));
   back = λ all n.
-    let r = a.back all n in
-    let q = b.back r.0 r.2 in
-    (q.0, r.1 ∙ ap (λ ts. tokens ++ ts) q.1 ∙ sym (append_assoc tokens others q.0), q.2);
+      let r = a.back all n in
+      let q = b.back r.0 r.2 in
+      (q.0, r.1 ∙ ap (λ ts. tokens ++ ts) q.1 ∙ sym (append_assoc tokens others q.0), q.2);
 }

@@ -1,14 +1,19 @@
 -- The pieces that the tokens of a narrow expression are, and their tree.
 use Rattle.std.specs.Prelude.{◌≡◌, ◌≢◌, Bool, true, false, Option, None, List, [], ◌∷◌, ◌++◌, fold}
 use Rattle.std.specs.List.{flat_map}
+use Rattle.mine_model.specs.declared.expression.Leaf.{Leaf}
 use Rattle.mine_model.specs.Expression.{Tree, leaf, cat, rep, cap}
 use Rattle.patex_parser.specs.declared.token.NarrowToken.{NarrowToken}
 use Rattle.patex_parser.specs.declared.token.NarrowToken.TheVariants.{Item, Open, Close, Star}
 use Rattle.patex_parser.specs.declared.piece.ReadPiece.{ReadPiece}
 
-abbrev pub kept_in_brackets : Bool → List NarrowToken → List NarrowToken
-kept_in_brackets true tokens = Open ∷ tokens ++ Close ∷ []
-kept_in_brackets false tokens = tokens
+-- a name or a dot in brackets
+abbrev pub capture_of : Leaf → List NarrowToken
+capture_of inner = Open ∷ Item inner ∷ Close ∷ []
+
+abbrev pub kept_item : Bool → Leaf → List NarrowToken
+kept_item true inner = capture_of inner
+kept_item false inner = Item inner ∷ []
 
 abbrev pub kept_star : Bool → List NarrowToken
 kept_star true = Star ∷ []
@@ -16,7 +21,7 @@ kept_star false = []
 
 -- the tokens of the piece
 abbrev pub tokens_of : ReadPiece → List NarrowToken
-tokens_of piece = kept_in_brackets piece.captured (Item piece.leaf ∷ []) ++ kept_star piece.starred
+tokens_of piece = kept_item piece.captured piece.leaf ++ kept_star piece.starred
 
 abbrev pub BeginsWithStar : List NarrowToken → Type 0
 BeginsWithStar (Star ∷ tokens) = Unit {0}

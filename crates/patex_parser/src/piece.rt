@@ -1,6 +1,8 @@
-ghost use Rattle.std.specs.Prelude.{◌≡◌, ◌<◌, ◌≤◌, ◌+◌, [], ◌∷◌, ◌++◌, length, IfOk, IfSome, IfNone};
+ghost use Rattle.std.specs.Prelude.{◌≡◌, ◌≢◌, ◌<◌, ◌∷◌, ◌++◌, List, length, IfOk, IfSome, IfNone};
 ghost use Rattle.mine_model.specs.Expression.{tree_of};
-ghost use Rattle.patex_parser.specs.Pieces.{BeginsWith, ArePieces, AreThePieces, IsStarBefore, IsRow, kept_star, piece_tree, BeginsWithStar};
+ghost use Rattle.mine_model.specs.declared.expression.Leaf.{Leaf};
+ghost use Rattle.patex_parser.specs.declared.token.NarrowToken.{NarrowToken};
+ghost use Rattle.patex_parser.specs.Pieces.{ArePieces, AreThePieces, BeginsWith, IsRow, IsStarBefore, capture_of, piece_tree};
 
 use super::token::NarrowToken;
 use mine_model::{Expr, Leaf, NoMemory};
@@ -44,42 +46,66 @@ fn first_star(tokens: &[NarrowToken]) -> (bool, &[NarrowToken])
     }
 }
 
+// The name or dot that comes first, and what follows it.
+fn first_item(tokens: &[NarrowToken]) -> Option<(Leaf, &[NarrowToken])>
+    ensures some { IfSome result (λ found. tokens.now ≡ NarrowToken.Item found.0 ∷ found.1.now) }
+    ensures none { IfNone result ((leaf : Leaf) (behind : List NarrowToken) → tokens.now ≢ NarrowToken.Item leaf ∷ behind) }
+{
+    match tokens {
+        [NarrowToken::Item(leaf), behind @ ..] => Some((*leaf, behind)),
+        _ => None,
+    }
+}
+
+// What follows the token, where it comes first.
+fn behind_token(tokens: &[NarrowToken], token: NarrowToken) -> Option<&[NarrowToken]>
+    ensures some { IfSome result (λ behind. tokens.now ≡ token ∷ behind.now) }
+    ensures none { IfNone result ((behind : List NarrowToken) → tokens.now ≢ token ∷ behind) }
+{
+    match tokens {
+        [first, behind @ ..] if *first == token => Some(behind),
+        _ => None,
+    }
+}
+
+// The name or dot in brackets that comes first, and what follows it.
+fn first_capture(tokens: &[NarrowToken]) -> Option<(Leaf, &[NarrowToken])>
+    ensures some { IfSome result (λ found. tokens.now ≡ capture_of found.0 ++ found.1.now) }
+    ensures none { IfNone result ((leaf : Leaf) (behind : List NarrowToken) → tokens.now ≢ capture_of leaf ++ behind) }
+{
+    let inner = behind_token(tokens, NarrowToken::Open)?;
+    let (leaf, after) = first_item(inner)?;
+    let behind = behind_token(after, NarrowToken::Close)?;
+    Some((leaf, behind))
+}
+
 // The piece that comes first, and what follows it.
 fn first_piece(tokens: &[NarrowToken]) -> Option<(ReadPiece, &[NarrowToken])>
     requires { 0 < length tokens.now }
     ensures some { IfSome result (λ found. BeginsWith tokens.now found.0 found.1.now) }
     ensures none { IfNone result (¬ ArePieces tokens.now) }
 {
-    match tokens {
-        [NarrowToken::Item(leaf), behind @ ..] => {
-            let (starred, behind) = first_star(behind);
-            Some((
-                ReadPiece {
-                    leaf: *leaf,
-                    captured: false,
-                    starred,
-                },
-                behind,
-            ))
-        }
-        [
-            NarrowToken::Open,
-            NarrowToken::Item(leaf),
-            NarrowToken::Close,
-            behind @ ..,
-        ] => {
-            let (starred, behind) = first_star(behind);
-            Some((
-                ReadPiece {
-                    leaf: *leaf,
-                    captured: true,
-                    starred,
-                },
-                behind,
-            ))
-        }
-        _ => None,
+    if let Some((leaf, after)) = first_item(tokens) {
+        let (starred, behind) = first_star(after);
+        return Some((
+            ReadPiece {
+                leaf,
+                captured: false,
+                starred,
+            },
+            behind,
+        ));
     }
+    let (leaf, after) = first_capture(tokens)?;
+    let (starred, behind) = first_star(after);
+    Some((
+        ReadPiece {
+            leaf,
+            captured: true,
+            starred,
+        },
+        behind,
+    ))
 }
 
 // Cuts tokens into pieces.

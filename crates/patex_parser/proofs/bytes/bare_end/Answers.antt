@@ -1,6 +1,5 @@
 use Rattle.std.proofs.Common.{sym, ◌∙◌, arith}
 use Rattle.patex_parser.proofs.Steps.{Each-push, window_more}
-
 use Rattle.patex_parser.proofs.bytes.bare_end.Goals as goal
 
 pub loop-end-preserved : goal.loop-end-preserved
