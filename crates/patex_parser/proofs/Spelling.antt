@@ -247,3 +247,10 @@ narrow_from_pieces text kept uses pieces s p short some few =
       few = omega arith;
       spelled = r.1;
     }
+
+pub wrong_count : (text : List ℕ) (kept : List NarrowToken) (uses : List Use) (pieces : List ReadPiece) → IsScanned text kept uses → AreThePieces kept pieces → (1 ≤ length pieces → length pieces ≤ 64 → ⊥) → IsNarrow text → ⊥
+wrong_count text kept uses pieces s p h n =
+    let count = piece_count text kept uses pieces s p n in
+    let some = n.some in
+    let few = n.few in
+    h (omega arith) (omega arith)
