@@ -26,7 +26,7 @@ returns-then-is_empty-clause-none c =
     let found = c.in-Some-2.pieces in
     let count : vec_len found ≡ length found.items = found.ok.0 in
     elim c.then-is_empty.branch [
-      then-is_empty-via-then-is_empty w ↦ wrong_count _ _ _ _ scanned pieces (λ some few.
+      | then-is_empty-via-then-is_empty w ↦ wrong_count _ _ _ _ scanned pieces (λ some few.
           let empty : vec_len found ≡ 0 = eqb-true _ _ (sym c.is_empty.ensures ∙ w.if-is_empty.true) in
           omega arith)
       | then-is_empty-via-else-is_empty+then-len-gt-MOST_PIECES w ↦ wrong_count _ _ _ _ scanned pieces (λ some few.
