@@ -78,21 +78,6 @@ captured_first leaf starred tokens after behind w s = record {
   only = captured_only leaf starred tokens after behind w s;
 }
 
-pub begin_with_none : (tokens : List NarrowToken) → BeginWith tokens [] tokens
-begin_with_none tokens = record { whole = refl; only = λ all e. (all, refl, e) }
-
-pub begin_with_more : (tokens : List NarrowToken) (pieces : List ReadPiece) (rest : List NarrowToken) (piece : ReadPiece) (behind : List NarrowToken) → BeginWith tokens pieces rest → BeginsWith rest piece behind → BeginWith tokens (pieces ++ piece ∷ []) behind
-begin_with_more tokens pieces rest piece behind a b = record {
-  whole =
-      a.whole ∙ ap (λ x. all_tokens pieces ++ x) b.whole ∙ sym (append_assoc (all_tokens pieces) (tokens_of piece) behind)
-      ∙ ap (λ x. all_tokens pieces ++ x ++ behind) (sym (append-nil (tokens_of piece)))
-      ∙ ap (λ x. x ++ behind) (sym (flat_map-append tokens_of pieces (piece ∷ [])));
-  only = λ all e.
-      let r = a.only all e in
-      let q = b.only r.0 r.2 in
-      (q.0, r.1 ∙ ap (λ ps. pieces ++ ps) q.1 ∙ sym (append_assoc pieces (piece ∷ []) q.0), q.2);
-}
-
 no_pieces_with : (leaf : Leaf) (captured starred : Bool) (more : List NarrowToken) → [] ≡ tokens_of (APiece leaf captured starred) ++ more → ⊥
 no_pieces_with leaf true starred more e = cc
 no_pieces_with leaf false starred more e = cc
@@ -108,9 +93,6 @@ begin_with_all tokens pieces rest a e = record {
       let r = a.only others h in
       r.1 ∙ ap (λ ps. pieces ++ ps) (no_pieces r.0 (sym e ∙ r.2)) ∙ append-nil pieces;
 }
-
-pub no_first : (tokens : List NarrowToken) (pieces : List ReadPiece) (rest : List NarrowToken) → BeginWith tokens pieces rest → (ArePieces rest → ⊥) → ArePieces tokens → ⊥
-no_first tokens pieces rest a h all = let r = a.only all.0 all.1 in h (r.0, r.2)
 
 some_tokens : (inner : Leaf) (captured starred : Bool) → 0 < length (tokens_of (APiece inner captured starred))
 some_tokens inner true true = omega arith

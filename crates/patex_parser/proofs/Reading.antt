@@ -57,16 +57,6 @@ read_more text at next kept more uses named added r a within few k u =
       named = flat_map-append (λ placed. use_of placed.column placed.token) r.tokens added ∙ ap (λ us. us ++ uses_of added) r.named ∙ ap (λ us. uses ++ us) u;
     }
 
-pub read_nothing : (text : List ℕ) → IsReadTo text 0 [] []
-read_nothing text = record {
-  within = omega arith;
-  few = omega arith;
-  tokens = [];
-  advances = record { forth = λ others n. n; back = λ all n. (all, refl, n) };
-  are_kept = tt;
-  named = refl;
-}
-
 pub read_free : (text : List ℕ) (at : ℕ) (kept : List NarrowToken) (uses : List Use) → at < length text → is_free (get_or text at 0) ≡ true → IsReadTo text at kept uses → IsReadTo text (at + 1) kept uses
 read_free text at kept uses lt f r =
     let cut = drop_more text at 0 lt in

@@ -10,10 +10,6 @@ pub Each-append : (test : ℕ → Bool) (answer : Bool) (xs ys : List ℕ) → E
 Each-append test answer [] ys a b = b
 Each-append test answer (x ∷ xs) ys a b = (a.0, Each-append test answer xs ys a.1 b)
 
-pub Each-front : (test : ℕ → Bool) (answer : Bool) (xs ys : List ℕ) → Each test answer (xs ++ ys) → Each test answer xs
-Each-front test answer [] ys a = tt
-Each-front test answer (x ∷ xs) ys a = (a.0, Each-front test answer xs ys a.1)
-
 pub Each-behind : (test : ℕ → Bool) (answer : Bool) (xs ys : List ℕ) → Each test answer (xs ++ ys) → Each test answer ys
 Each-behind test answer [] ys a = a
 Each-behind test answer (x ∷ xs) ys a = Each-behind test answer xs ys a.1

@@ -11,10 +11,12 @@ use Rattle.patex_parser.specs.declared.piece.ReadPiece.{ReadPiece}
 abbrev pub capture_of : Leaf → List NarrowToken
 capture_of inner = Open ∷ Item inner ∷ Close ∷ []
 
+-- a name or a dot, in brackets or alone
 abbrev pub kept_item : Bool → Leaf → List NarrowToken
 kept_item true inner = capture_of inner
 kept_item false inner = Item inner ∷ []
 
+-- a star, or nothing
 abbrev pub kept_star : Bool → List NarrowToken
 kept_star true = Star ∷ []
 kept_star false = []
@@ -23,11 +25,12 @@ kept_star false = []
 abbrev pub tokens_of : ReadPiece → List NarrowToken
 tokens_of piece = kept_item piece.captured piece.leaf ++ kept_star piece.starred
 
+-- a star comes first
 abbrev pub BeginsWithStar : List NarrowToken → Type 0
 BeginsWithStar (Star ∷ tokens) = Unit {0}
 BeginsWithStar _ = ⊥
 
--- The tokens are these, with a star before them or none, and then none can be read.
+-- the tokens are a star and these behind it, or these alone, and then no star comes first
 abbrev pub IsStarBefore : List NarrowToken → Bool → List NarrowToken → Type 0
 IsStarBefore tokens true behind = tokens ≡ Star ∷ behind
 IsStarBefore tokens false behind = (tokens ≡ behind) × (¬ BeginsWithStar behind)
@@ -53,14 +56,17 @@ pub record BeginWith (tokens : List NarrowToken) (pieces : List ReadPiece) (behi
 abbrev pub ArePieces : List NarrowToken → Type 0
 ArePieces tokens = (pieces : List ReadPiece) × (tokens ≡ flat_map tokens_of pieces)
 
+-- the tree in a capture, or alone
 abbrev pub captured_tree : Bool → Tree → Tree
 captured_tree true tree = cap tree
 captured_tree false tree = tree
 
+-- the tree any number of times, or once
 abbrev pub starred_tree : Bool → Tree → Tree
 starred_tree true tree = rep tree 0 None
 starred_tree false tree = tree
 
+-- the tree of the piece
 abbrev pub piece_tree : ReadPiece → Tree
 piece_tree piece = starred_tree piece.starred (captured_tree piece.captured (leaf piece.leaf))
 

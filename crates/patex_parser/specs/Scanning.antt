@@ -12,6 +12,7 @@ use Rattle.patex_parser.specs.declared.token.NarrowToken.TheVariants.{Item, Open
 abbrev pub is_narrow_sign : ℕ → Bool
 is_narrow_sign b = (b == 46) || (b == 40) || (b == 41) || (b == 42)
 
+-- a name, or one of those signs
 abbrev pub IsNarrowToken : Token → Type 0
 IsNarrowToken (name text) = Unit {0}
 IsNarrowToken (sign b) = is_narrow_sign b ≡ true
@@ -24,7 +25,7 @@ pub record AreNarrowTokens (column : ℕ) (text : List ℕ) (tokens : List Place
   pub narrow : AllByRecursion (λ placed. IsNarrowToken placed.token) tokens
   pub are_tokens : AreTokensFrom column text tokens
 
--- The text of one column is these tokens and then what that of another is, and nothing else.
+-- The text is these tokens and then whatever the text after them is, and however it is tokens, these come first.
 pub record Advances (column : ℕ) (text : List ℕ) (tokens : List Placed) (column_after : ℕ) (text_after : List ℕ) : Type 0 where
   pub forth : (others : List Placed) → AreNarrowTokens column_after text_after others → AreNarrowTokens column text (tokens ++ others)
   pub back : (all : List Placed) → AreNarrowTokens column text all

@@ -9,7 +9,7 @@ use mine_model::{Expr, Leaf, NoMemory};
 use std::alloc::Global;
 
 /// A piece of a narrow expression.
-#[derive(Clone, Copy, Debug, PartialEq, Eq)]
+#[derive(Clone, Copy, Debug)]
 pub(crate) struct ReadPiece {
     pub(crate) leaf: Leaf,
     pub(crate) captured: bool,

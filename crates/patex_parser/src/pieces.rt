@@ -30,10 +30,10 @@ pub fn narrow(alloc: Global, text: &[u8]) -> Result<Option<Parsed>, NoMemory>
     if text.len() > MOST_BYTES {
         return Ok(None);
     }
-    let Some(scan) = scan(alloc, text)? else {
+    let Some(scanned) = scan(alloc, text)? else {
         return Ok(None);
     };
-    let Some(pieces) = split(alloc, scan.tokens.as_slice())? else {
+    let Some(pieces) = split(alloc, scanned.tokens.as_slice())? else {
         return Ok(None);
     };
     if pieces.is_empty() || pieces.len() > MOST_PIECES {
@@ -42,6 +42,6 @@ pub fn narrow(alloc: Global, text: &[u8]) -> Result<Option<Parsed>, NoMemory>
     let tree = row(alloc, pieces.as_slice())?;
     Ok(Some(Parsed {
         tree,
-        uses: scan.uses,
+        uses: scanned.uses,
     }))
 }

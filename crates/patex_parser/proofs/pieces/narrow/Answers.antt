@@ -11,17 +11,17 @@ use Rattle.patex_parser.proofs.pieces.narrow.Goals as goal
 use Rattle.patex_parser.proofs.pieces.narrow.Goals.{then-is_empty-via-then-is_empty, then-is_empty-via-else-is_empty+then-len-gt-MOST_PIECES}
 
 pub returns-in_default-clause-none : goal.returns-in_default-clause-none
-returns-in_default-clause-none c = not_scanned _ (rw c.in_default.is at c.in_ok-scan.ensures.none)
+returns-in_default-clause-none c = not_scanned _ (rw c.in_default.is at c.in_ok-scanned.ensures.none)
 
 pub returns-in_default-2-clause-none : goal.returns-in_default-2-clause-none
 returns-in_default-2-clause-none c =
-    let scanned = rw c.in-Some.is at c.in_ok-scan.ensures.scanned in
+    let scanned = rw c.in-Some.is at c.in_ok-scanned.ensures.scanned in
     let uncut = rw (c.in_default-2.is, c.as_slice.ensures.value) at c.in_ok-pieces.ensures.none in
     not_cut _ _ _ scanned uncut
 
 pub returns-then-is_empty-clause-none : goal.returns-then-is_empty-clause-none
 returns-then-is_empty-clause-none c =
-    let scanned = rw c.in-Some.is at c.in_ok-scan.ensures.scanned in
+    let scanned = rw c.in-Some.is at c.in_ok-scanned.ensures.scanned in
     let pieces = rw (c.in-Some-2.is, c.as_slice.ensures.value) at c.in_ok-pieces.ensures.some in
     let found = c.in-Some-2.pieces in
     let count : vec_len found ≡ length found.items = found.ok.0 in
@@ -36,30 +36,30 @@ returns-then-is_empty-clause-none c =
 
 pub returns-clause-read : goal.returns-clause-read
 returns-clause-read c =
-    let scanned = rw c.in-Some.is at c.in_ok-scan.ensures.scanned in
+    let scanned = rw c.in-Some.is at c.in_ok-scanned.ensures.scanned in
     let pieces = rw (c.in-Some-2.is, c.as_slice.ensures.value) at c.in_ok-pieces.ensures.some in
     let row = rw c.as_slice-2.ensures.value at c.in_ok-tree.ensures in
     row_is_reading _ _ _ _ _ scanned pieces row
 
 pub returns-clause-shape : goal.returns-clause-shape
 returns-clause-shape c =
-    let scanned = rw c.in-Some.is at c.in_ok-scan.ensures.scanned in
+    let scanned = rw c.in-Some.is at c.in_ok-scanned.ensures.scanned in
     let pieces = rw (c.in-Some-2.is, c.as_slice.ensures.value) at c.in_ok-pieces.ensures.some in
     let row = rw c.as_slice-2.ensures.value at c.in_ok-tree.ensures in
     (row_is_narrow _ _ _ _ _ scanned pieces row).0
 
 pub returns-clause-numbered : goal.returns-clause-numbered
 returns-clause-numbered c =
-    let scanned = rw c.in-Some.is at c.in_ok-scan.ensures.scanned in
+    let scanned = rw c.in-Some.is at c.in_ok-scanned.ensures.scanned in
     let pieces = rw (c.in-Some-2.is, c.as_slice.ensures.value) at c.in_ok-pieces.ensures.some in
     let row = rw c.as_slice-2.ensures.value at c.in_ok-tree.ensures in
-    let uses = c.in-Some.scan.uses in
+    let uses = c.in-Some.scanned.uses in
     let count : length (map use_view uses.items) ≡ vec_len uses = length-map uses.items use_view ∙ sym uses.ok.0 in
     subst (λ n. IsTreeBelow n (tree_of c.in_ok-tree.tree)) count (row_is_narrow _ _ _ _ _ scanned pieces row).1
 
 pub returns-clause-narrow : goal.returns-clause-narrow
 returns-clause-narrow c =
-    let scanned = rw c.in-Some.is at c.in_ok-scan.ensures.scanned in
+    let scanned = rw c.in-Some.is at c.in_ok-scanned.ensures.scanned in
     let pieces = rw (c.in-Some-2.is, c.as_slice.ensures.value) at c.in_ok-pieces.ensures.some in
     let found = c.in-Some-2.pieces in
     let count : vec_len found ≡ length found.items = found.ok.0 in
