@@ -1,2 +1,4 @@
 pub mod Narrow
 pub mod Parsing
+pub mod Pieces
+pub mod Scanning

@@ -5,8 +5,14 @@ ghost use Rattle.patex_parser.specs.Narrow.{IsNarrow};
 ghost use Rattle.patex_parser.specs.Parsing.{IsReadingOf, uses_view};
 
 use super::parsed::Parsed;
+use super::piece::{row, split};
+use super::scan::scan;
 use mine_model::NoMemory;
 use std::alloc::Global;
+
+const MOST_BYTES: usize = 4096;
+
+const MOST_PIECES: usize = 64;
 
 /// Reads a narrow expression: 1 to 64 pieces in at most 4,096 bytes, each a bare name or a dot, maybe in round
 /// brackets, maybe followed by a star. None where the text is no such expression.
@@ -21,5 +27,21 @@ pub fn narrow(alloc: Global, text: &[u8]) -> Result<Option<Parsed>, NoMemory>
     ensures narrow { IfOk result (λ found. IfSome found (λ _. IsNarrow text.now)) }
     ensures none { IfOk result (λ found. IfNone found (¬ IsNarrow text.now)) }
 {
-    Ok(None)
+    if text.len() > MOST_BYTES {
+        return Ok(None);
+    }
+    let Some(scanned) = scan(alloc, text)? else {
+        return Ok(None);
+    };
+    let Some(pieces) = split(alloc, scanned.tokens.as_slice())? else {
+        return Ok(None);
+    };
+    if pieces.is_empty() || pieces.len() > MOST_PIECES {
+        return Ok(None);
+    }
+    let tree = row(alloc, pieces.as_slice())?;
+    Ok(Some(Parsed {
+        tree,
+        uses: scanned.uses,
+    }))
 }
