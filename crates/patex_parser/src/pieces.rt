@@ -1,5 +1,6 @@
 ghost use Rattle.std.specs.Prelude.{◌≡◌, ℕ, vec_len, IfOk, IfSome, IfNone};
 ghost use Rattle.mine_model.specs.Expression.{tree_of, IsTreeBelow};
+ghost use Rattle.mine_model.specs.Grammar.{uses_of};
 ghost use Rattle.mine_model.specs.Narrow.{IsNarrowTree};
 ghost use Rattle.patex_parser.specs.Narrow.{IsNarrow};
 ghost use Rattle.patex_parser.specs.Parsing.{IsReadingOf, uses_view};
@@ -23,6 +24,8 @@ pub fn narrow(alloc: Global, text: &[u8]) -> Result<Option<Parsed>, NoMemory>
     ensures shape { IfOk result (λ found. IfSome found (λ p. IsNarrowTree (tree_of p.tree))) }
     // Each item number in it is that of a use.
     ensures numbered { IfOk result (λ found. IfSome found (λ p. IsTreeBelow (vec_len p.uses) (tree_of p.tree))) }
+    // However the text is a narrow expression, its names are these.
+    ensures only { IfOk result (λ found. IfSome found (λ p. (narrow_text : IsNarrow text.now) → uses_of narrow_text.tokens ≡ uses_view p)) }
     // A tree comes only where the text is a narrow expression, and None only where it is none.
     ensures narrow { IfOk result (λ found. IfSome found (λ _. IsNarrow text.now)) }
     ensures none { IfOk result (λ found. IfNone found (¬ IsNarrow text.now)) }

@@ -3,9 +3,10 @@ use Rattle.std.proofs.Common.{false-eqb}
 use Rattle.std.proofs.lemmas.Bool.{eqb-true}
 use Rattle.std.proofs.lemmas.List.{length-map}
 use Rattle.mine_model.specs.Expression.{tree_of, IsTreeBelow}
+use Rattle.mine_model.specs.Grammar.{uses_of}
 use Rattle.patex_parser.specs.Narrow.{IsNarrow}
 use Rattle.patex_parser.specs.Parsing.{use_view}
-use Rattle.patex_parser.proofs.Spelling.{not_scanned, not_cut, wrong_count, narrow_from_pieces}
+use Rattle.patex_parser.proofs.Spelling.{not_scanned, not_cut, wrong_count, narrow_from_pieces, narrow_has_tokens}
 use Rattle.patex_parser.proofs.Trees.{row_is_reading, row_is_narrow}
 use Rattle.patex_parser.proofs.pieces.narrow.Goals as goal
 use Rattle.patex_parser.proofs.pieces.narrow.Goals.{then-is_empty-via-then-is_empty, then-is_empty-via-else-is_empty+then-len-gt-MOST_PIECES}
@@ -65,3 +66,8 @@ returns-clause-narrow c =
     let count : vec_len found ≡ length found.items = found.ok.0 in
     let some : vec_len found ≢ 0 = false-eqb _ 0 (sym c.if-is_empty.false ∙ c.is_empty.ensures) in
     narrow_from_pieces _ _ _ _ scanned pieces c.if-text-gt-MOST_BYTES.false (omega arith) (let few : vec_len found ≤ 64 = subst (λ n. n ≤ 64) c.len.ensures c.if-len-gt-MOST_PIECES.false in omega arith)
+
+pub returns-clause-only : goal.returns-clause-only
+returns-clause-only c n =
+    let scanned = rw c.in-Some.is at c.in_ok-scanned.ensures.scanned in
+    ap uses_of (scanned.only n.tokens (narrow_has_tokens _ n)) ∙ scanned.named
