@@ -1,34 +1,34 @@
 -- Numbers of names, as names come behind the old ones.
-use Rattle.std.proofs.Common.{◌≡◌, ℕ, zero, suc, ◌+◌, ◌≤◌, ◌<◌, ◌++◌, ◌⊎◌, inl, inr, List, [], ◌∷◌, length, get_or, map, Option, Some, None, slice_get, refl, sym, ap, ◌∙◌, subst, arith, length-append, append_assoc}
-use Rattle.std.proofs.lemmas.List.{append-nil, map-append, get_or_append_left}
+use Rattle.std.proofs.Common.{◌≡◌, ℕ, zero, suc, ◌+◌, ◌≤◌, ◌<◌, ◌++◌, ◌⊎◌, inl, inr, List, [], ◌∷◌, length, get_or, map, Option, Some, None, slice_get, refl, sym, ap, ◌∙◌, subst, arith, take, length-append, append_assoc}
+use Rattle.std.proofs.lemmas.List.{append-nil, map-append, get_or_append_left, get_or-map, length-map, take_more}
 use Rattle.std.proofs.lemmas.List.Elements.{Contains-append_left, Contains-append_right}
 use Rattle.std.proofs.lemmas.Option.{slice_get_within, get_or_from_slice_get}
 use Rattle.std.specs.List.{AllByRecursion, Contains, flat_map}
 use Rattle.mine_model.specs.declared.item.Item.{Item}
 use Rattle.mine_model.specs.Answer.{name_of}
 use Rattle.item_names.specs.Names.{IsInterned}
-use Rattle.desq_run.specs.Database.{AreNamed, HaveNames, HaveLines, AreAdded}
+use Rattle.desq_run.specs.Database.{AreItemsOf, HaveNames, HaveLines, AreAdded}
 
 -- ---- one sequence
 
-pub AreNamed-append : (names more : List (List ℕ)) (items : List Item) → AreNamed names items → AreNamed (names ++ more) items
-AreNamed-append names more [] all = tt
-AreNamed-append names more (item ∷ items) (below, all) = (rw length-append (omega (arith, below)), AreNamed-append names more items all)
+pub AreItemsOf-append : (names more : List (List ℕ)) (items : List Item) → AreItemsOf names items → AreItemsOf (names ++ more) items
+AreItemsOf-append names more [] all = tt
+AreItemsOf-append names more (item ∷ items) (below, all) = (rw length-append (omega (arith, below)), AreItemsOf-append names more items all)
 
 name_of-append : (names more : List (List ℕ)) (item : Item) → item.0 < length names → name_of (names ++ more) item ≡ name_of names item
 name_of-append names more item below = get_or_append_left names more [] item.0 below
 
-map_name_of-append : (names more : List (List ℕ)) (items : List Item) → AreNamed names items → map (name_of (names ++ more)) items ≡ map (name_of names) items
+map_name_of-append : (names more : List (List ℕ)) (items : List Item) → AreItemsOf names items → map (name_of (names ++ more)) items ≡ map (name_of names) items
 map_name_of-append names more [] all = refl
 map_name_of-append names more (item ∷ items) (below, all) = rw (name_of-append names more item below, map_name_of-append names more items all) refl
 
-pub AreNamed-push : (names : List (List ℕ)) (items : List Item) (item : Item) → AreNamed names items → item.0 < length names → AreNamed names (items ++ item ∷ [])
-AreNamed-push names [] item all below = (below, tt)
-AreNamed-push names (first ∷ items) item (first_below, all) below = (first_below, AreNamed-push names items item all below)
+pub AreItemsOf-push : (names : List (List ℕ)) (items : List Item) (item : Item) → AreItemsOf names items → item.0 < length names → AreItemsOf names (items ++ item ∷ [])
+AreItemsOf-push names [] item all below = (below, tt)
+AreItemsOf-push names (first ∷ items) item (first_below, all) below = (first_below, AreItemsOf-push names items item all below)
 
 pub HaveNames-append : (names more : List (List ℕ)) (items : List Item) (texts : List (List ℕ)) → HaveNames names items texts → HaveNames (names ++ more) items texts
 HaveNames-append names more items texts have = record {
-  named = AreNamed-append names more items have.named;
+  named = AreItemsOf-append names more items have.named;
   spelled = map_name_of-append names more items have.named ∙ have.spelled
 }
 
@@ -41,7 +41,7 @@ pub HaveNames-push : (names : List (List ℕ)) (items : List Item) (item : Item)
 HaveNames-push names items item texts text have is =
     let (below, called) = has_name names item text is in
     record {
-      named = AreNamed-push names items item have.named below;
+      named = AreItemsOf-push names items item have.named below;
       spelled = rw map-append (cc (have.spelled, called))
     }
 
@@ -83,21 +83,21 @@ AreAdded-chain old names new some all before after inside = record {
 
 -- ---- many sequences
 
-maps-append : (names more : List (List ℕ)) (sequences : List (List Item)) → AllByRecursion (AreNamed names) sequences
+maps-append : (names more : List (List ℕ)) (sequences : List (List Item)) → AllByRecursion (AreItemsOf names) sequences
     → map (λ sequence. map (name_of (names ++ more)) sequence) sequences ≡ map (λ sequence. map (name_of names) sequence) sequences
 maps-append names more [] all = refl
 maps-append names more (items ∷ sequences) (here, all) = rw (map_name_of-append names more items here, maps-append names more sequences all) refl
 
 pub HaveLines-append : (names more : List (List ℕ)) (sequences : List (List Item)) (lines : List (List (List ℕ))) → HaveLines names sequences lines → HaveLines (names ++ more) sequences lines
 HaveLines-append names more sequences lines have = record {
-  named = AllByRecursion-imply (AreNamed names) (AreNamed (names ++ more)) sequences (λ items. AreNamed-append names more items) have.named;
+  named = AllByRecursion-imply (AreItemsOf names) (AreItemsOf (names ++ more)) sequences (λ items. AreItemsOf-append names more items) have.named;
   spelled = maps-append names more sequences have.named ∙ have.spelled
 }
 
 pub HaveLines-push : (names : List (List ℕ)) (sequences : List (List Item)) (items : List Item) (lines : List (List (List ℕ))) (texts : List (List ℕ))
     → HaveLines names sequences lines → HaveNames names items texts → HaveLines names (sequences ++ items ∷ []) (lines ++ texts ∷ [])
 HaveLines-push names sequences items lines texts have one = record {
-  named = AllByRecursion-append (AreNamed names) sequences (items ∷ []) have.named (one.named, tt);
+  named = AllByRecursion-append (AreItemsOf names) sequences (items ∷ []) have.named (one.named, tt);
   spelled = rw map-append (cc (have.spelled, one.spelled))
 }
 
@@ -134,3 +134,12 @@ Contains-joined (first ∷ before) after texts name inside = Contains-append_rig
 pub flat_map-map : (f : List ℕ → List (List ℕ)) (xs : List (List ℕ)) → flat_map f xs ≡ flat_map (λ w. w) (map f xs)
 flat_map-map f [] = refl
 flat_map-map f (x ∷ xs) = ap (λ w. f x ++ w) (flat_map-map f xs)
+
+-- ---- a list that is gone through
+
+pub Contains-mapped : {X : Type 0} (f : X → List ℕ) (xs : List X) (i : ℕ) (x : X) → i < length xs → x ≡ get_or xs i x → Contains (map f xs) (f x)
+Contains-mapped f xs i x within is =
+    (i, rw length-map within, get_or-map f xs i x (f x) within ∙ ap f (sym is))
+
+pub map-taken : {X : Type 0} (f : X → List ℕ) (xs : List X) (i : ℕ) (x : X) → i < length xs → x ≡ get_or xs i x → map f (take (i + 1) xs) ≡ map f (take i xs) ++ f x ∷ []
+map-taken f xs i x within is = rw (take_more xs i x within, map-append) (ap (λ w. map f (take i xs) ++ f w ∷ []) (sym is))

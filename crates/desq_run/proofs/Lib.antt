@@ -3,3 +3,5 @@ pub mod Pieces
 pub mod FieldLemmas
 pub mod DatabaseLemmas
 pub mod PlainLemmas
+pub mod JoinLemmas
+pub mod RowOrderLemmas

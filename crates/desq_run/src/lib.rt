@@ -1,7 +1,11 @@
 //! One run of the command: words and files in, the answer or one message out.
 #![tactic(auto)]
 
+mod answer_text;
 mod database;
+mod evaluator;
+mod known;
+mod order;
 mod plain;
 mod reading;
 mod splitting;

@@ -1,8 +1,7 @@
 -- The names of a set's keys.
-use Rattle.std.proofs.Common.{◌≡◌, ℕ, ◌+◌, ◌<◌, Bool, true, false, cond, ◌||◌, List, [], ◌∷◌, ◌++◌, length, map, get_or, slice_get, position, Option, None, Some, Contains, refl, sym, ap, subst, ◌∙◌, true≢false, if◌then◌else◌, arith, not}
-use Rattle.std.specs.List.{list_any, prefix_len, position_or_len, IsDistinct, AllByRecursion, AllPairs}
+use Rattle.std.proofs.Common.{◌≡◌, ℕ, ◌+◌, Bool, true, false, cond, ◌||◌, List, [], ◌∷◌, ◌++◌, map, get_or, slice_get, position, Some, Contains, refl, sym, ap, subst, ◌∙◌, true≢false, if◌then◌else◌, arith, not}
+use Rattle.std.specs.List.{list_any, prefix_len, IsDistinct, AllByRecursion, AllPairs}
 use Rattle.std.specs.Str.{bytes_eq}
-use Rattle.std.specs.Bool.{nat_lt}
 use Rattle.std.proofs.lemmas.List.{map-append, length-map}
 use Rattle.std.proofs.lemmas.List.Quantifiers.{position-Some}
 use Rattle.std.proofs.lemmas.Option.{slice_get-get_or}

@@ -1,4 +1,4 @@
-use Rattle.std.proofs.Common.{◌≡◌, ℕ, ◌+◌, List, [], ◌∷◌, ◌++◌, length, map, arith, length-append, ap, ◌∙◌}
+use Rattle.std.proofs.Common.{◌≡◌, [], ◌∷◌, ◌++◌, length, map, arith, length-append, ap}
 use Rattle.std.proofs.lemmas.List.{length-map}
 use Rattle.item_names.proofs.NamesLemmas.{names_after, AreDistinct-map}
 use Rattle.item_names.proofs.Names.append.Goals as goal
