@@ -5,6 +5,7 @@ mod answer_text;
 mod database;
 mod evaluator;
 mod known;
+mod mining;
 mod order;
 mod plain;
 mod reading;

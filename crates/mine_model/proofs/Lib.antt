@@ -1,3 +1,4 @@
 pub mod SupportLemmas
 pub mod AnswerLemmas
 pub mod DigitLemmas
+pub mod GenerationLemmas

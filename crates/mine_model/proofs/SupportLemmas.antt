@@ -1,5 +1,6 @@
 -- Lemmas on counting sequences.
-use Rattle.std.proofs.Common.{◌≡◌, ℕ, ◌+◌, ◌⊎◌, inl, inr, List, [], ◌∷◌, refl, sym, ap, ◌∙◌}
+use Rattle.std.proofs.Common.{◌≡◌, ℕ, ◌+◌, ◌⊎◌, inl, inr, List, [], ◌∷◌, refl, sym, ap, ◌∙◌, ◌≤◌, arith}
+use Rattle.std.specs.List.{AllByRecursion}
 use Rattle.mine_model.specs.declared.item.Item.{Item}
 use Rattle.mine_model.specs.Support.{Counts, weight_of}
 
@@ -10,3 +11,10 @@ Counts-unique Has (s ∷ sequences) m n (inl p) (inl q) = p.1.1 ∙ ap (λ k. we
 Counts-unique Has (s ∷ sequences) m n (inl p) (inr q) = absurd (q.0 p.0)
 Counts-unique Has (s ∷ sequences) m n (inr p) (inl q) = absurd (p.0 q.0)
 Counts-unique Has (s ∷ sequences) m n (inr p) (inr q) = Counts-unique Has sequences m n p.1 q.1
+
+-- where something is counted, a sequence has the property, and also what all of them have
+pub Counts-some : (Has Also : List Item → Type 0) (sequences : List (List Item)) (n : ℕ) → Counts Has sequences n → 1 ≤ n → AllByRecursion Also sequences
+    → (sequence : List Item) × Has sequence × Also sequence
+Counts-some Has Also [] n none some all = absurd (omega arith)
+Counts-some Has Also (s ∷ sequences) n (inl p) some all = (s, p.0, all.0)
+Counts-some Has Also (s ∷ sequences) n (inr p) some all = Counts-some Has Also sequences n p.1 some all.1

@@ -1,3 +1,5 @@
+use super::memory::NoMemory;
+
 /// Which of the two files a message speaks of.
 #[derive(Clone, Copy, Debug, PartialEq, Eq)]
 pub enum Which {
@@ -18,4 +20,15 @@ pub enum Fault {
     Write,
     /// There was not enough memory.
     NoMemory,
+}
+
+impl From<NoMemory> for Fault {
+    ghost use Rattle.std.specs.Prelude.{◌≡◌};
+    ghost use Rattle.mine_model.specs.declared.fault.Fault.TheVariants.{NoMemory};
+
+    ghost from_gives = { λ _ e. e ≡ NoMemory };
+
+    fn from(_e: NoMemory) -> Fault {
+        Fault::NoMemory
+    }
 }
