@@ -15,7 +15,7 @@ pub use expression::{Expr, Leaf};
 pub use fault::{Fault, Which};
 pub use gate::{Gate, OpenGate};
 pub use item::{Item, Name, Pattern};
-pub use laws::at_most_one_answer;
+pub use laws::{at_most_one_answer, at_most_one_support};
 pub use memory::NoMemory;
 pub use names_fault::NamesFault;
 pub use row::Row;

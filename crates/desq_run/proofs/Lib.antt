@@ -1,0 +1,4 @@
+pub mod Told
+pub mod Pieces
+pub mod FieldLemmas
+pub mod DatabaseLemmas

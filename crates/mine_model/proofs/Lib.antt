@@ -1,0 +1,3 @@
+pub mod SupportLemmas
+pub mod AnswerLemmas
+pub mod DigitLemmas
