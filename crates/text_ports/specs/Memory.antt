@@ -3,7 +3,7 @@ use Rattle.std.specs.Prelude.{ℕ, List, [], Option, option_map, option_and_then
 use Rattle.text_ports.specs.declared.mem_files.MemFile.{MemFile}
 
 -- The bytes of the first file of this name, or None where there is none.
-abbrev pub bytes_of : List MemFile → List ℕ → Option (List ℕ)
+unfoldable pub bytes_of : List MemFile → List ℕ → Option (List ℕ)
 bytes_of files name = option_map (λ file. file.bytes.items) (find (λ file. bytes_eq file.name.items name) files)
 
 -- The bytes of the file at this place, and no byte where no file is open.

@@ -1,15 +1,12 @@
 ghost use Rattle.std.specs.Prelude.{◌≡◌, ℕ, ◌≤◌, true, List, None, IfOk, IsTrue, length};
 
-use super::faults::raised;
+use super::faults::{TRIES, raised};
 use super::files::{Failed, Files};
 use std::io::{ErrorKind, Input, Read};
 use std::{fs, rt};
 
 /// The name that stands for standard input.
 const STANDARD_INPUT: &str = "-";
-
-/// How often a call that a signal interrupts is made before it is a fault.
-pub(crate) const TRIES: usize = 64;
 
 /// What is open.
 #[derive(Drop)]

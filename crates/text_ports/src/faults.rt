@@ -3,6 +3,9 @@ ghost use Rattle.text_ports.specs.Faults.{Rose};
 
 use super::files::Failed;
 
+/// How often a call that a signal interrupts is made before it is a fault.
+pub(crate) const TRIES: usize = 64;
+
 /// A count of faults after one more.
 pub(crate) fn raised(faults: u64) -> u64
     ensures rose { Rose faults result }

@@ -1,7 +1,6 @@
 ghost use Rattle.std.specs.Prelude.{◌≡◌, ℕ, ◌≤◌, ◌<◌, None, IfOk, length};
 
-use super::disk_files::TRIES;
-use super::faults::raised;
+use super::faults::{TRIES, raised};
 use super::files::Failed;
 use super::sink::Sink;
 use std::io;
