@@ -5,3 +5,4 @@ pub mod DatabaseLemmas
 pub mod PlainLemmas
 pub mod JoinLemmas
 pub mod RowOrderLemmas
+pub mod AnswerRows

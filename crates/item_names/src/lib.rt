@@ -16,7 +16,7 @@ pub const MOST_NAMES: u32 = 1_048_576;
 /// Names, each with a number: the first name has the number 0, and each new one the next. A name keeps its number.
 ///
 /// Each name is stored once, and is found by its hash.
-#[derive(Drop)]
+#[derive(Debug, Drop)]
 pub struct Names {
     names: IndexSet<Vec<u8>>,
 }
