@@ -1,5 +1,5 @@
 -- Lemmas on what an object of the outside tells.
-use Rattle.std.proofs.Common.{◌≡◌, ℕ, ◌+◌, ◌++◌, Option, Some, None, IfSome, ◌<◌, ◌↔◌, List, [], take, drop, length, refl, sym, ap, ◌∙◌, append_assoc, length-append, arith}
+use Rattle.std.proofs.Common.{◌≡◌, ℕ, ◌+◌, ◌++◌, Result, Ok, Err, IfOk, Option, Some, None, IfSome, ◌<◌, ◌↔◌, List, [], take, drop, length, refl, sym, ap, ◌∙◌, append_assoc, length-append, arith}
 use Rattle.std.proofs.lemmas.List.{take-append-drop, append-nil}
 
 -- after one text and then another, both in a row were written
@@ -45,3 +45,8 @@ pub IsReadTo-length : (holds left : Option (List ℕ)) (read : List ℕ) (limit 
 unfolding IsReadTo
 IsReadTo-length None left read limit p over = tt
 IsReadTo-length (Some bytes) left read limit (rest, is, whole) over = rw (whole, length-append) (omega arith)
+
+-- what follows from the one fact of the value
+pub IfOk-follows : {T E : Type 0} (P Q : T → Type 0) (r : Result T E) → ((t : T) → P t → Q t) → IfOk r P → IfOk r Q
+IfOk-follows P Q (Ok t) f p = f t p
+IfOk-follows P Q (Err e) f p = tt
