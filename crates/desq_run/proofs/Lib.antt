@@ -6,3 +6,4 @@ pub mod PlainLemmas
 pub mod JoinLemmas
 pub mod RowOrderLemmas
 pub mod AnswerRows
+pub mod MiningLemmas

@@ -6,3 +6,4 @@ pub mod RowOrder
 pub mod Input
 pub mod Outcome
 pub mod Attempt
+pub mod Parsed

@@ -31,6 +31,7 @@ fn items_of_line(alloc: Global, line: &[u8], names: &mut Names) -> Result<Vec<It
     ensures items { IfOk result (λ items. HaveNames names.new items.items (fields_of line.now)) }
     ensures added { OnOk result (AreAdded names.old names.new (fields_of line.now)) }
     ensures few { OnOk result (length names.new ≤ length names.old + length line.now) }
+    ensures distinct { AreDistinct names.old → OnOk result (AreDistinct names.new) }
 {
     let mut items = Vec::new(alloc);
     let mut rest = line;
@@ -51,6 +52,7 @@ pub(crate) fn sequences_of(
     requires few { length bytes.now ≤ 65536 }
     ensures sequences { IfOk result (λ v. HaveLines names.new (map (λ sequence. sequence.items) v.items) (map fields_of (pieces_by_feed bytes.now))) }
     ensures only { OnOk result (AreAdded [] names.new (flat_map fields_of (pieces_by_feed bytes.now))) }
+    ensures distinct { OnOk result (AreDistinct names.new) }
 {
     let mut sequences = Vec::new(alloc);
     let mut rest = bytes;

@@ -21,5 +21,6 @@ loop-field-preserved c =
           , rw c.in_ok-push.ensures.items (HaveNames-interned c.loop-field.names c.number_of.new.names c.loop-field.items.items c.in_ok-number_of.field-0 read text have interned number));
       added = AreAdded-interned c.args.names.now c.loop-field.names c.number_of.new.names (fields_of c.args.line.now) text c.loop-field.invariant.added interned
           (Contains-middle read later (fields_of c.args.line.now) text so_far);
-      few = let a = cut.1 in let b = cut.2 in omega (arith, longer, room, a, b)
+      few = let a = cut.1 in let b = cut.2 in omega (arith, longer, room, a, b);
+      distinct = λ before. c.number_of.ensures.distinct
     }

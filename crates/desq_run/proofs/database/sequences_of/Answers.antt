@@ -25,5 +25,6 @@ loop-line-preserved c =
           , rw (c.in_ok-push.ensures.items, map-append) (HaveLines-added c.loop-line.names c.items_of_line.new.names texts _ c.in_ok-items_of_line.field-0.items read texts have added items));
       added = AreAdded-chain [] c.loop-line.names c.items_of_line.new.names texts (flat_map fields_of (pieces_by_feed c.args.bytes.now)) c.loop-line.invariant.added added
           (λ name inside. rw all (Contains-joined read later texts name inside));
-      few = let a = cut.1 in omega (arith, few, room, a)
+      few = let a = cut.1 in omega (arith, few, room, a);
+      distinct = c.in_ok-items_of_line.ensures.distinct c.loop-line.invariant.distinct
     }
