@@ -9,6 +9,7 @@ mod mining;
 mod order;
 mod plain;
 mod reading;
+mod running;
 mod splitting;
 mod words;
 mod writing;
