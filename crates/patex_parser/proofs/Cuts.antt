@@ -1,13 +1,12 @@
 -- Tokens are pieces in one way at most.
-use Rattle.std.proofs.Common.{◌≡◌, ◌≢◌, Bool, true, false, List, [], ◌∷◌, ◌++◌, refl, sym, ap, subst, ◌∙◌, append_assoc, length, ◌<◌, ◌+◌, arith, length-append}
+use Rattle.std.proofs.Common.{◌≡◌, ◌≢◌, Bool, true, false, List, [], ◌∷◌, ◌++◌, refl, sym, ap, subst, ◌∙◌, length, ◌<◌, arith, length-append}
 use Rattle.std.specs.List.{flat_map}
 use Rattle.std.proofs.lemmas.List.{append-nil}
-use Rattle.std.proofs.lemmas.Grind.{flat_map-append}
 use Rattle.mine_model.specs.declared.expression.Leaf.{Leaf}
 use Rattle.patex_parser.specs.declared.token.NarrowToken.{NarrowToken}
 use Rattle.patex_parser.specs.declared.token.NarrowToken.TheVariants.{Item, Open, Close, Star}
 use Rattle.patex_parser.specs.declared.piece.ReadPiece.{ReadPiece}
-use Rattle.patex_parser.specs.Pieces.{capture_of, kept_star, tokens_of, BeginsWithStar, IsStarBefore, BeginsWith, BeginWith, AreThePieces, ArePieces}
+use Rattle.patex_parser.specs.Pieces.{capture_of, kept_star, tokens_of, BeginsWithStar, IsStarBefore, BeginsWith, BeginWith, AreThePieces}
 
 abbrev pub APiece : Leaf → Bool → Bool → ReadPiece
 APiece leaf captured starred = record { leaf = leaf; captured = captured; starred = starred }

@@ -1,9 +1,8 @@
-use Rattle.std.proofs.Common.{◌≡◌, ◌≢◌, ◌+◌, ◌<◌, ◌≤◌, length, map, vec_len, sym, ap, subst, ◌∙◌, arith}
+use Rattle.std.proofs.Common.{◌≡◌, ◌≢◌, ◌<◌, ◌≤◌, length, map, vec_len, sym, subst, ◌∙◌, arith}
 use Rattle.std.proofs.Common.{false-eqb}
 use Rattle.std.proofs.lemmas.Bool.{eqb-true}
 use Rattle.std.proofs.lemmas.List.{length-map}
 use Rattle.mine_model.specs.Expression.{tree_of, IsTreeBelow}
-use Rattle.patex_parser.specs.Narrow.{IsNarrow}
 use Rattle.patex_parser.specs.Parsing.{use_view}
 use Rattle.patex_parser.proofs.Spelling.{not_scanned, not_cut, wrong_count, narrow_from_pieces}
 use Rattle.patex_parser.proofs.Trees.{row_is_reading, row_is_narrow}
