@@ -1,4 +1,4 @@
-use Rattle.std.proofs.Common.{◌≡◌, ◌≢◌, ◌<◌, ◌≤◌, length, map, vec_len, sym, subst, ◌∙◌, arith}
+use Rattle.std.proofs.Common.{◌≡◌, ◌≢◌, length, map, vec_len, sym, subst, ◌∙◌, arith}
 use Rattle.std.proofs.Common.{false-eqb}
 use Rattle.std.proofs.lemmas.Bool.{eqb-true}
 use Rattle.std.proofs.lemmas.List.{length-map}
@@ -29,7 +29,7 @@ returns-then-is_empty-clause-none c =
           let empty : vec_len found ≡ 0 = eqb-true _ _ (sym c.is_empty.ensures ∙ w.if-is_empty.true) in
           omega arith)
       | then-is_empty-via-else-is_empty+then-len-gt-MOST_PIECES w ↦ wrong_count _ _ _ _ scanned pieces (λ some few.
-          let many : 64 < vec_len found = subst (λ n. 64 < n) w.len.ensures w.if-len-gt-MOST_PIECES.true in
+          let size : w.len.result ≡ vec_len found = w.len.ensures in
           omega arith)
     ]
 
@@ -63,4 +63,5 @@ returns-clause-narrow c =
     let found = c.in-Some-2.pieces in
     let count : vec_len found ≡ length found.items = found.ok.0 in
     let some : vec_len found ≢ 0 = false-eqb _ 0 (sym c.if-is_empty.false ∙ c.is_empty.ensures) in
-    narrow_from_pieces _ _ _ _ scanned pieces c.if-text-gt-MOST_BYTES.false (omega arith) (let few : vec_len found ≤ 64 = subst (λ n. n ≤ 64) c.len.ensures c.if-len-gt-MOST_PIECES.false in omega arith)
+    let size : c.len.result ≡ vec_len found = c.len.ensures in
+    narrow_from_pieces _ _ _ _ scanned pieces (omega arith) (omega arith) (omega arith)
