@@ -46,12 +46,6 @@ pub record AreThePieces (tokens : List NarrowToken) (pieces : List ReadPiece) : 
   pub whole : tokens ≡ flat_map tokens_of pieces
   pub only : (others : List ReadPiece) → tokens ≡ flat_map tokens_of others → others ≡ pieces
 
--- The tokens are these pieces and these behind them, and however they are pieces, these come first.
-pub record BeginWith (tokens : List NarrowToken) (pieces : List ReadPiece) (behind : List NarrowToken) : Type 0 where
-  pub whole : tokens ≡ flat_map tokens_of pieces ++ behind
-  pub only : (all : List ReadPiece) → tokens ≡ flat_map tokens_of all
-      → (others : List ReadPiece) × (all ≡ pieces ++ others) × (behind ≡ flat_map tokens_of others)
-
 -- the tokens are pieces
 abbrev pub ArePieces : List NarrowToken → Type 0
 ArePieces tokens = (pieces : List ReadPiece) × (tokens ≡ flat_map tokens_of pieces)

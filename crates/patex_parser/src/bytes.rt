@@ -1,4 +1,4 @@
-ghost use Rattle.std.specs.Prelude.{◌≡◌, ◌<◌, ◌≤◌, ◌-◌, true, take, drop, length};
+ghost use Rattle.std.specs.Prelude.{◌≡◌, ◌≤◌, ◌-◌, true, take, drop, length};
 ghost use Rattle.mine_model.specs.Tokens.{is_free, is_bare_byte, Each, BeginsOtherwise};
 
 // Whether the byte stands free between tokens.

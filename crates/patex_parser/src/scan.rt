@@ -1,5 +1,5 @@
-ghost use Rattle.std.specs.Prelude.{◌≡◌, ◌<◌, ◌≤◌, ◌+◌, ◌-◌, [], ◌∷◌, ◌++◌, true, false, length, IfOk, IfSome, IfNone, OnOk, map, take, drop, slice_index, vec_len};
-ghost use Rattle.mine_model.specs.Tokens.{is_sign, sign};
+ghost use Rattle.std.specs.Prelude.{◌≡◌, ◌<◌, ◌≤◌, ◌+◌, ◌-◌, [], ◌∷◌, ◌++◌, true, false, length, IfOk, IfSome, IfNone, OnOk, map, take, drop, vec_len};
+ghost use Rattle.mine_model.specs.Tokens.{sign};
 ghost use Rattle.mine_model.specs.Grammar.{nth_use};
 ghost use Rattle.mine_model.specs.declared.expression.Leaf.TheVariants.{Under};
 ghost use Rattle.patex_parser.specs.Parsing.{use_view};
