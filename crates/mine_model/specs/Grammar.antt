@@ -44,9 +44,9 @@ abbrev pub IsRepeat : List ℕ → ℕ → Option ℕ → Type 0
 IsRepeat between least most =
     (IsPadded between least × (most ≡ Some least))
     ⊎ ((left right : List ℕ) × (between ≡ left ++ 44 ∷ right)
-        × ((IsPadded left least × Each is_free true right × (most ≡ None))
-            ⊎ (Each is_free true left × (least ≡ 0) × (m : ℕ) × IsPadded right m × (most ≡ Some m))
-            ⊎ (IsPadded left least × (m : ℕ) × IsPadded right m × (most ≡ Some m))))
+    × ((IsPadded left least × Each is_free true right × (most ≡ None))
+    ⊎ (Each is_free true left × (least ≡ 0) × (m : ℕ) × IsPadded right m × (most ≡ Some m))
+    ⊎ (IsPadded left least × (m : ℕ) × IsPadded right m × (most ≡ Some m))))
 
 -- the token is a postfix sign with these bounds: * + ? or a repeat
 abbrev pub IsPostfix : Token → ℕ → Option ℕ → Type 0
@@ -73,40 +73,40 @@ nth_use k = record { 0 = k }
 -- The tokens read as the tree, as this part of the grammar, where k names stand before them.
 pub data Reads : Part → ℕ → List Token → Tree → Type 0 where
   as_concatenation : {k : ℕ} {tokens : List Token} {tree : Tree}
-    → Reads concatenation k tokens tree → Reads expression k tokens tree
+      → Reads concatenation k tokens tree → Reads expression k tokens tree
   alternation : {k : ℕ} {tokens : List Token} {tree : Tree} (before after : List Token) (left right : Tree)
-    → tokens ≡ before ++ sign 124 ∷ after → tree ≡ alt left right
-    → Reads expression k before left → Reads concatenation (k + name_count before) after right → Reads expression k tokens tree
+      → tokens ≡ before ++ sign 124 ∷ after → tree ≡ alt left right
+      → Reads expression k before left → Reads concatenation (k + name_count before) after right → Reads expression k tokens tree
   as_repetition : {k : ℕ} {tokens : List Token} {tree : Tree}
-    → Reads repetition k tokens tree → Reads concatenation k tokens tree
+      → Reads repetition k tokens tree → Reads concatenation k tokens tree
   in_a_row : {k : ℕ} {tokens : List Token} {tree : Tree} (before after : List Token) (left right : Tree)
-    → tokens ≡ before ++ after → tree ≡ cat left right
-    → Reads concatenation k before left → Reads repetition (k + name_count before) after right → Reads concatenation k tokens tree
+      → tokens ≡ before ++ after → tree ≡ cat left right
+      → Reads concatenation k before left → Reads repetition (k + name_count before) after right → Reads concatenation k tokens tree
   as_atom : {k : ℕ} {tokens : List Token} {tree : Tree}
-    → Reads atom k tokens tree → Reads repetition k tokens tree
+      → Reads atom k tokens tree → Reads repetition k tokens tree
   repeated : {k : ℕ} {tokens : List Token} {tree : Tree} (before : List Token) (postfix : Token) (inner : Tree) (least : ℕ) (most : Option ℕ)
-    → tokens ≡ before ++ postfix ∷ [] → tree ≡ rep inner least most
-    → Reads repetition k before inner → IsPostfix postfix least most → Reads repetition k tokens tree
+      → tokens ≡ before ++ postfix ∷ [] → tree ≡ rep inner least most
+      → Reads repetition k before inner → IsPostfix postfix least most → Reads repetition k tokens tree
   as_item : {k : ℕ} {tokens : List Token} {tree : Tree}
-    → Reads item k tokens tree → Reads atom k tokens tree
+      → Reads item k tokens tree → Reads atom k tokens tree
   capture : {k : ℕ} {tokens : List Token} {tree : Tree} (between : List Token) (inner : Tree)
-    → tokens ≡ sign 40 ∷ between ++ sign 41 ∷ [] → tree ≡ cap inner
-    → Reads expression k between inner → Reads atom k tokens tree
+      → tokens ≡ sign 40 ∷ between ++ sign 41 ∷ [] → tree ≡ cap inner
+      → Reads expression k between inner → Reads atom k tokens tree
   group : {k : ℕ} {tokens : List Token} {tree : Tree} (between : List Token)
-    → tokens ≡ sign 91 ∷ between ++ sign 93 ∷ []
-    → Reads expression k between tree → Reads atom k tokens tree
+      → tokens ≡ sign 91 ∷ between ++ sign 93 ∷ []
+      → Reads expression k between tree → Reads atom k tokens tree
   under : {k : ℕ} {tokens : List Token} {tree : Tree} (text : List ℕ)
-    → tokens ≡ name text ∷ [] → tree ≡ leaf (Under (nth_use k)) → Reads item k tokens tree
+      → tokens ≡ name text ∷ [] → tree ≡ leaf (Under (nth_use k)) → Reads item k tokens tree
   exact : {k : ℕ} {tokens : List Token} {tree : Tree} (text : List ℕ)
-    → tokens ≡ name text ∷ sign 61 ∷ [] → tree ≡ leaf (Exact (nth_use k)) → Reads item k tokens tree
+      → tokens ≡ name text ∷ sign 61 ∷ [] → tree ≡ leaf (Exact (nth_use k)) → Reads item k tokens tree
   climb : {k : ℕ} {tokens : List Token} {tree : Tree} (text : List ℕ)
-    → tokens ≡ name text ∷ sign 94 ∷ [] → tree ≡ leaf (Climb (nth_use k)) → Reads item k tokens tree
+      → tokens ≡ name text ∷ sign 94 ∷ [] → tree ≡ leaf (Climb (nth_use k)) → Reads item k tokens tree
   forced : {k : ℕ} {tokens : List Token} {tree : Tree} (text : List ℕ)
-    → tokens ≡ name text ∷ sign 94 ∷ sign 61 ∷ [] → tree ≡ leaf (Forced (nth_use k)) → Reads item k tokens tree
+      → tokens ≡ name text ∷ sign 94 ∷ sign 61 ∷ [] → tree ≡ leaf (Forced (nth_use k)) → Reads item k tokens tree
   any : {k : ℕ} {tokens : List Token} {tree : Tree}
-    → tokens ≡ sign 46 ∷ [] → tree ≡ leaf Any → Reads item k tokens tree
+      → tokens ≡ sign 46 ∷ [] → tree ≡ leaf Any → Reads item k tokens tree
   any_climb : {k : ℕ} {tokens : List Token} {tree : Tree}
-    → tokens ≡ sign 46 ∷ sign 94 ∷ [] → tree ≡ leaf AnyClimb → Reads item k tokens tree
+      → tokens ≡ sign 46 ∷ sign 94 ∷ [] → tree ≡ leaf AnyClimb → Reads item k tokens tree
 
 -- the tokens read as an expression
 abbrev pub ReadsAs : List Placed → Tree → Type 0

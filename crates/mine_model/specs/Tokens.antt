@@ -29,9 +29,9 @@ abbrev pub is_closing_brace : ℕ → Bool
 is_closing_brace b = b == 125
 
 pub data Token : Type 0 where
-  name : List ℕ → Token         -- a bare or a quoted name
-  sign : ℕ → Token              -- a sign of one byte
-  repeat : List ℕ → Token       -- a repeat, by what stands between its braces
+  name : List ℕ → Token  -- a bare or a quoted name
+  sign : ℕ → Token  -- a sign of one byte
+  repeat : List ℕ → Token  -- a repeat, by what stands between its braces
   open_repeat : List ℕ → Token  -- a repeat with no closing brace
 
 -- the bytes of a quoted name as they stand between its quotes: each quote twice

@@ -1,19 +1,24 @@
 -- Tokens are pieces in one way at most.
-use Rattle.std.proofs.Common.{◌≡◌, ◌≢◌, Bool, true, false, List, [], ◌∷◌, ◌++◌, refl, sym, ap, subst, ◌∙◌, append_assoc, length, ◌<◌, ◌+◌, arith, length-append}
+use Rattle.std.proofs.Common.{◌≡◌, ◌≢◌, Bool, true, false, List, [], ◌∷◌, ◌++◌, refl, sym, ap, subst, ◌∙◌, length, ◌<◌, arith, length-append}
 use Rattle.std.specs.List.{flat_map}
 use Rattle.std.proofs.lemmas.List.{append-nil}
-use Rattle.std.proofs.lemmas.Grind.{flat_map-append}
 use Rattle.mine_model.specs.declared.expression.Leaf.{Leaf}
 use Rattle.patex_parser.specs.declared.token.NarrowToken.{NarrowToken}
 use Rattle.patex_parser.specs.declared.token.NarrowToken.TheVariants.{Item, Open, Close, Star}
 use Rattle.patex_parser.specs.declared.piece.ReadPiece.{ReadPiece}
-use Rattle.patex_parser.specs.Pieces.{capture_of, kept_star, tokens_of, BeginsWithStar, IsStarBefore, BeginsWith, BeginWith, AreThePieces, ArePieces}
+use Rattle.patex_parser.specs.Pieces.{capture_of, kept_star, tokens_of, BeginsWithStar, IsStarBefore, BeginsWith, AreThePieces}
 
 abbrev pub APiece : Leaf → Bool → Bool → ReadPiece
 APiece leaf captured starred = record { leaf = leaf; captured = captured; starred = starred }
 
 abbrev all_tokens : List ReadPiece → List NarrowToken
 all_tokens pieces = flat_map tokens_of pieces
+
+-- The tokens are these pieces and these behind them, and however they are pieces, these come first.
+pub record BeginWith (tokens : List NarrowToken) (pieces : List ReadPiece) (behind : List NarrowToken) : Type 0 where
+  pub whole : tokens ≡ flat_map tokens_of pieces ++ behind
+  pub only : (all : List ReadPiece) → tokens ≡ flat_map tokens_of all
+      → (others : List ReadPiece) × (all ≡ pieces ++ others) × (behind ≡ flat_map tokens_of others)
 
 no_star_with : (leaf : Leaf) (captured starred : Bool) (more : List NarrowToken) → BeginsWithStar (tokens_of (APiece leaf captured starred) ++ more) → ⊥
 no_star_with leaf true starred more h = h

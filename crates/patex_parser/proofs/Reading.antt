@@ -1,10 +1,8 @@
 -- How far a text was read, one step on.
-use Rattle.std.proofs.Common.{◌≡◌, ℕ, ◌+◌, ◌-◌, ◌<◌, ◌≤◌, ◌≢◌, Bool, true, false, List, [], ◌∷◌, ◌++◌, map, length, take, drop, get_or, refl, sym, ap, subst, ◌∙◌, arith, append_assoc, length-append, length-drop, vec_len}
-use Rattle.std.specs.List.{flat_map, AllByRecursion}
-use Rattle.std.proofs.lemmas.List.{drop_more, drop-drop, drop_all, take-append-drop, length-take-le, append-nil, map-append, length-map}
+use Rattle.std.proofs.Common.{◌≡◌, ℕ, ◌+◌, ◌-◌, ◌<◌, ◌≤◌, ◌≢◌, true, false, List, [], ◌∷◌, ◌++◌, map, length, take, drop, get_or, refl, sym, ap, subst, ◌∙◌, arith, length-append, length-drop}
+use Rattle.std.proofs.lemmas.List.{drop_more, drop-drop, drop_all, take-append-drop, length-take-le, append-nil, map-append}
 use Rattle.std.proofs.lemmas.Grind.{flat_map-append}
-use Rattle.mine_model.specs.declared.expression.Leaf.{Leaf}
-use Rattle.mine_model.specs.declared.expression.Leaf.TheVariants.{Under, Any}
+use Rattle.mine_model.specs.declared.expression.Leaf.TheVariants.{Under}
 use Rattle.mine_model.specs.Tokens.{Token, name, sign, repeat, open_repeat, Placed, Each, BeginsOtherwise, is_free, is_bare_byte}
 use Rattle.mine_model.specs.Grammar.{Use, use_of, uses_of, nth_use, name_count}
 use Rattle.patex_parser.specs.declared.token.NarrowToken.{NarrowToken}

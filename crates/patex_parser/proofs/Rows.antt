@@ -1,11 +1,10 @@
 -- The tree of pieces in a row, one more piece on.
-use Rattle.std.proofs.Common.{◌≡◌, ℕ, ◌+◌, ◌-◌, ◌<◌, ◌≤◌, List, [], ◌∷◌, ◌++◌, length, take, drop, get_or, refl, sym, ap, subst, ◌∙◌, arith, length-drop, length-take}
-use Rattle.std.specs.List.{fold}
-use Rattle.std.proofs.lemmas.List.{take_more, take_rest, get_or-take, get_or-drop, take_all, length-take-le}
+use Rattle.std.proofs.Common.{◌≡◌, ℕ, ◌+◌, ◌-◌, ◌<◌, ◌≤◌, List, [], ◌∷◌, ◌++◌, length, take, drop, get_or, sym, ap, subst, ◌∙◌, arith, length-drop}
+use Rattle.std.proofs.lemmas.List.{take_more, get_or-take, get_or-drop, take_all, length-take-le}
 use Rattle.std.proofs.lemmas.Grind.{fold-append}
 use Rattle.mine_model.specs.Expression.{Tree, cat}
 use Rattle.patex_parser.specs.declared.piece.ReadPiece.{ReadPiece}
-use Rattle.patex_parser.specs.Pieces.{piece_tree, with_row, IsRow}
+use Rattle.patex_parser.specs.Pieces.{piece_tree, IsRow}
 
 pub row_first : (pieces : List ReadPiece) (d : ReadPiece) (tree : Tree) → 0 < length pieces → tree ≡ piece_tree (get_or pieces 0 d) → IsRow (take 1 pieces) tree
 row_first [] d tree some e = absurd (omega arith)

@@ -1,5 +1,5 @@
 -- The tokens that were kept are pieces exactly where the tokens of the text are.
-use Rattle.std.proofs.Common.{◌≡◌, ◌≢◌, ℕ, suc, ◌+◌, ◌<◌, ◌≤◌, Bool, true, false, Option, Some, None, List, [], ◌∷◌, ◌++◌, map, length, refl, sym, ap, subst, ◌∙◌, arith, append_assoc}
+use Rattle.std.proofs.Common.{◌≡◌, ℕ, suc, ◌+◌, ◌<◌, ◌≤◌, Bool, true, false, Option, Some, None, List, [], ◌∷◌, ◌++◌, length, refl, sym, ap, subst, ◌∙◌, arith}
 use Rattle.std.specs.List.{flat_map, AllByRecursion}
 use Rattle.std.proofs.lemmas.List.{append-nil}
 use Rattle.mine_model.specs.declared.expression.Leaf.{Leaf}
@@ -10,8 +10,8 @@ use Rattle.patex_parser.specs.declared.token.NarrowToken.{NarrowToken}
 use Rattle.patex_parser.specs.declared.token.NarrowToken.TheVariants.{Item, Open, Close, Star}
 use Rattle.patex_parser.specs.declared.piece.ReadPiece.{ReadPiece}
 use Rattle.patex_parser.specs.Narrow.{Piece, item_tokens, in_brackets, with_star, piece_tokens, IsNarrow}
-use Rattle.patex_parser.specs.Scanning.{AreNarrowTokens, IsNarrowToken, HasNarrowTokens, IsKept, AreKept, IsScanned}
-use Rattle.patex_parser.specs.Pieces.{capture_of, kept_item, kept_star, tokens_of, AreThePieces, ArePieces}
+use Rattle.patex_parser.specs.Scanning.{AreNarrowTokens, IsNarrowToken, HasNarrowTokens, AreKept, IsScanned}
+use Rattle.patex_parser.specs.Pieces.{kept_item, kept_star, tokens_of, AreThePieces, ArePieces}
 use Rattle.patex_parser.proofs.Reading.{name_count-cons, tokens_in}
 
 -- kept tokens are cut where the tokens are

@@ -1,9 +1,9 @@
 -- How the text goes on behind a free byte, a sign and a bare name.
-use Rattle.std.proofs.Common.{get_or, length-drop, ◌≡◌, ℕ, ◌+◌, ◌-◌, ◌<◌, ◌≤◌, ◌≢◌, ◌==◌, ◌||◌, ◌&&◌, nat_le, Bool, true, false, List, [], ◌∷◌, ◌++◌, map, length, take, drop, refl, sym, ap, subst, ◌∙◌, arith, inl, inr, ◌⊎◌, append_assoc}
+use Rattle.std.proofs.Common.{get_or, length-drop, ◌≡◌, ℕ, ◌+◌, ◌-◌, ◌<◌, ◌≤◌, ◌≢◌, Bool, true, false, List, [], ◌∷◌, ◌++◌, length, take, drop, refl, sym, ap, subst, ◌∙◌, arith, inl, inr, ◌⊎◌, append_assoc}
 use Rattle.std.specs.List.{AllByRecursion}
 use Rattle.std.proofs.lemmas.List.{take_more, get_or-drop}
 use Rattle.std.proofs.lemmas.Bool.Decides.{nat_tests}
-use Rattle.mine_model.specs.Tokens.{Token, name, sign, repeat, open_repeat, Placed, AreTokensFrom, Each, BeginsOtherwise, Spells, doubled, is_quote, is_free, is_bare_byte, is_digit, is_sign}
+use Rattle.mine_model.specs.Tokens.{Token, name, sign, repeat, open_repeat, Placed, AreTokensFrom, Each, BeginsOtherwise, Spells, doubled, is_quote, is_free, is_bare_byte, is_sign}
 use Rattle.patex_parser.specs.Scanning.{AreNarrowTokens, Advances, IsNarrowToken, is_narrow_sign}
 
 pub Each-append : (test : ℕ → Bool) (answer : Bool) (xs ys : List ℕ) → Each test answer xs → Each test answer ys → Each test answer (xs ++ ys)

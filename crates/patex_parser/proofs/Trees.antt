@@ -1,14 +1,12 @@
 -- The tree of a row is the one as which the tokens read, and of the shape of a narrow expression.
-use Rattle.std.proofs.Common.{◌≡◌, ℕ, ◌+◌, ◌<◌, ◌≤◌, ◌⊎◌, Bool, true, false, Option, Some, None, List, [], ◌∷◌, ◌++◌, map, length, refl, sym, ap, subst, ◌∙◌, inl, inr, arith, append_assoc}
+use Rattle.std.proofs.Common.{◌≡◌, ℕ, ◌+◌, ◌<◌, ◌≤◌, Bool, true, false, Option, Some, None, List, [], ◌∷◌, ◌++◌, length, refl, sym, ap, subst, ◌∙◌, inl, inr, arith, append_assoc}
 use Rattle.std.specs.List.{flat_map, AllByRecursion}
 use Rattle.std.proofs.lemmas.List.{append-nil}
-use Rattle.std.proofs.lemmas.Grind.{flat_map-append}
 use Rattle.mine_model.specs.declared.expression.Leaf.{Leaf}
-use Rattle.mine_model.specs.declared.expression.Leaf.TheVariants.{Under, Any}
-use Rattle.mine_model.specs.Expression.{Tree, leaf, cat, rep, cap, IsLeafBelow, IsTreeBelow}
+use Rattle.mine_model.specs.Expression.{Tree, leaf, cat, IsLeafBelow, IsTreeBelow}
 use Rattle.mine_model.specs.Narrow.{IsItem, IsNarrowTree, IsPieceTree}
-use Rattle.mine_model.specs.Tokens.{Token, name, sign, repeat, open_repeat, Placed}
-use Rattle.mine_model.specs.Grammar.{Use, nth_use, name_count, use_of, uses_of, Part, expression, concatenation, repetition, atom, item, Reads, ReadsAs, as_concatenation, as_repetition, in_a_row, as_atom, repeated, as_item, capture, under, any}
+use Rattle.mine_model.specs.Tokens.{Token, sign}
+use Rattle.mine_model.specs.Grammar.{Use, name_count, concatenation, repetition, item, Reads, as_concatenation, as_repetition, in_a_row, as_atom, repeated, as_item, capture, under, any}
 use Rattle.patex_parser.specs.declared.token.NarrowToken.{NarrowToken}
 use Rattle.patex_parser.specs.declared.piece.ReadPiece.{ReadPiece}
 use Rattle.patex_parser.specs.Narrow.{item_tokens, in_brackets, piece_tokens}

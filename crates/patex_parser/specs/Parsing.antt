@@ -1,7 +1,6 @@
 -- What a parser has read.
-use Rattle.std.specs.Prelude.{◌≡◌, ℕ, List, map, length, ◌<◌}
+use Rattle.std.specs.Prelude.{◌≡◌, ℕ, List, map}
 use Rattle.mine_model.specs.Expression.{Tree}
-use Rattle.mine_model.specs.Expression.{tree_of}
 use Rattle.mine_model.specs.Tokens.{Placed, AreTokens}
 use Rattle.mine_model.specs.Grammar.{Use, uses_of, ReadsAs}
 use Rattle.patex_parser.specs.declared.parsed.Parsed.{Parsed}

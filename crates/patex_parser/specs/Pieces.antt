@@ -1,5 +1,5 @@
 -- The pieces that the tokens of a narrow expression are, and their tree.
-use Rattle.std.specs.Prelude.{◌≡◌, ◌≢◌, Bool, true, false, Option, None, List, [], ◌∷◌, ◌++◌, fold}
+use Rattle.std.specs.Prelude.{◌≡◌, Bool, true, false, None, List, [], ◌∷◌, ◌++◌, fold}
 use Rattle.std.specs.List.{flat_map}
 use Rattle.mine_model.specs.declared.expression.Leaf.{Leaf}
 use Rattle.mine_model.specs.Expression.{Tree, leaf, cat, rep, cap}
@@ -45,12 +45,6 @@ pub record BeginsWith (tokens : List NarrowToken) (piece : ReadPiece) (behind : 
 pub record AreThePieces (tokens : List NarrowToken) (pieces : List ReadPiece) : Type 0 where
   pub whole : tokens ≡ flat_map tokens_of pieces
   pub only : (others : List ReadPiece) → tokens ≡ flat_map tokens_of others → others ≡ pieces
-
--- The tokens are these pieces and these behind them, and however they are pieces, these come first.
-pub record BeginWith (tokens : List NarrowToken) (pieces : List ReadPiece) (behind : List NarrowToken) : Type 0 where
-  pub whole : tokens ≡ flat_map tokens_of pieces ++ behind
-  pub only : (all : List ReadPiece) → tokens ≡ flat_map tokens_of all
-      → (others : List ReadPiece) × (all ≡ pieces ++ others) × (behind ≡ flat_map tokens_of others)
 
 -- the tokens are pieces
 abbrev pub ArePieces : List NarrowToken → Type 0

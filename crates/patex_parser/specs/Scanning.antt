@@ -1,7 +1,6 @@
 -- How far a text was read as the tokens of a narrow expression.
 use Rattle.std.specs.Prelude.{◌≡◌, ℕ, ◌+◌, ◌≤◌, ◌==◌, ◌||◌, Bool, true, false, List, [], ◌∷◌, ◌++◌, map, length, drop}
 use Rattle.std.specs.List.{AllByRecursion}
-use Rattle.mine_model.specs.declared.expression.Leaf.{Leaf}
 use Rattle.mine_model.specs.declared.expression.Leaf.TheVariants.{Under, Any}
 use Rattle.mine_model.specs.Tokens.{Token, name, sign, repeat, open_repeat, Placed, AreTokensFrom, Each, is_quote}
 use Rattle.mine_model.specs.Grammar.{Use, uses_of, nth_use, name_count}

@@ -1,4 +1,4 @@
-ghost use Rattle.std.specs.Prelude.{◌≡◌, ◌<◌, ◌≤◌, ◌-◌, true, take, drop, length};
+ghost use Rattle.std.specs.Prelude.{◌≡◌, ◌≤◌, ◌-◌, true, take, drop, length};
 ghost use Rattle.mine_model.specs.Tokens.{is_free, is_bare_byte, Each, BeginsOtherwise};
 
 // Whether the byte stands free between tokens.
@@ -29,7 +29,7 @@ pub(crate) fn is_bare_byte(b: u8) -> bool
     )
 }
 
-// Where the bytes of a bare name that go on at `start` end.
+// Where the longest run of bare bytes from `start` on ends.
 pub(crate) fn bare_end(text: &[u8], start: usize) -> usize
     requires { start ≤ length text.now }
     ensures from { start ≤ result }

@@ -108,7 +108,7 @@ fn first_piece(tokens: &[NarrowToken]) -> Option<(ReadPiece, &[NarrowToken])>
     ))
 }
 
-// Cuts tokens into pieces.
+// Cuts tokens into pieces. None where they are no pieces in a row.
 pub(crate) fn split(
     alloc: Global,
     tokens: &[NarrowToken],

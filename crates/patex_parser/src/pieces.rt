@@ -11,8 +11,10 @@ use super::scan::scan;
 use mine_model::NoMemory;
 use std::alloc::Global;
 
+// The most bytes of a narrow expression.
 const MOST_BYTES: usize = 4096;
 
+// The most pieces of one.
 const MOST_PIECES: usize = 64;
 
 /// Reads a narrow expression: 1 to 64 pieces in at most 4,096 bytes, each a bare name or a dot, maybe in round

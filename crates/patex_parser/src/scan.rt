@@ -1,5 +1,5 @@
-ghost use Rattle.std.specs.Prelude.{◌≡◌, ◌<◌, ◌≤◌, ◌+◌, ◌-◌, [], ◌∷◌, ◌++◌, true, false, length, IfOk, IfSome, IfNone, OnOk, map, take, drop, slice_index, vec_len};
-ghost use Rattle.mine_model.specs.Tokens.{is_sign, sign};
+ghost use Rattle.std.specs.Prelude.{◌≡◌, ◌<◌, ◌≤◌, ◌+◌, ◌-◌, [], ◌∷◌, ◌++◌, true, false, length, IfOk, IfSome, IfNone, OnOk, map, take, drop, vec_len};
+ghost use Rattle.mine_model.specs.Tokens.{sign};
 ghost use Rattle.mine_model.specs.Grammar.{nth_use};
 ghost use Rattle.mine_model.specs.declared.expression.Leaf.TheVariants.{Under};
 ghost use Rattle.patex_parser.specs.Parsing.{use_view};
@@ -18,7 +18,7 @@ pub(crate) struct Scanned {
     pub(crate) uses: Vec<NameUse>,
 }
 
-// The token that a sign is.
+// The token that a byte is, where it is a sign of narrow expressions.
 fn sign_token(b: u8) -> Option<NarrowToken>
     ensures some { IfSome result (λ token. (is_narrow_sign b ≡ true) × IsKept 0 (sign b) token) }
     ensures none { IfNone result (is_narrow_sign b ≡ false) }
@@ -90,7 +90,7 @@ impl Scanned {
     }
 }
 
-// Reads a text as the tokens of a narrow expression.
+// Reads a text as the tokens of a narrow expression. None where it is none.
 pub(crate) fn scan(alloc: Global, text: &[u8]) -> Result<Option<Scanned>, NoMemory>
     requires { length text.now ≤ 4096 }
     ensures scanned { IfOk result (λ found. IfSome found

@@ -1,4 +1,4 @@
-use Rattle.std.proofs.Common.{◌≡◌, ◌∷◌, List, refl, sym, ap, subst, ◌∙◌}
+use Rattle.std.proofs.Common.{◌≡◌, ◌∷◌, List, ap, ◌∙◌}
 use Rattle.mine_model.specs.declared.expression.Leaf.{Leaf}
 use Rattle.patex_parser.specs.declared.token.NarrowToken.{NarrowToken}
 use Rattle.patex_parser.specs.declared.token.NarrowToken.TheVariants.{Item, Open, Close}

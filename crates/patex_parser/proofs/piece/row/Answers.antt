@@ -1,5 +1,3 @@
-use Rattle.std.proofs.Common.{◌≡◌, sym, ap, ◌∙◌}
-use Rattle.mine_model.specs.Expression.{tree_of}
 use Rattle.patex_parser.proofs.Rows.{row_first, row_more, row_all}
 use Rattle.patex_parser.proofs.piece.row.Goals as goal
 

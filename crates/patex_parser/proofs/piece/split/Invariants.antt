@@ -1,5 +1,5 @@
 use Rattle.std.proofs.Common.{length}
-use Rattle.patex_parser.specs.Pieces.{BeginWith}
+use Rattle.patex_parser.proofs.Cuts.{BeginWith}
 use Rattle.patex_parser.proofs.piece.split.Given as goal
 
 abbrev pub invariant-loop-rest : goal.invariant-loop-rest

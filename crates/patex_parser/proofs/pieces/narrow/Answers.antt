@@ -1,4 +1,4 @@
-use Rattle.std.proofs.Common.{◌≡◌, ◌≢◌, ◌+◌, ◌<◌, ◌≤◌, length, map, vec_len, sym, ap, subst, ◌∙◌, arith}
+use Rattle.std.proofs.Common.{◌≡◌, ◌≢◌, length, map, vec_len, sym, subst, ◌∙◌, arith}
 use Rattle.std.proofs.Common.{false-eqb}
 use Rattle.std.proofs.lemmas.Bool.{eqb-true}
 use Rattle.std.proofs.lemmas.List.{length-map}
@@ -31,7 +31,7 @@ returns-then-is_empty-clause-none c =
           let empty : vec_len found ≡ 0 = eqb-true _ _ (sym c.is_empty.ensures ∙ w.if-is_empty.true) in
           omega arith)
       | then-is_empty-via-else-is_empty+then-len-gt-MOST_PIECES w ↦ wrong_count _ _ _ _ scanned pieces (λ some few.
-          let many : 64 < vec_len found = subst (λ n. 64 < n) w.len.ensures w.if-len-gt-MOST_PIECES.true in
+          let size : w.len.result ≡ vec_len found = w.len.ensures in
           omega arith)
     ]
 

@@ -1,4 +1,3 @@
-use Rattle.std.proofs.Common.{length, ◌≤◌, arith}
 use Rattle.patex_parser.proofs.Reading.{read_all}
 use Rattle.patex_parser.proofs.scan.scan.Goals as goal
 

@@ -1,12 +1,6 @@
-use Rattle.std.proofs.Common.{◌≡◌, ◌<◌, ◌≤◌, ◌+◌, ◌-◌, [], ◌∷◌, ◌++◌, true, false, List, length, map, take, drop, get_or, vec_len, refl, sym, ap, subst, ◌∙◌, arith}
+use Rattle.std.proofs.Common.{◌≡◌, ◌<◌, length, map, vec_len, sym, ◌∙◌}
 use Rattle.std.proofs.lemmas.List.{length-map}
-use Rattle.mine_model.specs.Tokens.{is_bare_byte}
-use Rattle.mine_model.specs.Grammar.{Use, nth_use}
-use Rattle.mine_model.specs.declared.expression.Leaf.TheVariants.{Under}
-use Rattle.patex_parser.specs.declared.token.NarrowToken.{NarrowToken}
-use Rattle.patex_parser.specs.declared.token.NarrowToken.TheVariants.{Item}
 use Rattle.patex_parser.specs.Parsing.{use_view}
-use Rattle.patex_parser.specs.Scanning.{IsReadTo}
 use Rattle.patex_parser.proofs.Reading.{read_free, read_name, read_sign, not_read, name_ends_behind}
 use Rattle.patex_parser.proofs.scan.Scanned.step.Goals as goal
 
