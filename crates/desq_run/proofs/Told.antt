@@ -50,3 +50,7 @@ IsReadTo-length (Some bytes) left read limit (rest, is, whole) over = rw (whole,
 pub IfOk-follows : {T E : Type 0} (P Q : T → Type 0) (r : Result T E) → ((t : T) → P t → Q t) → IfOk r P → IfOk r Q
 IfOk-follows P Q (Ok t) f p = f t p
 IfOk-follows P Q (Err e) f p = tt
+
+pub IfSome-follows : {T : Type 0} (P Q : T → Type 0) (o : Option T) → ((t : T) → P t → Q t) → IfSome o P → IfSome o Q
+IfSome-follows P Q None f p = tt
+IfSome-follows P Q (Some t) f p = f t p
