@@ -1,6 +1,7 @@
 -- Lemmas on what an object of the outside tells.
-use Rattle.std.proofs.Common.{◌≡◌, ℕ, ◌+◌, ◌++◌, Result, Ok, Err, IfOk, Option, Some, None, IfSome, ◌<◌, ◌↔◌, List, [], take, drop, length, refl, sym, ap, ◌∙◌, append_assoc, length-append, arith}
+use Rattle.std.proofs.Common.{◌≡◌, ℕ, ◌+◌, ◌++◌, Result, Ok, Err, IfOk, OnOk, OnErr, Option, Some, None, IfSome, ◌<◌, ◌↔◌, List, [], take, drop, length, refl, sym, ap, ◌∙◌, append_assoc, length-append, arith}
 use Rattle.std.proofs.lemmas.List.{take-append-drop, append-nil}
+use Rattle.desq_run.specs.Status.{IsPrefix}
 
 -- after one text and then another, both in a row were written
 pub told_then : (before between after : Option (List ℕ)) (x y z : List ℕ)
@@ -54,3 +55,14 @@ IfOk-follows P Q (Err e) f p = tt
 pub IfSome-follows : {T : Type 0} (P Q : T → Type 0) (o : Option T) → ((t : T) → P t → Q t) → IfSome o P → IfSome o Q
 IfSome-follows P Q None f p = tt
 IfSome-follows P Q (Some t) f p = f t p
+
+-- what was written of a text, whole or its first bytes
+pub written_of : {T E : Type 0} (r : Result T E) (before after : Option (List ℕ)) (text : List ℕ) (Faulty : Type 0)
+    → OnOk r (IfSome before (λ b. after ≡ Some (b ++ text)))
+    → OnErr r (IfSome before (λ b. (n : ℕ) × (n < length text) × (after ≡ Some (b ++ take n text))))
+    → OnErr r Faulty
+    → IfSome before (λ b. (gained : List ℕ) × (after ≡ Some (b ++ gained)) × IsPrefix gained text × ((Faulty → ⊥) → gained ≡ text))
+written_of r None after text Faulty whole cut failed = tt
+written_of (Ok t) (Some b) after text Faulty whole cut failed = (text, whole, ([], sym (append-nil text)), (λ clean. refl))
+written_of (Err e) (Some b) after text Faulty whole (n, less, is) failed =
+    (take n text, is, (drop n text, sym (take-append-drop n text)), (λ clean. absurd (clean failed)))

@@ -1,7 +1,6 @@
--- What a command of the code says, in the words of its meaning.
-use Rattle.std.specs.Prelude.{ℕ, List, map, string_bytes}
-use Rattle.desq_run.specs.declared.words.Command.{Command}
-use Rattle.desq_run.specs.Words.{Command as CommandSaid}
+-- What a command line of the code says, in the words of its meaning.
+use Rattle.desq_run.specs.declared.words.CommandLine.{CommandLine}
+use Rattle.desq_run.specs.Words.{Command}
 
-abbrev pub command_said : Command → CommandSaid
-command_said c = record { threshold = c.support; expression = c.expression.now; file = c.file.now }
+abbrev pub command_said : CommandLine → Command
+command_said line = record { threshold = line.support; expression = line.expression.now; file = line.file.now }

@@ -7,3 +7,4 @@ pub mod Input
 pub mod Outcome
 pub mod Attempt
 pub mod Parsed
+pub mod Status

@@ -2,9 +2,11 @@
 #![tactic(auto)]
 
 mod answer_text;
+mod attempts;
 mod database;
 mod evaluator;
 mod known;
+mod messages;
 mod mining;
 mod order;
 mod plain;
@@ -13,3 +15,5 @@ mod running;
 mod splitting;
 mod words;
 mod writing;
+
+pub use running::run;

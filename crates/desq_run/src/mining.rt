@@ -19,7 +19,7 @@ use super::evaluator::frequent_rows;
 use super::known::items_of_uses;
 use super::order;
 use super::plain::is_plain;
-use super::words::Command;
+use super::words::CommandLine;
 use item_names::Names;
 use mine_model::{Expr, Fault, Item, NoMemory};
 use patex_parser::Parsed;
@@ -55,7 +55,7 @@ fn text_of_answer(
 /// not plain, or a name of the expression stands nowhere in it.
 pub(crate) fn mine_bytes(
     alloc: Global,
-    command: &Command<'_>,
+    command: &CommandLine<'_>,
     parsed: &Parsed,
     bytes: &[u8],
 ) -> Result<Vec<u8>, Fault>

@@ -1,64 +1,41 @@
 //! The top call.
 
-ghost use Rattle.std.specs.Prelude.{◌≡◌, ℕ, ◌≤◌, List, IsTrue, map, string_bytes};
+ghost use Rattle.std.specs.Prelude.{◌≡◌, ◌≢◌, ℕ, ◌<◌, ◌++◌, ◌⊎◌, ◌↔◌, List, Some, IsTrue, IfSome, map, take, length, string_bytes};
 ghost use Rattle.text_ports.specs.Faults.{Rose};
-ghost use Rattle.desq_run.specs.Words.{Names};
-ghost use Rattle.desq_run.specs.Commands.{command_said};
-ghost use Rattle.desq_run.specs.Attempt.{MinesFile, Attempts};
+ghost use Rattle.patex_parser.specs.Narrow.{IsNarrow};
+ghost use Rattle.desq_run.specs.Words.{Command, Names, IsCommand, IsUsage};
+ghost use Rattle.desq_run.specs.Outcome.{IsNotBuilt, IsAccepted, IsAnswerText};
+ghost use Rattle.desq_run.specs.Status.{message_of, IsPrefix};
 
-use super::mining::mine_bytes;
-use super::plain::MOST_BYTES;
-use super::reading::{ReadFault, read_file};
-use super::words::{Command, read_words};
-use super::writing::write_all;
-use mine_model::{Fault, Which};
-use patex_parser::narrow;
+use super::attempts::attempt;
+use super::messages;
+use mine_model::Gate;
 use std::alloc::Global;
 use text_ports::{Files, Sink};
 
-/// The text of the answer to a command. Its expression is read before its file is opened.
-fn mine_file<F: Files>(alloc: Global, command: &Command<'_>, files: &mut F) -> Result<Vec<u8>, Fault>
-    requires may { IsTrue (F.may files.old command.now.file.now) }
-    requires support { 1 ≤ command.now.support }
-    ensures mines { MinesFile (λ text. text.items) (command_said command.now) (F.holds files.old command.now.file.now) (Rose (F.faults files.old) (F.faults files.new)) result }
-    ensures same_files { F.holds files.new ≡ F.holds files.old }
-    ensures never_falls { F.faults files.old ≤ F.faults files.new }
-{
-    let parsed = match narrow(alloc, command.expression.as_bytes())? {
-        Some(parsed) => parsed,
-        None => return Err(Fault::NotBuilt),
-    };
-    match read_file(alloc, files, command.file, MOST_BYTES) {
-        Ok(bytes) => mine_bytes(alloc, command, &parsed, bytes.as_slice()),
-        Err(ReadFault::Failed) => Err(Fault::Read {
-            file: Which::Sequences,
-        }),
-        Err(ReadFault::TooLarge) => Err(Fault::NotBuilt),
-        Err(ReadFault::NoMemory) => Err(Fault::NoMemory),
-    }
-}
-
-/// Mines as the words say, and writes the answer.
-fn attempt<F: Files, O: Sink>(
+/// Runs the command that the words say: reads the file that they name through `files`, writes the answer to `out` and a message,
+/// where there is one, to `err`, and answers the status.
+///
+/// 0 done, 2 the words are no command, 3 the form of the expression or of the file is not built yet, 5 a fault of reading, 6 a fault of
+/// writing, 7 not enough memory. A fault of `err` changes no status. `gate` is for the engines to come, and no gate is passed so far.
+pub fn run<F: Files, O: Sink, E: Sink, G: Gate>(
     alloc: Global,
     words: &[String],
     files: &mut F,
     out: &mut O,
-) -> Result<(), Fault>
+    err: &mut E,
+    _gate: &G,
+) -> u8
+    // The files that the words name may be opened. No other is.
     requires { (file : List ℕ) → Names (map string_bytes words.now) file → IsTrue (F.may files.old file) }
-    ensures attempts { Attempts (map string_bytes words.now) (F.holds files.old) (Rose (F.faults files.old) (F.faults files.new)) (Rose (O.faults out.old) (O.faults out.new))
-        (O.written out.old) (O.written out.new) result }
-    ensures same_files { F.holds files.new ≡ F.holds files.old }
-    ensures files_never_fall { F.faults files.old ≤ F.faults files.new }
-    ensures out_never_falls { O.faults out.old ≤ O.faults out.new }
+
+    // Done: nothing is refused, and out gained exactly the text of the answer.
+    ensures done { result ≡ 0 → (command : Command) × IsCommand (map string_bytes words.now) command × IfSome (F.holds files.old command.file)
+        (λ bytes. IsAccepted command bytes × (text : List ℕ) × IsAnswerText command bytes text
+            × IfSome (O.written out.old) (λ before. O.written out.new ≡ Some (before ++ text))) }
 {
-    let command = match read_words(words) {
-        Some(command) => command,
-        None => return Err(Fault::Usage),
-    };
-    let text = mine_file(alloc, &command, files)?;
-    match write_all(out, text.as_slice()) {
-        Ok(()) => Ok(()),
-        Err(_) => Err(Fault::Write),
-    }
+    let outcome = attempt(alloc, words, files, out);
+    let status = messages::status(&outcome);
+    messages::report(err, status);
+    status
 }

@@ -11,7 +11,7 @@ const MOST_SUPPORT: u64 = 4_294_967_295;
 
 /// What the words of a command say.
 #[derive(Clone, Copy, Debug)]
-pub(crate) struct Command<'a> {
+pub(crate) struct CommandLine<'a> {
     pub support: u64,
     pub expression: &'a str,
     pub file: &'a str,
@@ -62,7 +62,7 @@ fn begins_with_dash(word: &str) -> bool
 }
 
 /// The command that four words say. None where they say none.
-fn read_four<'a>(option: &str, digits: &str, expression: &'a str, file: &'a str) -> Option<Command<'a>>
+fn read_four<'a>(option: &str, digits: &str, expression: &'a str, file: &'a str) -> Option<CommandLine<'a>>
     ensures { MatchOption result
         (IsUsage (option.now ∷ digits.now ∷ expression.now ∷ file.now ∷ []))
         (λ command. IsCommand (option.now ∷ digits.now ∷ expression.now ∷ file.now ∷ []) (command_said command)) }
@@ -74,7 +74,7 @@ fn read_four<'a>(option: &str, digits: &str, expression: &'a str, file: &'a str)
         return None;
     }
     match read_support(digits.as_bytes()) {
-        Some(support) => Some(Command {
+        Some(support) => Some(CommandLine {
             support,
             expression,
             file,
@@ -84,7 +84,7 @@ fn read_four<'a>(option: &str, digits: &str, expression: &'a str, file: &'a str)
 }
 
 /// The command that the words say. None where they say none.
-pub(crate) fn read_words(words: &[String]) -> Option<Command<'_>>
+pub(crate) fn read_words(words: &[String]) -> Option<CommandLine<'_>>
     ensures { MatchOption result (IsUsage (map string_bytes words.now)) (λ command. IsCommand (map string_bytes words.now) (command_said command)) }
 {
     match words {

@@ -1,6 +1,6 @@
 use Rattle.std.proofs.Common.{◌≡◌, ℕ, List, sym, subst}
 use Rattle.desq_run.specs.Commands.{command_said}
-use Rattle.desq_run.proofs.running.mine_file.Goals as goal
+use Rattle.desq_run.proofs.attempts.mine_file.Goals as goal
 
 pub mine_bytes-requires-clause-read : goal.mine_bytes-requires-clause-read
 mine_bytes-requires-clause-read g c =

@@ -1,7 +1,7 @@
 use Rattle.std.proofs.Common.{◌≡◌, ℕ, List, sym, subst}
 use Rattle.desq_run.specs.Commands.{command_said}
 use Rattle.desq_run.proofs.Told.{IfSome-follows}
-use Rattle.desq_run.proofs.running.attempt.Goals as goal
+use Rattle.desq_run.proofs.attempts.attempt.Goals as goal
 
 pub returns-clause-attempts : goal.returns-clause-attempts
 returns-clause-attempts g c =
