@@ -7,3 +7,4 @@ pub mod JoinLemmas
 pub mod RowOrderLemmas
 pub mod AnswerRows
 pub mod MiningLemmas
+pub mod RunLemmas
