@@ -8,3 +8,8 @@ pub mod RowOrderLemmas
 pub mod AnswerRows
 pub mod MiningLemmas
 pub mod RunLemmas
+pub mod CountLemmas
+pub mod LiveLemmas
+pub mod OutputLemmas
+pub mod PlaceLemmas
+pub mod StepLemmas

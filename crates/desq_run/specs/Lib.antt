@@ -8,3 +8,9 @@ pub mod Outcome
 pub mod Attempt
 pub mod Parsed
 pub mod Status
+pub mod CountedIds
+pub mod LivePlaces
+pub mod OutputIds
+pub mod OutputTrie
+pub mod PlaceSets
+pub mod StepMeaning

@@ -1,0 +1,17 @@
+use Rattle.std.proofs.Common.{◌≡◌, eqb, ap, subst, IsPermutation}
+use Rattle.std.specs.List.{dedup}
+use Rattle.std.proofs.lemmas.List.Filters.{dedup_is}
+use Rattle.std.proofs.lemmas.Map.Keys.{IsStrictlyIncreasing-dedup}
+use Rattle.desq_run.proofs.PlaceLemmas.{same_members}
+use Rattle.desq_run.proofs.evaluator.places.each_once.Goals as goal
+
+pub returns-clause-rising : goal.returns-clause-rising
+returns-clause-rising c =
+    let kept : c.dedup.new.self.items ≡ dedup eqb c.sort_unstable.new.self.items = dedup_is eqb _ _ c.dedup.ensures.filtered in
+    rw kept (IsStrictlyIncreasing-dedup c.sort_unstable.new.self.items c.sort_unstable.ensures.sorted)
+
+pub returns-clause-same : goal.returns-clause-same
+returns-clause-same c =
+    let kept : c.dedup.new.self.items ≡ dedup eqb c.sort_unstable.new.self.items = dedup_is eqb _ _ c.dedup.ensures.filtered in
+    let same : IsPermutation c.args.ids.now c.sort_unstable.new.self.items = rw c.in_ok-sorted.ensures.items at c.sort_unstable.ensures.permutation in
+    same_members c.args.ids.now c.sort_unstable.new.self.items c.dedup.new.self.items same kept
