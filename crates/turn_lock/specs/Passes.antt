@@ -1,7 +1,8 @@
 -- What a clause says of a lock and of its passes.
-use Rattle.std.specs.Prelude.{◌≡◌, ℕ, List, length, Some, All}
+use Rattle.std.specs.Prelude.{◌≡◌, ℕ, [], List, map, length, slice_get, Some, All}
 use Rattle.turn_lock.specs.declared.lock.Pass.{Pass}
 use Rattle.turn_lock.specs.declared.lock.TurnLock.{TurnLock}
+use Rattle.turn_lock.specs.Turns.{Part}
 use Rattle.turn_lock.specs.Rests.{entries_made}
 
 module _ {T : Type 0} where
@@ -11,6 +12,14 @@ module _ {T : Type 0} where
   -- the entries of the changes that the pass made, in their order
   abbrev pub made : Pass T → List (List ℕ)
   made pass = entries_made pass.seat.me.0.parts
+
+  -- they have made nothing, and each is numbered by its place
+  abbrev pub AreFresh : List (Pass T) → Type 0
+  AreFresh passes = (k : ℕ) (p : Pass T) → slice_get passes k ≡ Some p → (number p ≡ k) × (made p ≡ [])
+
+  -- each pass with its number, and what it made
+  abbrev pub parts_of : List (Pass T) → List Part
+  parts_of passes = map (λ p. (number p, made p)) passes
 
 module _ {T G : Type 0} where
   -- the value with which the lock was made

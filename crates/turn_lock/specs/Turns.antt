@@ -1,6 +1,6 @@
 -- The rule of a lock: what is true of its words, its slot and its hands between any two steps.
 -- Word 0 is the ticket word and word 1 the serving word. The lock has one slot, in which the value lies.
-use Rattle.std.specs.Prelude.{◌≡◌, ℕ, zero, suc, ◌+◌, ◌%◌, ◌^◌, ◌<◌, ◌≤◌, ◌==◌, ◌⊎◌, if◌then◌else◌, List, [], ◌∷◌, map, length, All, IfSome, Some, None}
+use Rattle.std.specs.Prelude.{◌≡◌, ℕ, zero, suc, ◌+◌, ◌%◌, ◌^◌, ◌<◌, ◌≤◌, ◌==◌, ◌⊎◌, if◌then◌else◌, List, [], ◌∷◌, map, length, IfSome, Some, None}
 use Rattle.std.specs.Prelude as std
 use mathlib.Core.Option.{Option, some, none}
 use lib.ListN.{get_elem?}
@@ -75,19 +75,20 @@ module _ {T : Type 0} where
 
 -- each part has the entries that the history has of its number
 abbrev pub AllMade : List Made → List Part → Type 0
-AllMade log parts = All (λ p. p.1 ≡ entries_of p.0 log) parts
+AllMade log [] = Unit {0}
+AllMade log (p ∷ ps) = (p.1 ≡ entries_of p.0 log) × AllMade log ps
 
--- a call in flight is that of one pass, and the value is out with the one that is served
-abbrev pub InStage : ℕ → List Made → ℕ → ℕ → Stage → Type 0
-InStage served log gone parts Idle = Unit {0}
-InStage served log gone parts (Waiting t) = parts ≡ 1
-InStage served log gone parts (Turn t seen) = (parts ≡ 1) × (t ≡ served) × (seen ≡ log)
+-- a call in flight is that of one pass, and the value is out only with the one that is served
+abbrev pub InStage : ℕ → List Made → ℕ → Stage → Type 0
+InStage served log parts Idle = Unit {0}
+InStage served log parts (Waiting t) = parts ≡ 1
+InStage served log parts (Turn t seen) = (parts ≡ 1) × (t ≡ served) × (seen ≡ log)
 
 module _ {T G : Type 0} (history : T → List Made) (ground_at : T → G) (start : T) where
-  pub record Fits (served : ℕ) (log : List Made) (gone : ℕ) (v : Hand T) : Type 0 where
+  pub record Fits (served : ℕ) (log : List Made) (v : Hand T) : Type 0 where
     pub knows : IfSome v.start (λ x. x ≡ start)
     pub made : AllMade log v.parts
-    pub stage : InStage served log gone (length v.parts) v.stage
+    pub stage : InStage served log (length v.parts) v.stage
 
   -- a value that is at home has the history of all passes, and the lock's ground
   abbrev pub AtHome : List Made → Option T → Type 0
@@ -111,4 +112,4 @@ module _ {T G : Type 0} (history : T → List Made) (ground_at : T → G) (start
     pub passes : pass_total s.views ≡ count
     pub once : (x : ℕ) → often numbers x s.views ≤ 1
     pub strangers : (x : ℕ) → often numbers x s.views ≡ 0 → entries_of x log ≡ []
-    pub hands : (id : ℕ) (v : Hand T) → get_elem? s.views id ≡ some v → Fits served log (absent home) v
+    pub hands : (id : ℕ) (v : Hand T) → get_elem? s.views id ≡ some v → Fits served log v

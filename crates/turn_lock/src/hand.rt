@@ -21,6 +21,7 @@ pub struct Hand<T> {
 }
 
 /// What a lock is told when it is made.
+#[derive(Drop)]
 pub struct Opening<T> {
     pub value: Snapshot<T>,
     pub passes: u32,

@@ -1,5 +1,5 @@
 //! The lock and its passes.
-ghost use Rattle.std.specs.Prelude.{◌≡◌, ◌≢◌, ℕ, ◌+◌, ◌%◌, ◌^◌, ◌<◌, ◌≤◌, [], ◌∷◌, ◌++◌, List, length, map, All, EachIndex, IfOk, IfErr, IfSome, OnOk, OnErr, MatchResult, Some, slice_get};
+ghost use Rattle.std.specs.Prelude.{◌≡◌, ◌≢◌, ℕ, ◌+◌, ◌%◌, ◌^◌, ◌<◌, ◌≤◌, [], ◌∷◌, ◌++◌, List, length, map, All, EachIndex, IfOk, IfErr, IfSome, Any, None, OnOk, OnErr, MatchResult, Some, slice_get};
 ghost use Rattle.turn_lock.specs.History.{entries_of};
 ghost use Rattle.turn_lock.specs.Rests.{Rests};
 
@@ -9,7 +9,9 @@ use atomic_table::{Seat, Table};
 use mine_model::NoMemory;
 use std::alloc::Global;
 use std::snapshot::Snapshot;
+use std::hint::spin_loop;
 use std::sync::Wait;
+use std::thread::yield_now;
 
 // The words of the table.
 const TICKETS: usize = 0;
@@ -18,6 +20,9 @@ const SERVING: usize = 1;
 
 // The slot in which the value lies.
 const VALUE: usize = 0;
+
+// How often a waiter looks before it begins to yield.
+const SPINS: u32 = 64;
 
 /// The right to change the value under a lock, for one thread at a time. It has a number of its own.
 #[derive(Drop)]
@@ -35,9 +40,176 @@ pub struct TurnLock<T: Kept + Drop> {
 }
 
 impl<T: Kept + Drop> TurnLock<T> {
-    ghost use Rattle.turn_lock.specs.Passes.{IsPassOf, AreAllPasses, number, made, opened_with, pass_count};
+    ghost use Rattle.turn_lock.specs.Passes.{IsPassOf, AreAllPasses, AreFresh, number, made, opened_with, pass_count, parts_of};
+    ghost use Rattle.turn_lock.specs.Turns.{hand, first_hand, blank};
+    ghost use Rattle.turn_lock.specs.Plays.{at_stage, ticket_of, TookValue, HasTurn, Extends, changes, put_back};
+    ghost use Rattle.turn_lock.specs.declared.hand.Stage.TheVariants.{Idle, Waiting, Turn};
 
-    fn enter(&self) -> Seat<T, Hand<T>> {
+    /// A lock over `value`, and its passes, of which the pass k has number k.
+    pub fn new(
+        alloc: Global,
+        value: T,
+        passes: u32,
+    ) -> Result<(TurnLock<T>, Vec<Pass<T>>), NoMemory>
+        requires no_history { T.history_of value ≡ [] }
+        requires some_pass { 1 ≤ passes }
+        ensures lock { IfOk result (λ r. (opened_with r.0 ≡ value) × (pass_count r.0 ≡ passes)) }
+        ensures all { IfOk result (λ r. AreAllPasses r.0 r.1.items) }
+        ensures fresh { IfOk result (λ r. AreFresh r.1.items) }
+    {
+        let opening = Opening {
+            value: Snapshot::of(&value),
+            passes,
+        };
+        let slots = Vec::from_array(alloc, [value])?;
+        let Ok((table, first)) = Table::new(alloc, &[0, 0], slots, &opening) else {
+            return Err(NoMemory);
+        };
+        let lock = TurnLock { table };
+        let all = lock.deal(alloc, first, passes)?;
+        Ok((lock, all))
+    }
+
+    // Makes a pass of each number.
+    fn deal(
+        &self,
+        alloc: Global,
+        mut first: Seat<T, Hand<T>>,
+        count: u32,
+    ) -> Result<Vec<Pass<T>>, NoMemory>
+        requires seat { first.table_id ≡ self.now.table.shared.table_id }
+        requires hand { first.me ≡ (first_hand (opened_with self.now) count, []) }
+        requires count { count ≡ pass_count self.now }
+        ensures all { IfOk result (λ v. AreAllPasses self.now v.items) }
+        ensures fresh { IfOk result (λ v. AreFresh v.items) }
+    {
+        let mut passes = Vec::with_capacity(alloc, count as usize)?;
+        for number in 0..count {
+            let seat = self.table.shared.split_seat::<Cut>(&mut first);
+            passes.push(Pass { number, seat })?;
+        }
+        Ok(passes)
+    }
+
+    /// Waits for its turn, and makes the change as this pass.
+    pub fn change<C: Change<T>>(
+        &self,
+        rt: &impl Wait,
+        pass: &mut Pass<T>,
+        change: &mut C,
+    ) -> Result<(), NoMemory>
+        requires pass { IsPassOf self.now pass.old }
+        requires suits { C.suits change.old (T.ground_of (opened_with self.now)) }
+        ensures pass { IsPassOf self.now pass.new × (number pass.new ≡ number pass.old) }
+        ensures made { OnOk result (made pass.new ≡ made pass.old ++ C.entry change.old ∷ []) }
+        ensures same { OnErr result (made pass.new ≡ made pass.old) }
+        ensures refused { OnErr result (C.refused change.old change.new) }
+    {
+        let ticket = self.draw(&mut pass.seat);
+        self.wait(rt, &mut pass.seat, ticket);
+        let outcome = self.apply(&mut pass.seat, pass.number, change);
+        self.pass_on(&mut pass.seat);
+        outcome
+    }
+
+    fn draw(&self, seat: &mut Seat<T, Hand<T>>) -> u64
+        requires seat { seat.old.table_id ≡ self.now.table.shared.table_id }
+        requires idle { (seat.old.me.0.stage ≡ Idle) × (length seat.old.me.0.parts ≡ 1) }
+        ensures seat { seat.new.table_id ≡ seat.old.table_id }
+        ensures drew { (t : ℕ) × (result ≡ t % 2 ^ 64) × (seat.new.me ≡ (at_stage seat.old.me.0 (Waiting t), seat.old.me.1)) }
+    {
+        self.table.shared.fetch_add::<Draw>(seat, TICKETS, 1)
+    }
+
+    // Waits until the ticket is served, and takes the value out.
+    fn wait(&self, rt: &impl Wait, seat: &mut Seat<T, Hand<T>>, ticket: u64)
+        requires seat { seat.old.table_id ≡ self.now.table.shared.table_id }
+        requires waits { (seat.old.me.0.stage ≡ Waiting (ticket_of seat.old.me.0.stage)) × (seat.old.me.1 ≡ []) }
+        requires drawn { ticket ≡ ticket_of seat.old.me.0.stage % 2 ^ 64 }
+        ensures seat { seat.new.table_id ≡ seat.old.table_id }
+        ensures took { TookValue T.history_of T.ground_of seat.old.me seat.new.me }
+    {
+        let mut spins = 0;
+        for _ in rt.forever() {
+            if self.table.shared.load::<Look>(seat, SERVING) == ticket {
+                return;
+            }
+            spins = back_off(spins);
+        }
+        unreachable!()
+    }
+
+    // Makes the change to the value that is out with the seat.
+    fn apply<C: Change<T>>(
+        &self,
+        seat: &mut Seat<T, Hand<T>>,
+        number: u32,
+        change: &mut C,
+    ) -> Result<(), NoMemory>
+        requires seat { seat.old.table_id ≡ self.now.table.shared.table_id }
+        requires out { (y : T) × (seat.old.me.1 ≡ (0, y) ∷ []) × C.suits change.old (T.ground_of y) }
+        ensures seat { (seat.new.table_id ≡ seat.old.table_id) × (seat.new.me.0 ≡ seat.old.me.0) }
+        ensures value { Extends T.history_of T.ground_of seat.old.me.1 seat.new.me.1 (changes result (number, C.entry change.old)) }
+        ensures refused { OnErr result (C.refused change.old change.new) }
+    {
+        let value = seat.slot_mut(&self.table.shared, VALUE);
+        change.apply(number, value)
+    }
+
+    // Puts the value back, and serves the next ticket.
+    fn pass_on(&self, seat: &mut Seat<T, Hand<T>>)
+        requires seat { seat.old.table_id ≡ self.now.table.shared.table_id }
+        requires turn { HasTurn T.history_of T.ground_of seat.old.me }
+        ensures seat { seat.new.table_id ≡ seat.old.table_id }
+        ensures back { seat.new.me ≡ put_back T.history_of seat.old.me }
+    {
+        self.table.shared.fetch_add::<PassOn>(seat, SERVING, 1);
+    }
+
+    /// The value, once no call can be in flight.
+    pub fn close(self, passes: Vec<Pass<T>>) -> T
+        requires { AreAllPasses self passes.items }
+        ensures made { All (λ p. entries_of (number p) (T.history_of result) ≡ made p) passes.items }
+        ensures others { All (λ c. Any (λ p. number p ≡ c.0) passes.items) (T.history_of result) }
+        ensures stays { T.ground_of result ≡ T.ground_of (opened_with self) }
+    {
+        let all = self.gather(passes);
+        let TurnLock { table } = self;
+        let mut closed = table.close_with(all);
+        let value = closed.take(VALUE);
+        closed.free();
+        value
+    }
+
+    // One seat that stands for all the passes.
+    fn gather(&self, mut passes: Vec<Pass<T>>) -> Seat<T, Hand<T>>
+        requires { All (IsPassOf self.now) passes.items }
+        ensures seat { result.table_id ≡ self.now.table.shared.table_id }
+        ensures parts { result.me ≡ (hand None (parts_of passes.items) Idle, []) }
+    {
+        let mut all = self.enter();
+        while let Some(pass) = passes.pop() {
+            let Pass { number: _, seat } = pass;
+            self.table.shared.join_seat::<Gather>(&mut all, seat);
+        }
+        all
+    }
+
+    fn enter(&self) -> Seat<T, Hand<T>>
+        ensures seat { result.table_id ≡ self.now.table.shared.table_id }
+        ensures blank { result.me ≡ (blank, []) }
+    {
         self.table.shared.load_new_seat::<Enter>(SERVING).1
+    }
+}
+
+// A waiter looks again at once a few times, and then lets other threads run in between.
+fn back_off(spins: u32) -> u32 {
+    if spins < SPINS {
+        spin_loop();
+        spins + 1
+    } else {
+        yield_now();
+        spins
     }
 }
