@@ -1,3 +1,4 @@
 pub mod Totals
 pub mod Parts
 pub mod Steps
+pub mod Ends
