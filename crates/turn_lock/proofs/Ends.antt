@@ -1,9 +1,9 @@
 -- A lock is made, its passes are dealt out and gathered again, and the lock is closed.
-use Rattle.std.proofs.Common.{◌≡◌, ◌≢◌, ℕ, zero, suc, ◌+◌, ◌-◌, ◌%◌, ◌^◌, ◌≤◌, ◌<◌, ◌⊎◌, inl, inr, ⊎_elim, List, [], ◌∷◌, ◌++◌, length, slice_set, set, sym, refl, ap, ◌∙◌, subst, arith, Some, None, length-append, append_assoc, All, get_or}
+use Rattle.std.proofs.Common.{◌≡◌, ◌≢◌, ℕ, zero, suc, ◌+◌, ◌-◌, ◌%◌, ◌^◌, ◌≤◌, ◌<◌, ◌⊎◌, inl, inr, ⊎_elim, List, [], ◌∷◌, ◌++◌, length, slice_set, set, sym, refl, ap, ◌∙◌, subst, arith, Some, None, length-append, append_assoc, All, Any, get_or, lt_of_not-le}
 use Rattle.std.proofs.Common as std
 use mathlib.Core.Option.{Option, some, none, some-injective, some-ne-none}
 use mathlib.Core.Logic.{dite}
-use native.Mathlib.Decide.{ℕ_discrete}
+use native.Mathlib.Decide.{dec_le, ℕ_discrete}
 use lib.ListN.{get_elem?}
 use Rattle.atomic_table.specs.Table.{State, opening, Final, Seen, Splits, Joins}
 use Rattle.atomic_table.proofs.Lists.{at_set, at_snoc, set_else}
@@ -12,13 +12,15 @@ use Rattle.turn_lock.specs.declared.hand.Stage.{Stage}
 use Rattle.turn_lock.specs.declared.hand.Stage.TheVariants.{Idle, Waiting, Turn}
 use Rattle.turn_lock.specs.History.{Made, entries_of}
 use Rattle.turn_lock.specs.Turns.{Part, times, total, tickets, tickets_of, numbers, numbers_of, out_with, often, in_flight, pass_total, absent, hand, blank, first_hand, fresh, AtHome, Fits, Turns, AllMade, InStage}
+use Rattle.std.proofs.lemmas.Option.{slice_get_within, get_or_from_slice_get, slice_get-get_or}
+use Rattle.std.proofs.lemmas.List.Elements.{All-push, All-nil, All-cons}
 use Rattle.std.proofs.lemmas.List.{map-append, get_or_append_left}
 use Rattle.std.proofs.Math.Seq.{get_or-append_seam}
 use Rattle.turn_lock.specs.declared.lock.Pass.{Pass}
-use Rattle.turn_lock.specs.Passes.{number, made, parts_of}
+use Rattle.turn_lock.specs.Passes.{number, made, parts_of, AreFresh}
 use Rattle.turn_lock.specs.Plays.{Seated, first_part, other_parts}
 use Rattle.turn_lock.proofs.Totals.{total_set, total_push, total_at, total_le, total_le_beside}
-use Rattle.turn_lock.proofs.Parts.{times_hit, times_miss, times_append, made_append, fresh_once, fresh_length, fresh_made, cut_times, cut_length, cut_others, cut_first}
+use Rattle.turn_lock.proofs.Parts.{entries_hit, entries_rest, not_empty, times_hit, times_miss, times_append, made_append, fresh_once, fresh_length, fresh_made, cut_times, cut_length, cut_others, cut_first}
 
 module _ {T : Type 0} where
   -- a hand without one pass, and a new hand with it
@@ -197,8 +199,8 @@ module _ {T G : Type 0} (history : T → List Made) (ground_at : T → G) (start
       }
 
   -- a lock is closed with a hand that has all passes
-  pub closes : (id : ℕ) (ps : List Part) (known : std.Option T) (ws : List ℕ) (xs : List T) → length ps ≡ count → Final (Seen R id (hand known ps Idle)) ws xs → Kept ps xs
-  closes id ps known ws xs all f = home_kept f.0 f.1.0 id ps known xs f.1.1 all f.4 f.1.0.home refl
+  pub closes : (id : ℕ) (v : Hand T) (ps : List Part) (known : std.Option T) (ws : List ℕ) (xs : List T) → v ≡ hand known ps Idle → length ps ≡ count → Final (Seen R id v) ws xs → Kept ps xs
+  closes id v ps known ws xs is all f = home_kept f.0 f.1.0 id ps known xs (f.1.1 ∙ ap some is) all f.4 f.1.0.home refl
 
 module _ {T : Type 0} where
   gathered_me : (m old : Seated T) (ps : List Part) → m ≡ (hand old.0.start ps old.0.stage, old.1) → old ≡ (hand None old.0.parts Idle, []) → m ≡ (hand None ps Idle, [])
@@ -225,3 +227,61 @@ module _ {T : Type 0} where
   all_last P all xs x is each =
       let longer : length xs < length all = (let e = ap length is in let e' = length-append xs (x ∷ []) in omega arith) in
       subst P (ap (λ l. get_or l (length xs) x) is ∙ get_or-append_seam xs x [] x) (each (length xs) x longer)
+
+  pub all_more : (P : Pass T → Type 0) (all xs : List (Pass T)) (x : Pass T) → all ≡ xs ++ x ∷ [] → All P xs → P x → All P all
+  all_more P all xs x is each here = subst (All P) (sym is) (All-push P xs x each here)
+
+  pub longer_by_one : (all xs : List (Pass T)) (x : Pass T) (k : ℕ) → all ≡ xs ++ x ∷ [] → length xs ≡ k → length all ≡ k + 1
+  longer_by_one all xs x k is long = let e = ap length is in let e' = length-append xs (x ∷ []) in omega arith
+
+  -- one new pass more, numbered by its place
+  pub fresh_more : (all xs : List (Pass T)) (x : Pass T) → all ≡ xs ++ x ∷ [] → AreFresh xs → number x ≡ length xs → made x ≡ [] → AreFresh all
+  fresh_more all xs x is each numbered none_yet k p at =
+      let read : get_or (xs ++ x ∷ []) k p ≡ p = ap (λ l. get_or l k p) (sym is) ∙ get_or_from_slice_get all k p p at in
+      let within = slice_get_within all k p at in let long = ap length is in let long' = length-append xs (x ∷ []) in
+      dite (dec_le (length xs) k)
+          (λ past.
+              let last : k ≡ length xs = omega arith in
+              let same : p ≡ x = sym read ∙ (ap (λ i. get_or (xs ++ x ∷ []) i p) last ∙ get_or-append_seam xs x [] p) in
+              (ap number same ∙ (numbered ∙ sym last), ap made same ∙ none_yet))
+          (λ not_past.
+              let inside : k < length xs = lt_of_not-le not_past in
+              each k p (slice_get-get_or xs k p inside ∙ ap Some (sym (get_or_append_left xs (x ∷ []) p k inside) ∙ read)))
+
+fresh_next : (k n : ℕ) → k < n → fresh k (n - k) ≡ (k, []) ∷ fresh (k + 1) (n - (k + 1))
+fresh_next k n less = let e : n - k ≡ suc (n - (k + 1)) = omega arith in let e' : suc k ≡ k + 1 = omega arith in
+    ap (fresh k) e ∙ ap (λ (i : ℕ). (k, []) ∷ fresh i (n - (k + 1))) e'
+
+module _ {T : Type 0} (known : std.Option T) (m : Seated T) (k n : ℕ) (less : k < n) (is : m ≡ (hand known (fresh k (n - k)) Idle, [])) where
+  dealt_from : m ≡ (hand known ((k, []) ∷ fresh (k + 1) (n - (k + 1))) Idle, [])
+  dealt_from = is ∙ ap (λ l. (hand known l Idle, [])) (fresh_next k n less)
+
+  -- the seats after a deal
+  pub dealt_rest : (new : Seated T) → new ≡ (cut_left m.0, m.1) → new ≡ (hand known (fresh (k + 1) (n - (k + 1))) Idle, [])
+  dealt_rest new e = e ∙ ap (λ (o : Seated T). (cut_left o.0, o.1)) dealt_from
+
+  pub dealt_pass : (new : Seated T) → new ≡ (cut_right m.0, []) → new ≡ (hand known ((k, []) ∷ []) Idle, [])
+  dealt_pass new e = e ∙ ap (λ (o : Seated T). (cut_right o.0, [])) dealt_from
+
+module _ {T : Type 0} where
+  -- the history has the entries of each pass, where it has those of each part
+  pub each_made : (log : List Made) (passes : List (Pass T)) → AllMade log (parts_of passes) → All (λ p. entries_of (number p) log ≡ made p) passes
+  each_made log [] a = All-nil _
+  each_made log (p ∷ ps) a = All-cons _ p ps (sym a.0) (each_made log ps a.1)
+
+  some_numbered : (n : ℕ) (passes : List (Pass T)) → 0 < times n (numbers_of (parts_of passes)) → Any (λ p. number p ≡ n) passes
+  some_numbered n [] has = absurd (omega arith)
+  some_numbered n (p ∷ ps) has = dite (ℕ_discrete (number p) n)
+      (λ is. (0, p, (omega arith), refl, is))
+      (λ ne.
+          let miss = times_miss n (number p) (numbers_of (parts_of ps)) ne in let r = some_numbered n ps (omega arith) in let within = r.2 in
+          (suc r.0, r.1, (omega arith), r.3, r.4))
+
+  -- each change is of one of the passes, where no other number has an entry
+  pub each_ours : (passes : List (Pass T)) (log : List Made) → ((n : ℕ) → times n (numbers_of (parts_of passes)) ≡ 0 → entries_of n log ≡ []) → All (λ c. Any (λ p. number p ≡ c.0) passes) log
+  each_ours passes [] none_else = All-nil _
+  each_ours passes (c ∷ cs) none_else = All-cons _ c cs
+      (some_numbered c.0 passes (dite (ℕ_discrete (times c.0 (numbers_of (parts_of passes))) 0)
+          (λ is. absurd (not_empty c.1 (entries_of c.0 cs) (sym (entries_hit c cs) ∙ none_else c.0 is)))
+          (λ ne. omega arith)))
+      (each_ours passes cs (λ n away. entries_rest n c cs (none_else n away)))

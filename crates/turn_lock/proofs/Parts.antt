@@ -94,3 +94,15 @@ cut_others log (p ∷ ps) a = a.1
 pub cut_first : (log : List Made) (ps : List Part) → AllMade log ps → AllMade log (first_part ps)
 cut_first log [] a = tt
 cut_first log (p ∷ ps) a = (a.0, tt)
+
+pub not_empty : (e : List ℕ) (es : List (List ℕ)) → e ∷ es ≢ []
+not_empty e es is = cc
+
+pub entries_hit : (c : Made) (cs : List Made) → entries_of c.0 (c ∷ cs) ≡ c.1 ∷ entries_of c.0 cs
+entries_hit c cs = rw (eq-eqb c.0 c.0 refl) refl
+
+-- a history with no entry of a number has none later
+pub entries_rest : (n : ℕ) (c : Made) (cs : List Made) → entries_of n (c ∷ cs) ≡ [] → entries_of n cs ≡ []
+entries_rest n c cs none_of = dite (ℕ_discrete c.0 n)
+    (λ is. let hit : entries_of n (c ∷ cs) ≡ c.1 ∷ entries_of n cs = rw (eq-eqb c.0 n is) refl in absurd (not_empty c.1 (entries_of n cs) (sym hit ∙ none_of)))
+    (λ ne. let miss : entries_of n (c ∷ cs) ≡ entries_of n cs = rw (ne_eqb c.0 n ne) refl in sym miss ∙ none_of)
