@@ -1,5 +1,5 @@
 -- A lock is made, its passes are dealt out and gathered again, and the lock is closed.
-use Rattle.std.proofs.Common.{◌≡◌, ◌≢◌, ℕ, zero, suc, ◌+◌, ◌-◌, ◌%◌, ◌^◌, ◌≤◌, ◌<◌, ◌⊎◌, inl, inr, ⊎_elim, List, [], ◌∷◌, ◌++◌, length, slice_set, set, sym, refl, ap, ◌∙◌, subst, arith, Some, None, length-append, append_assoc, All, Any, get_or, lt_of_not-le}
+use Rattle.std.proofs.Common.{◌≡◌, ◌≢◌, ℕ, zero, suc, ◌+◌, ◌-◌, ◌%◌, ◌^◌, ◌≤◌, ◌<◌, ◌⊎◌, inl, inr, ⊎_elim, List, [], ◌∷◌, ◌++◌, length, slice_set, set, sym, refl, ap, ◌∙◌, subst, arith, Some, None, length-append, append_assoc, All, Any, sum_by, get_or, lt_of_not-le}
 use Rattle.std.proofs.Common as std
 use mathlib.Core.Option.{Option, some, none, some-injective, some-ne-none}
 use mathlib.Core.Logic.{dite}
@@ -13,14 +13,15 @@ use Rattle.turn_lock.specs.declared.hand.Stage.TheVariants.{Idle, Waiting, Turn}
 use Rattle.turn_lock.specs.History.{Made, entries_of}
 use Rattle.turn_lock.specs.Turns.{Part, times, total, tickets, tickets_of, numbers, numbers_of, out_with, often, in_flight, pass_total, absent, hand, blank, first_hand, fresh, AtHome, Fits, Turns, AllMade, InStage}
 use Rattle.std.proofs.lemmas.Option.{slice_get_within, get_or_from_slice_get, slice_get-get_or}
+use Rattle.std.proofs.lemmas.List.Sums.{sum_by-cons}
 use Rattle.std.proofs.lemmas.List.Elements.{All-push, All-nil, All-cons}
 use Rattle.std.proofs.lemmas.List.{map-append, get_or_append_left}
 use Rattle.std.proofs.Math.Seq.{get_or-append_seam}
 use Rattle.turn_lock.specs.declared.lock.Pass.{Pass}
 use Rattle.turn_lock.specs.Passes.{number, made, parts_of, AreFresh}
 use Rattle.turn_lock.specs.Plays.{Seated, first_part, other_parts}
-use Rattle.turn_lock.proofs.Totals.{total_set, total_push, total_at, total_le, total_le_beside}
-use Rattle.turn_lock.proofs.Parts.{entries_hit, entries_rest, not_empty, times_hit, times_miss, times_append, made_append, fresh_once, fresh_length, fresh_made, cut_times, cut_length, cut_others, cut_first}
+use Rattle.turn_lock.proofs.Totals.{total_set, total_push, total_at, total_le, total_le_beside, total_is}
+use Rattle.turn_lock.proofs.Parts.{entries_hit, log_weighs, parts_weigh, entries_rest, not_empty, times_hit, times_miss, times_append, made_append, fresh_once, fresh_length, fresh_made, cut_times, cut_length, cut_others, cut_first}
 
 module _ {T : Type 0} where
   -- a hand without one pass, and a new hand with it
@@ -53,7 +54,7 @@ module _ {T G : Type 0} (history : T → List Made) (ground_at : T → G) (start
   F = Fits history ground_at start
 
   -- a new lock
-  pub opens : history start ≡ [] → count < 4294967296 → R (opening (0 ∷ 0 ∷ []) (start ∷ []) (first_hand start count))
+  opens : history start ≡ [] → count < 4294967296 → R (opening (0 ∷ 0 ∷ []) (start ∷ []) (first_hand start count))
   opens none_yet few = record {
     served = 0;
     flight = 0;
@@ -76,6 +77,9 @@ module _ {T G : Type 0} (history : T → List Made) (ground_at : T → G) (start
     first_fits : (id : ℕ) (v : Hand T) → get_elem? (first_hand start count ∷ []) id ≡ some v → F 0 [] v
     first_fits zero v at = subst (F 0 []) (some-injective _ _ at) (record { knows = refl; made = fresh_made 0 count; stage = tt })
     first_fits (suc id) v at = absurd (some-ne-none v (sym at))
+
+  pub opens_with : (items : List T) → items ≡ start ∷ [] → history start ≡ [] → count < 4294967296 → R (opening (0 ∷ 0 ∷ []) items (first_hand start count))
+  opens_with items one none_yet few = subst (λ l. R (opening (0 ∷ 0 ∷ []) l (first_hand start count))) (sym one) (opens none_yet few)
 
   -- one pass gets a seat of its own
   pub cuts : (id : ℕ) (v : Hand T) → v.stage ≡ Idle → Splits R id v (cut_left v) (cut_right v)
@@ -169,38 +173,36 @@ module _ {T G : Type 0} (history : T → List Made) (ground_at : T → G) (start
       (λ ne. let here = times_miss x p.0 (numbers_of ps) ne in omega arith)
 
   -- the value of a lock, whose passes are all in one hand
-  pub record Kept (ps : List Part) (xs : List T) : Type 0 where
-    pub value : T
-    pub lies : get_elem? xs 0 ≡ some value
+  pub record Kept (ps : List Part) (value : T) : Type 0 where
     pub stays : ground_at value ≡ ground_at start
     pub made : AllMade (history value) ps
     pub once : (x : ℕ) → times x (numbers_of ps) ≤ 1
     pub strangers : (x : ℕ) → times x (numbers_of ps) ≡ 0 → entries_of x (history value) ≡ []
 
   home_kept : (s : State T (Hand T)) (r : R s) (id : ℕ) (ps : List Part) (known : std.Option T) (xs : List T) → get_elem? s.views id ≡ some (hand known ps Idle) → length ps ≡ count
-      → ((k : ℕ) (y : T) → get_elem? s.homes k ≡ some (some y) → get_elem? xs k ≡ some y) → (home : Option T) → r.home ≡ home → Kept ps xs
-  home_kept s r id ps known xs at all there none is =
+      → ((k : ℕ) (y : T) → get_elem? s.homes k ≡ some (some y) → get_elem? xs k ≡ some y) → (value : T) → get_elem? xs 0 ≡ some value → (home : Option T) → r.home ≡ home → Kept ps value
+  home_kept s r id ps known xs at all there value lies none is =
       let v : Hand T = hand known ps Idle in
       let p = total_le_beside (λ (u : Hand T). out_with u.stage) (λ (u : Hand T). length u.parts) s.views id v at (λ j u here. out_has r.served r.log (length u.parts) u.stage (r.hands j u here).stage) in
       let q = r.gone in let q' = r.passes in let gone : absent r.home ≡ 1 = ap absent is in absurd (omega arith)
-  home_kept s r id ps known xs at all there (some y) is =
+  home_kept s r id ps known xs at all there value lies (some y) is =
       let v : Hand T = hand known ps Idle in
-      let value : (history y ≡ r.log) × (ground_at y ≡ ground_at start) = subst (AtHome history ground_at start r.log) is r.value in
+      let lay : (history y ≡ r.log) × (ground_at y ≡ ground_at start) = subst (AtHome history ground_at start r.log) is r.value in
+      let same : y ≡ value = some-injective y value (sym (there 0 y (ap (λ hs. get_elem? hs 0) (r.slot ∙ ap (λ h. h ∷ []) is))) ∙ lies) in
       let fits = r.hands id v at in
       let mine = λ (x : ℕ). total_at (λ (u : Hand T). times x (numbers u)) s.views id v at in
       let no_more = λ (x : ℕ). total_le_beside (λ (u : Hand T). times x (numbers u)) (λ (u : Hand T). length u.parts) s.views id v at (λ j u here. numbered_has x u.parts) in
-      record {
-        value = y;
-        lies = there 0 y (ap (λ hs. get_elem? hs 0) (r.slot ∙ ap (λ h. h ∷ []) is));
-        stays = value.1;
-        made = subst (λ log. AllMade log ps) (sym value.0) fits.made;
+      subst (Kept ps) same (record {
+        stays = lay.1;
+        made = subst (λ log. AllMade log ps) (sym lay.0) fits.made;
         once = λ x. (let m = mine x in let o = r.once x in omega arith);
-        strangers = λ x away. ap (entries_of x) value.0 ∙ r.strangers x (let m = no_more x in let q' = r.passes in omega arith);
-      }
+        strangers = λ x away. ap (entries_of x) lay.0 ∙ r.strangers x (let m = no_more x in let q' = r.passes in omega arith);
+      })
 
   -- a lock is closed with a hand that has all passes
-  pub closes : (id : ℕ) (v : Hand T) (ps : List Part) (known : std.Option T) (ws : List ℕ) (xs : List T) → v ≡ hand known ps Idle → length ps ≡ count → Final (Seen R id v) ws xs → Kept ps xs
-  closes id v ps known ws xs is all f = home_kept f.0 f.1.0 id ps known xs (f.1.1 ∙ ap some is) all f.4 f.1.0.home refl
+  pub closes : (id : ℕ) (v : Hand T) (ps : List Part) (known : std.Option T) (ws : List ℕ) (xs : List T) → v ≡ hand known ps Idle → length ps ≡ count → Final (Seen R id v) ws xs
+      → (value : T) → get_elem? xs 0 ≡ some value → Kept ps value
+  closes id v ps known ws xs is all f value lies = home_kept f.0 f.1.0 id ps known xs (f.1.1 ∙ ap some is) all f.4 value lies f.1.0.home refl
 
 module _ {T : Type 0} where
   gathered_me : (m old : Seated T) (ps : List Part) → m ≡ (hand old.0.start ps old.0.stage, old.1) → old ≡ (hand None old.0.parts Idle, []) → m ≡ (hand None ps Idle, [])
@@ -266,8 +268,8 @@ module _ {T : Type 0} (known : std.Option T) (m : Seated T) (k n : ℕ) (less : 
 module _ {T : Type 0} where
   -- the history has the entries of each pass, where it has those of each part
   pub each_made : (log : List Made) (passes : List (Pass T)) → AllMade log (parts_of passes) → All (λ p. entries_of (number p) log ≡ made p) passes
-  each_made log [] a = All-nil _
-  each_made log (p ∷ ps) a = All-cons _ p ps (sym a.0) (each_made log ps a.1)
+  each_made log [] a = All-nil (λ p. entries_of (number p) log ≡ made p)
+  each_made log (p ∷ ps) a = All-cons (λ p. entries_of (number p) log ≡ made p) p ps (sym a.0) (each_made log ps a.1)
 
   some_numbered : (n : ℕ) (passes : List (Pass T)) → 0 < times n (numbers_of (parts_of passes)) → Any (λ p. number p ≡ n) passes
   some_numbered n [] has = absurd (omega arith)
@@ -279,9 +281,20 @@ module _ {T : Type 0} where
 
   -- each change is of one of the passes, where no other number has an entry
   pub each_ours : (passes : List (Pass T)) (log : List Made) → ((n : ℕ) → times n (numbers_of (parts_of passes)) ≡ 0 → entries_of n log ≡ []) → All (λ c. Any (λ p. number p ≡ c.0) passes) log
-  each_ours passes [] none_else = All-nil _
-  each_ours passes (c ∷ cs) none_else = All-cons _ c cs
+  each_ours passes [] none_else = All-nil (λ c. Any (λ p. number p ≡ c.0) passes)
+  each_ours passes (c ∷ cs) none_else = All-cons (λ c. Any (λ p. number p ≡ c.0) passes) c cs
       (some_numbered c.0 passes (dite (ℕ_discrete (times c.0 (numbers_of (parts_of passes))) 0)
           (λ is. absurd (not_empty c.1 (entries_of c.0 cs) (sym (entries_hit c cs) ∙ none_else c.0 is)))
           (λ ne. omega arith)))
       (each_ours passes cs (λ n away. entries_rest n c cs (none_else n away)))
+
+  passes_weigh : (f : List ℕ → ℕ) (passes : List (Pass T)) → total (λ p. total f p.1) (parts_of passes) ≡ sum_by (λ p. sum_by f (made p)) passes
+  passes_weigh f [] = refl
+  passes_weigh f (p ∷ ps) =
+      let rest = passes_weigh f ps in let here = total_is f (made p) in let split = sum_by-cons (λ (q : Pass T). sum_by f (made q)) p ps in omega arith
+
+  -- what the passes made is what the history has, however the entries are weighed
+  pub weighs_same : (f : List ℕ → ℕ) (passes : List (Pass T)) (log : List Made) → AllMade log (parts_of passes) → ((n : ℕ) → times n (numbers_of (parts_of passes)) ≤ 1)
+      → ((n : ℕ) → times n (numbers_of (parts_of passes)) ≡ 0 → entries_of n log ≡ []) → sum_by (λ c. f c.1) log ≡ sum_by (λ p. sum_by f (made p)) passes
+  weighs_same f passes log a once none_else =
+      sym (total_is (λ c. f c.1) log) ∙ (log_weighs f (numbers_of (parts_of passes)) log once none_else ∙ (parts_weigh f log (parts_of passes) a ∙ passes_weigh f passes))

@@ -1,5 +1,6 @@
 -- Sums over the hands of a lock, and how a change of one of them changes a sum.
-use Rattle.std.proofs.Common.{◌≡◌, ◌≢◌, ℕ, zero, suc, ◌+◌, ◌≤◌, List, [], ◌∷◌, ◌++◌, set, sym, refl, ap, ◌∙◌, arith}
+use Rattle.std.proofs.Common.{◌≡◌, ◌≢◌, ℕ, zero, suc, ◌+◌, ◌≤◌, List, [], ◌∷◌, ◌++◌, set, sym, refl, ap, ◌∙◌, arith, sum_by}
+use Rattle.std.proofs.lemmas.List.Sums.{sum_by-cons}
 use mathlib.Core.Option.{some, some-injective, some-ne-none}
 use lib.ListN.{get_elem?}
 use Rattle.turn_lock.specs.Turns.{total}
@@ -18,6 +19,10 @@ module _ {A : Type 0} (f : A → ℕ) where
   total_at [] i v e = absurd (some-ne-none v (sym e))
   total_at (x ∷ xs) zero v e = let is : f x ≡ f v = ap f (some-injective x v e) in omega arith
   total_at (x ∷ xs) (suc i) v e = let rest = total_at xs i v e in omega arith
+
+  pub total_is : (l : List A) → total f l ≡ sum_by f l
+  total_is [] = refl
+  total_is (x ∷ xs) = let rest = total_is xs in let split = sum_by-cons f x xs in omega arith
 
   -- two different hands
   pub total_two : (l : List A) (i j : ℕ) (v w : A) → get_elem? l i ≡ some v → get_elem? l j ≡ some w → j ≢ i → f v + f w ≤ total f l

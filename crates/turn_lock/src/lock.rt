@@ -1,5 +1,5 @@
 //! The lock and its passes.
-ghost use Rattle.std.specs.Prelude.{◌≡◌, ◌≢◌, ℕ, ◌+◌, ◌%◌, ◌^◌, ◌<◌, ◌≤◌, [], ◌∷◌, ◌++◌, List, length, map, All, EachIndex, IfOk, IfErr, IfSome, Any, None, OnOk, OnErr, MatchResult, Some, slice_get};
+ghost use Rattle.std.specs.Prelude.{◌≡◌, ◌≢◌, ℕ, ◌+◌, ◌%◌, ◌^◌, ◌<◌, ◌≤◌, [], ◌∷◌, ◌++◌, List, length, map, sum_by, All, EachIndex, IfOk, IfErr, IfSome, Any, None, OnOk, OnErr, MatchResult, Some, slice_get};
 ghost use Rattle.turn_lock.specs.History.{entries_of};
 ghost use Rattle.turn_lock.specs.Rests.{Rests};
 
@@ -61,7 +61,8 @@ impl<T: Kept + Drop> TurnLock<T> {
             value: Snapshot::of(&value),
             passes,
         };
-        let slots = Vec::from_array(alloc, [value])?;
+        let mut slots = Vec::with_capacity(alloc, 1)?;
+        slots.push(value)?;
         let Ok((table, first)) = Table::new(alloc, &[0, 0], slots, &opening) else {
             return Err(NoMemory);
         };
@@ -171,6 +172,7 @@ impl<T: Kept + Drop> TurnLock<T> {
         requires { AreAllPasses self passes.items }
         ensures made { All (λ p. entries_of (number p) (T.history_of result) ≡ made p) passes.items }
         ensures others { All (λ c. Any (λ p. number p ≡ c.0) passes.items) (T.history_of result) }
+        ensures counts { (f : List ℕ → ℕ) → sum_by (λ c. f c.1) (T.history_of result) ≡ sum_by (λ p. sum_by f (made p)) passes.items }
         ensures stays { T.ground_of result ≡ T.ground_of (opened_with self) }
     {
         let all = self.gather(passes);
