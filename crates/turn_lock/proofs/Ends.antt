@@ -74,9 +74,9 @@ module _ {T G : Type 0} (history : T → List Made) (ground_at : T → G) (start
     hands = λ id v at. first_fits id v at;
   }
     where
-    first_fits : (id : ℕ) (v : Hand T) → get_elem? (first_hand start count ∷ []) id ≡ some v → F 0 [] v
-    first_fits zero v at = subst (F 0 []) (some-injective _ _ at) (record { knows = refl; made = fresh_made 0 count; stage = tt })
-    first_fits (suc id) v at = absurd (some-ne-none v (sym at))
+      first_fits : (id : ℕ) (v : Hand T) → get_elem? (first_hand start count ∷ []) id ≡ some v → F 0 [] v
+      first_fits zero v at = subst (F 0 []) (some-injective _ _ at) (record { knows = refl; made = fresh_made 0 count; stage = tt })
+      first_fits (suc id) v at = absurd (some-ne-none v (sym at))
 
   pub opens_with : (items : List T) → items ≡ start ∷ [] → history start ≡ [] → count < 4294967296 → R (opening (0 ∷ 0 ∷ []) items (first_hand start count))
   opens_with items one none_yet few = subst (λ l. R (opening (0 ∷ 0 ∷ []) l (first_hand start count))) (sym one) (opens none_yet few)
@@ -111,9 +111,9 @@ module _ {T G : Type 0} (history : T → List Made) (ground_at : T → G) (start
         strangers = λ x away. r.strangers x (sym (numbers_same x) ∙ away);
         hands = λ j u here. ⊎_elim
             (λ there. ⊎_elim
-                (λ same. subst (F r.served r.log) same.1 (record { knows = fits.knows; made = cut_others r.log v.parts fits.made; stage = rests _ }))
-                (λ other. r.hands j u other.1)
-                (at_set s.views id j (cut_left v) u there))
+            (λ same. subst (F r.served r.log) same.1 (record { knows = fits.knows; made = cut_others r.log v.parts fits.made; stage = rests _ }))
+            (λ other. r.hands j u other.1)
+            (at_set s.views id j (cut_left v) u there))
             (λ new. subst (F r.served r.log) new (record { knows = fits.knows; made = cut_first r.log v.parts fits.made; stage = rests _ }))
             (at_snoc (set s.views id (cut_left v)) (cut_right v) u j here);
       }
@@ -150,13 +150,13 @@ module _ {T G : Type 0} (history : T → List Made) (ground_at : T → G) (start
         hands = λ j u here. ⊎_elim
             (λ same. subst (F r.served r.log) same.1 (record { knows = tt; made = tt; stage = tt }))
             (λ there. ⊎_elim
-                (λ same. subst (F r.served r.log) same.1 (record {
-                  knows = fits.knows;
-                  made = made_append r.log w.parts v.parts fits'.made fits.made;
-                  stage = subst (InStage r.served r.log (length (w.parts ++ v.parts))) (sym idle) tt;
-                }))
-                (λ beside. r.hands j u beside.1)
-                (at_set s.views id j (gathered v w) u there.1))
+            (λ same. subst (F r.served r.log) same.1 (record {
+              knows = fits.knows;
+              made = made_append r.log w.parts v.parts fits'.made fits.made;
+              stage = subst (InStage r.served r.log (length (w.parts ++ v.parts))) (sym idle) tt;
+            }))
+            (λ beside. r.hands j u beside.1)
+            (at_set s.views id j (gathered v w) u there.1))
             (at_set (set s.views id (gathered v w)) other j blank u here);
       }
 
@@ -242,13 +242,13 @@ module _ {T : Type 0} where
       let read : get_or (xs ++ x ∷ []) k p ≡ p = ap (λ l. get_or l k p) (sym is) ∙ get_or_from_slice_get all k p p at in
       let within = slice_get_within all k p at in let long = ap length is in let long' = length-append xs (x ∷ []) in
       dite (dec_le (length xs) k)
-          (λ past.
-              let last : k ≡ length xs = omega arith in
-              let same : p ≡ x = sym read ∙ (ap (λ i. get_or (xs ++ x ∷ []) i p) last ∙ get_or-append_seam xs x [] p) in
-              (ap number same ∙ (numbered ∙ sym last), ap made same ∙ none_yet))
-          (λ not_past.
-              let inside : k < length xs = lt_of_not-le not_past in
-              each k p (slice_get-get_or xs k p inside ∙ ap Some (sym (get_or_append_left xs (x ∷ []) p k inside) ∙ read)))
+      (λ past.
+      let last : k ≡ length xs = omega arith in
+      let same : p ≡ x = sym read ∙ (ap (λ i. get_or (xs ++ x ∷ []) i p) last ∙ get_or-append_seam xs x [] p) in
+      (ap number same ∙ (numbered ∙ sym last), ap made same ∙ none_yet))
+      (λ not_past.
+      let inside : k < length xs = lt_of_not-le not_past in
+      each k p (slice_get-get_or xs k p inside ∙ ap Some (sym (get_or_append_left xs (x ∷ []) p k inside) ∙ read)))
 
 fresh_next : (k n : ℕ) → k < n → fresh k (n - k) ≡ (k, []) ∷ fresh (k + 1) (n - (k + 1))
 fresh_next k n less = let e : n - k ≡ suc (n - (k + 1)) = omega arith in let e' : suc k ≡ k + 1 = omega arith in
@@ -276,16 +276,16 @@ module _ {T : Type 0} where
   some_numbered n (p ∷ ps) has = dite (ℕ_discrete (number p) n)
       (λ is. (0, p, (omega arith), refl, is))
       (λ ne.
-          let miss = times_miss n (number p) (numbers_of (parts_of ps)) ne in let r = some_numbered n ps (omega arith) in let within = r.2 in
-          (suc r.0, r.1, (omega arith), r.3, r.4))
+      let miss = times_miss n (number p) (numbers_of (parts_of ps)) ne in let r = some_numbered n ps (omega arith) in let within = r.2 in
+      (suc r.0, r.1, (omega arith), r.3, r.4))
 
   -- each change is of one of the passes, where no other number has an entry
   pub each_ours : (passes : List (Pass T)) (log : List Made) → ((n : ℕ) → times n (numbers_of (parts_of passes)) ≡ 0 → entries_of n log ≡ []) → All (λ c. Any (λ p. number p ≡ c.0) passes) log
   each_ours passes [] none_else = All-nil (λ c. Any (λ p. number p ≡ c.0) passes)
   each_ours passes (c ∷ cs) none_else = All-cons (λ c. Any (λ p. number p ≡ c.0) passes) c cs
       (some_numbered c.0 passes (dite (ℕ_discrete (times c.0 (numbers_of (parts_of passes))) 0)
-          (λ is. absurd (not_empty c.1 (entries_of c.0 cs) (sym (entries_hit c cs) ∙ none_else c.0 is)))
-          (λ ne. omega arith)))
+      (λ is. absurd (not_empty c.1 (entries_of c.0 cs) (sym (entries_hit c cs) ∙ none_else c.0 is)))
+      (λ ne. omega arith)))
       (each_ours passes cs (λ n away. entries_rest n c cs (none_else n away)))
 
   passes_weigh : (f : List ℕ → ℕ) (passes : List (Pass T)) → total (λ p. total f p.1) (parts_of passes) ≡ sum_by (λ p. sum_by f (made p)) passes

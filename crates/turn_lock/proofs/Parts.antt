@@ -121,18 +121,18 @@ weight_away f c cs [] away = refl
 weight_away f c cs (n ∷ ns) away = dite (ℕ_discrete n c.0)
     (λ is. let hit = times_hit c.0 n ns is in absurd (omega arith))
     (λ ne.
-        let miss = times_miss c.0 n ns ne in let rest = weight_away f c cs ns (omega arith) in
-        let same : total f (entries_of n (c ∷ cs)) ≡ total f (entries_of n cs) = rw (ne_eqb c.0 n (λ e. ne (sym e))) refl in omega arith)
+    let miss = times_miss c.0 n ns ne in let rest = weight_away f c cs ns (omega arith) in
+    let same : total f (entries_of n (c ∷ cs)) ≡ total f (entries_of n cs) = rw (ne_eqb c.0 n (λ e. ne (sym e))) refl in omega arith)
 
 weight_once : (f : List ℕ → ℕ) (c : Made) (cs : List Made) (ns : List ℕ) → times c.0 ns ≡ 1 → weight f (c ∷ cs) ns ≡ f c.1 + weight f cs ns
 weight_once f c cs [] once = absurd (omega arith)
 weight_once f c cs (n ∷ ns) once = dite (ℕ_discrete n c.0)
     (λ is.
-        let hit = times_hit c.0 n ns is in let rest = weight_away f c cs ns (omega arith) in
-        let more : total f (entries_of n (c ∷ cs)) ≡ f c.1 + total f (entries_of n cs) = rw (eq-eqb c.0 n (sym is)) refl in omega arith)
+    let hit = times_hit c.0 n ns is in let rest = weight_away f c cs ns (omega arith) in
+    let more : total f (entries_of n (c ∷ cs)) ≡ f c.1 + total f (entries_of n cs) = rw (eq-eqb c.0 n (sym is)) refl in omega arith)
     (λ ne.
-        let miss = times_miss c.0 n ns ne in let rest = weight_once f c cs ns (omega arith) in
-        let same : total f (entries_of n (c ∷ cs)) ≡ total f (entries_of n cs) = rw (ne_eqb c.0 n (λ e. ne (sym e))) refl in omega arith)
+    let miss = times_miss c.0 n ns ne in let rest = weight_once f c cs ns (omega arith) in
+    let same : total f (entries_of n (c ∷ cs)) ≡ total f (entries_of n cs) = rw (ne_eqb c.0 n (λ e. ne (sym e))) refl in omega arith)
 
 -- a history weighs what the entries of its numbers weigh
 pub log_weighs : (f : List ℕ → ℕ) (ns : List ℕ) (log : List Made) → ((n : ℕ) → times n ns ≤ 1) → ((n : ℕ) → times n ns ≡ 0 → entries_of n log ≡ []) → total (λ c. f c.1) log ≡ weight f log ns

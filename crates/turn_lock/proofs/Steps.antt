@@ -86,8 +86,8 @@ module _ {T G : Type 0} (history : T → List Made) (ground_at : T → G) (start
           given = λ n low high.
               let p = total_set (λ (v : Hand T). times n (tickets v)) s.views id me.0 w at in let z : times n (tickets me.0) ≡ 0 = ap (times n) no_ticket in
               dite (ℕ_discrete t n)
-                  (λ is. let hit = times_hit n t [] is in let q = r.others n (inr (omega arith)) in omega arith)
-                  (λ ne. let miss = times_miss n t [] ne in let q = r.given n low (omega arith) in omega arith);
+              (λ is. let hit = times_hit n t [] is in let q = r.others n (inr (omega arith)) in omega arith)
+              (λ ne. let miss = times_miss n t [] ne in let q = r.given n low (omega arith) in omega arith);
           others = λ n away.
               let p = total_set (λ (v : Hand T). times n (tickets v)) s.views id me.0 w at in let z : times n (tickets me.0) ≡ 0 = ap (times n) no_ticket in
               let miss = times_miss n t [] (λ is. ⊎_elim (λ (low : n < r.served). omega arith) (λ (high : r.served + (r.flight + 1) ≤ n). omega arith) away) in
@@ -144,7 +144,7 @@ module _ {T G : Type 0} (history : T → List Made) (ground_at : T → G) (start
       let high : r.served < r.served + r.flight = lt_of_not-le (λ more. within (inr more)) in
       let once = r.given r.served (omega arith) high in
       let p = total_le_beside (λ (u : Hand T). out_with u.stage) (λ (u : Hand T). times r.served (tickets u)) s.views id v at
-          (λ j u there. out_le r.served r.log (length u.parts) u.stage (r.hands j u there).stage) in
+      (λ j u there. out_le r.served r.log (length u.parts) u.stage (r.hands j u there).stage) in
       let q = r.gone in let gone : absent r.home ≡ 1 = ap absent is in omega arith
 
   same_ground : (y : T) (known : std.Option T) → IfSome known (λ x. x ≡ start) → ground_at y ≡ ground_at start → IfSome known (λ x. ground_at y ≡ ground_at x)
@@ -202,14 +202,14 @@ module _ {T G : Type 0} (history : T → List Made) (ground_at : T → G) (start
       let t : ℕ = ticket_of me.0.stage in let found : ℕ = slice_index s.words 1 in
       let is_served : found ≡ r.served % 18446744073709551616 = ap (λ ws. slice_index ws 1) r.words in
       dite (ℕ_discrete found (t % 18446744073709551616))
-          (λ hit. takes_out slots id me t s r at waits empty (ticket_served s r id t me.0 at (ap tickets_of waits) (sym is_served ∙ hit)) hit r.home refl)
-          (λ miss. (
-            me.0,
-            keeps,
-            tt,
-            subst R (λ i. record { words = sym (same_words s.words _ _ r.words) i; homes = s.homes; views = sym (set_again s.views id me.0 at) i }) r,
-            ((λ hit. absurd (miss hit)), λ _. refl),
-          ))
+      (λ hit. takes_out slots id me t s r at waits empty (ticket_served s r id t me.0 at (ap tickets_of waits) (sym is_served ∙ hit)) hit r.home refl)
+      (λ miss. (
+        me.0,
+        keeps,
+        tt,
+        subst R (λ i. record { words = sym (same_words s.words _ _ r.words) i; homes = s.homes; views = sym (set_again s.views id me.0 at) i }) r,
+        ((λ hit. absurd (miss hit)), λ _. refl),
+      ))
 
   -- another call waits on, or makes no difference
   stage_after : (served : ℕ) (log log' : List Made) (parts : ℕ) (stage : Stage) → out_with stage ≡ 0 → InStage served log parts stage → InStage (served + 1) log' parts stage
@@ -239,8 +239,8 @@ module _ {T G : Type 0} (history : T → List Made) (ground_at : T → G) (start
       let my_number : numbers me.0 ≡ k ∷ [] = ap numbers_of turn.one in
       let has_k : times k (numbers me.0) ≡ 1 = ap (times k) my_number ∙ times_hit k k [] refl in
       let added_is : gained history me.1 (log_before me.0.stage) ≡ turn.added =
-          ap (λ l. gained history l (log_before me.0.stage)) turn.out ∙ (ap (λ st. drop (length (log_before st)) (history turn.value)) turn.stage
-          ∙ (ap (λ l. drop (length turn.log) l) turn.longer ∙ drop-append_seam turn.log turn.added)) in
+      ap (λ l. gained history l (log_before me.0.stage)) turn.out ∙ (ap (λ st. drop (length (log_before st)) (history turn.value)) turn.stage
+      ∙ (ap (λ l. drop (length turn.log) l) turn.longer ∙ drop-append_seam turn.log turn.added)) in
       let same_numbers : numbers w ≡ numbers me.0 = numbers_also (gained history me.1 (log_before me.0.stage)) me.0.parts in
       let same_length : length w.parts ≡ length me.0.parts = length_also (gained history me.1 (log_before me.0.stage)) me.0.parts in
       let log' : List Made = r.log ++ turn.added in (
@@ -267,11 +267,11 @@ module _ {T G : Type 0} (history : T → List Made) (ground_at : T → G) (start
           others = λ n away.
               let p = total_set (λ (v : Hand T). times n (tickets v)) s.views id me.0 w at in
               dite (ℕ_discrete turn.served n)
-                  (λ is.
-                      let q = r.given n (omega arith) (omega arith) in
-                      let z : times n (tickets me.0) ≡ 1 = ap (times n) mine ∙ times_hit n turn.served [] is in omega arith)
-                  (λ ne.
-                      let q = r.others n (⊎_elim (λ (low : n < r.served + 1). inl (omega arith)) (λ (high : r.served + 1 + (r.flight - 1) ≤ n). inr (omega arith)) away) in omega arith);
+              (λ is.
+              let q = r.given n (omega arith) (omega arith) in
+              let z : times n (tickets me.0) ≡ 1 = ap (times n) mine ∙ times_hit n turn.served [] is in omega arith)
+              (λ ne.
+              let q = r.others n (⊎_elim (λ (low : n < r.served + 1). inl (omega arith)) (λ (high : r.served + 1 + (r.flight - 1) ≤ n). inr (omega arith)) away) in omega arith);
           passes = (let p = total_set (λ (v : Hand T). length v.parts) s.views id me.0 w at in let q = r.passes in omega arith);
           once = λ x. (let p = total_set (λ (v : Hand T). times x (numbers v)) s.views id me.0 w at in let q = r.once x in let z : times x (numbers w) ≡ times x (numbers me.0) = ap (times x) same_numbers in omega arith);
           strangers = λ x away.
@@ -286,15 +286,15 @@ module _ {T G : Type 0} (history : T → List Made) (ground_at : T → G) (start
                 stage = tt;
               }))
               (λ other.
-                  let theirs = r.hands j v other.1 in
-                  let two_out = total_two (λ (u : Hand T). out_with u.stage) s.views id j me.0 v at other.1 other.0 in
-                  let two_numbers = total_two (λ (u : Hand T). times k (numbers u)) s.views id j me.0 v at other.1 other.0 in
-                  let once = r.once k in
-                  record {
-                    knows = theirs.knows;
-                    made = made_elsewhere k r.log turn.added v.parts turn.own theirs.made (omega arith);
-                    stage = stage_after r.served r.log log' (length v.parts) v.stage (omega arith) theirs.stage;
-                  })
+              let theirs = r.hands j v other.1 in
+              let two_out = total_two (λ (u : Hand T). out_with u.stage) s.views id j me.0 v at other.1 other.0 in
+              let two_numbers = total_two (λ (u : Hand T). times k (numbers u)) s.views id j me.0 v at other.1 other.0 in
+              let once = r.once k in
+              record {
+                knows = theirs.knows;
+                made = made_elsewhere k r.log turn.added v.parts turn.own theirs.made (omega arith);
+                stage = stage_after r.served r.log log' (length v.parts) v.stage (omega arith) theirs.stage;
+              })
               (at_set s.views id j w v here);
         },
         ap (λ l. (w, rest l)) turn.out,

@@ -48,6 +48,6 @@ module _ {T G : Type 0} (history : T → List Made) (ground_at : T → G) where
   pub parts_after : (after : Seated T) (turn : HasTurn history ground_at after) → (put_back history after).0.parts ≡ (turn.part.0, turn.part.1 ++ entries_of turn.part.0 turn.added) ∷ []
   parts_after after turn =
       let added_is : gained history after.1 (log_before after.0.stage) ≡ turn.added =
-          ap (λ l. gained history l (log_before after.0.stage)) turn.out ∙ (ap (λ st. drop (length (log_before st)) (history turn.value)) turn.stage
-          ∙ (ap (λ l. drop (length turn.log) l) turn.longer ∙ drop-append_seam turn.log turn.added)) in
+      ap (λ l. gained history l (log_before after.0.stage)) turn.out ∙ (ap (λ st. drop (length (log_before st)) (history turn.value)) turn.stage
+      ∙ (ap (λ l. drop (length turn.log) l) turn.longer ∙ drop-append_seam turn.log turn.added)) in
       ap (λ cs. made_also cs after.0.parts) added_is ∙ ap (λ ps. made_also turn.added ps) turn.one

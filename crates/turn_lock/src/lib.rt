@@ -7,3 +7,6 @@ mod lock;
 
 pub use kept::{Change, Kept};
 pub use lock::{Pass, TurnLock};
+
+#[cfg(test)]
+mod tests;

@@ -8,8 +8,8 @@ use crate::kept::{Change, Kept};
 use atomic_table::{Seat, Table};
 use mine_model::NoMemory;
 use std::alloc::Global;
-use std::snapshot::Snapshot;
 use std::hint::spin_loop;
+use std::snapshot::Snapshot;
 use std::sync::Wait;
 use std::thread::yield_now;
 

@@ -6,4 +6,4 @@ pub new-requires : goal.new-requires
 new-requires g c =
     let same = c.of.ensures in
     opens_with _ _ _ _ _ (c.in_ok-push.ensures.items ∙ (ap (λ l. l ++ c.args.value ∷ []) c.in_ok-slots.ensures.items ∙ ap (λ v. v ∷ []) (sym same)))
-        (ap g.T.Kept.history_of same ∙ c.requires.no_history) (omega arith)
+    (ap g.T.Kept.history_of same ∙ c.requires.no_history) (omega arith)
