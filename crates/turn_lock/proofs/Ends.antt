@@ -204,6 +204,20 @@ module _ {T G : Type 0} (history : T → List Made) (ground_at : T → G) (start
       → (value : T) → get_elem? xs 0 ≡ some value → Kept ps value
   closes id v ps known ws xs is all f value lies = home_kept f.0 f.1.0 id ps known xs (f.1.1 ∙ ap some is) all f.4 value lies f.1.0.home refl
 
+module _ {A : Type 0} where
+  pub all_front : (P : A → Type 0) (all xs : List A) (x : A) → all ≡ xs ++ x ∷ [] → All P all → All P xs
+  all_front P all xs x is each k d within =
+      let longer : k < length all = (let e = ap length is in let e' = length-append xs (x ∷ []) in omega arith) in
+      subst P (ap (λ l. get_or l k d) is ∙ get_or_append_left xs (x ∷ []) d k within) (each k d longer)
+
+  pub all_last : (P : A → Type 0) (all xs : List A) (x : A) → all ≡ xs ++ x ∷ [] → All P all → P x
+  all_last P all xs x is each =
+      let longer : length xs < length all = (let e = ap length is in let e' = length-append xs (x ∷ []) in omega arith) in
+      subst P (ap (λ l. get_or l (length xs) x) is ∙ get_or-append_seam xs x [] x) (each (length xs) x longer)
+
+  pub all_more : (P : A → Type 0) (all xs : List A) (x : A) → all ≡ xs ++ x ∷ [] → All P xs → P x → All P all
+  all_more P all xs x is each here = subst (All P) (sym is) (All-push P xs x each here)
+
 module _ {T : Type 0} where
   gathered_me : (m old : Seated T) (ps : List Part) → m ≡ (hand old.0.start ps old.0.stage, old.1) → old ≡ (hand None old.0.parts Idle, []) → m ≡ (hand None ps Idle, [])
   gathered_me m old ps is was = is ∙ ap (λ (o : Seated T). (hand o.0.start ps o.0.stage, o.1)) was
@@ -219,19 +233,6 @@ module _ {T : Type 0} where
       ap (λ l. parts_of xs ++ l) (is ∙ ap (λ l. l ++ old) one)
       ∙ (sym (append_assoc (parts_of xs) ((number x, made x) ∷ []) old)
       ∙ (ap (λ l. l ++ old) (sym (map-append (λ (p : Pass T). (number p, made p)) xs (x ∷ []))) ∙ (ap (λ l. parts_of l ++ old) (sym popped) ∙ had)))
-
-  pub all_front : (P : Pass T → Type 0) (all xs : List (Pass T)) (x : Pass T) → all ≡ xs ++ x ∷ [] → All P all → All P xs
-  all_front P all xs x is each k d within =
-      let longer : k < length all = (let e = ap length is in let e' = length-append xs (x ∷ []) in omega arith) in
-      subst P (ap (λ l. get_or l k d) is ∙ get_or_append_left xs (x ∷ []) d k within) (each k d longer)
-
-  pub all_last : (P : Pass T → Type 0) (all xs : List (Pass T)) (x : Pass T) → all ≡ xs ++ x ∷ [] → All P all → P x
-  all_last P all xs x is each =
-      let longer : length xs < length all = (let e = ap length is in let e' = length-append xs (x ∷ []) in omega arith) in
-      subst P (ap (λ l. get_or l (length xs) x) is ∙ get_or-append_seam xs x [] x) (each (length xs) x longer)
-
-  pub all_more : (P : Pass T → Type 0) (all xs : List (Pass T)) (x : Pass T) → all ≡ xs ++ x ∷ [] → All P xs → P x → All P all
-  all_more P all xs x is each here = subst (All P) (sym is) (All-push P xs x each here)
 
   pub longer_by_one : (all xs : List (Pass T)) (x : Pass T) (k : ℕ) → all ≡ xs ++ x ∷ [] → length xs ≡ k → length all ≡ k + 1
   longer_by_one all xs x k is long = let e = ap length is in let e' = length-append xs (x ∷ []) in omega arith

@@ -131,11 +131,24 @@ fn count_in_threads<R: Threads + Wait + Sync>(
             ensures { IfOk result (λ p. IsPassOf lock.entry.now p) }
         { count_up(rt, lock, pass, count) },
     )?;
-    let mut back = Vec::new(alloc);
-    for result in results {
-        back.push(result?)?;
+    taken_back(alloc, lock, results)
+}
+
+// The passes, unless a change wanted memory.
+fn taken_back(
+    alloc: Global,
+    _lock: &TurnLock<Amounts>,
+    mut results: Vec<Result<Pass<Amounts>, NoMemory>>,
+) -> Result<Vec<Pass<Amounts>>, NoMemory>
+    requires { All (λ r. IfOk r (λ p. IsPassOf _lock.now p)) results.items }
+    ensures each { IfOk result (λ v. All (IsPassOf _lock.now) v.items) }
+    ensures all { IfOk result (λ v. vec_len v ≡ vec_len results) }
+{
+    let mut passes = Vec::new(alloc);
+    while let Some(result) = results.pop() {
+        passes.push(result?)?;
     }
-    Ok(back)
+    Ok(passes)
 }
 
 // Whether the amounts of the pass are the numbers below `count`, in order.
