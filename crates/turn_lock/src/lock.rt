@@ -21,8 +21,11 @@ const SERVING: usize = 1;
 // The slot in which the value lies.
 const VALUE: usize = 0;
 
-// How often a waiter looks before it begins to yield.
-const SPINS: u32 = 64;
+// How often a waiter looks again at once, before it lets other threads run in between.
+const SPINS: u32 = 16;
+
+// How often a call gives way to others before it draws its ticket.
+const PATIENCE: u32 = 1024;
 
 /// The right to change the value under a lock, for one thread at a time. It has a number of its own.
 #[derive(Drop)]
@@ -106,11 +109,23 @@ impl<T: Kept + Drop> TurnLock<T> {
         ensures same { OnErr result (made pass.new ≡ made pass.old) }
         ensures refused { OnErr result (C.refused change.old change.new) }
     {
+        self.give_way();
         let ticket = self.draw(&mut pass.seat);
         self.wait(rt, &mut pass.seat, ticket);
         let outcome = self.apply(&mut pass.seat, pass.number, change);
         self.pass_on(&mut pass.seat);
         outcome
+    }
+
+    // Waits a while for a moment with no call in flight. A thread that has a ticket and does not run holds up all who draw
+    // one after it, so it is best that few do. What is seen here may be out of date at once, and nothing rests on it.
+    fn give_way(&self) {
+        for round in 0..PATIENCE {
+            if self.table.shared.peek(TICKETS) == self.table.shared.peek(SERVING) {
+                return;
+            }
+            pause(round);
+        }
     }
 
     fn draw(&self, seat: &mut Seat<T, Hand<T>>) -> u64
@@ -130,12 +145,13 @@ impl<T: Kept + Drop> TurnLock<T> {
         ensures seat { seat.new.table_id ≡ seat.old.table_id }
         ensures took { TookValue T.history_of T.ground_of seat.old.me seat.new.me }
     {
-        let mut spins = 0;
+        let mut round = 0;
         for _ in rt.forever() {
             if self.table.shared.load::<Look>(seat, SERVING) == ticket {
                 return;
             }
-            spins = back_off(spins);
+            pause(round);
+            round = round.saturating_add(1);
         }
         unreachable!()
     }
@@ -205,13 +221,13 @@ impl<T: Kept + Drop> TurnLock<T> {
     }
 }
 
-// A waiter looks again at once a few times, and then lets other threads run in between.
-fn back_off(spins: u32) -> u32 {
-    if spins < SPINS {
-        spin_loop();
-        spins + 1
-    } else {
+// Spins at first, longer each time, and later lets other threads run.
+fn pause(round: u32) {
+    if round >= SPINS {
         yield_now();
-        spins
+        return;
+    }
+    for _ in 0..round {
+        spin_loop();
     }
 }
