@@ -11,7 +11,7 @@ use Rattle.turn_lock.specs.declared.hand.Hand.{Hand}
 use Rattle.turn_lock.specs.declared.hand.Stage.{Stage}
 use Rattle.turn_lock.specs.declared.hand.Stage.TheVariants.{Idle, Waiting, Turn}
 use Rattle.turn_lock.specs.History.{Made, entries_of}
-use Rattle.turn_lock.specs.Turns.{Part, times, total, tickets, tickets_of, numbers, numbers_of, out_with, often, in_flight, pass_total, absent, hand, blank, first_hand, fresh, AtHome, Fits, Turns, AllMade, InStage}
+use Rattle.turn_lock.specs.Turns.{Part, times, total, tickets, tickets_of, numbers, numbers_of, out_with, absent, hand, blank, first_hand, fresh, AtHome, Fits, Turns, AllMade, InStage}
 use Rattle.std.proofs.lemmas.Option.{slice_get_within, get_or_from_slice_get, slice_get-get_or}
 use Rattle.std.proofs.lemmas.List.Sums.{sum_by-cons}
 use Rattle.std.proofs.lemmas.List.Elements.{All-push, All-nil, All-cons}
@@ -20,7 +20,7 @@ use Rattle.std.proofs.Math.Seq.{get_or-append_seam}
 use Rattle.turn_lock.specs.declared.lock.Pass.{Pass}
 use Rattle.turn_lock.specs.Passes.{number, made, parts_of, AreFresh}
 use Rattle.turn_lock.specs.Plays.{Seated, first_part, other_parts}
-use Rattle.turn_lock.proofs.Totals.{total_set, total_push, total_at, total_le, total_le_beside, total_is}
+use Rattle.turn_lock.proofs.Totals.{total_set, total_push, total_at, total_le_beside, total_is}
 use Rattle.turn_lock.proofs.Parts.{entries_hit, log_weighs, parts_weigh, entries_rest, not_empty, times_hit, times_miss, times_append, made_append, fresh_once, fresh_length, fresh_made, cut_times, cut_length, cut_others, cut_first}
 
 module _ {T : Type 0} where

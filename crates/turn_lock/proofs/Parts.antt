@@ -1,6 +1,5 @@
 -- Entries, numbers and parts as lists.
-use Rattle.std.proofs.Common.{◌≡◌, ◌≢◌, ℕ, zero, suc, ◌+◌, ◌-◌, ◌≤◌, ◌<◌, ◌==◌, if◌then◌else◌, List, [], ◌∷◌, ◌++◌, length, map, drop, sym, refl, ap, ◌∙◌, subst, arith, eq-eqb, ne_eqb, append-nil, length-append}
-use Rattle.std.proofs.Math.Seq.{drop-append_seam}
+use Rattle.std.proofs.Common.{◌≡◌, ◌≢◌, ℕ, zero, suc, ◌+◌, ◌≤◌, ◌<◌, List, [], ◌∷◌, ◌++◌, length, sym, refl, ap, ◌∙◌, arith, eq-eqb, ne_eqb, append-nil}
 use mathlib.Core.Logic.{dite}
 use native.Mathlib.Decide.{ℕ_discrete}
 use Rattle.turn_lock.specs.History.{Made, entries_of}
@@ -21,9 +20,6 @@ entries_elsewhere n k (c ∷ cs) all ne = rw (ne_eqb c.0 n (λ e. ne (sym e ∙ 
 
 pub entries_kept : (n k : ℕ) (log cs : List Made) → AllBy k cs → n ≢ k → entries_of n (log ++ cs) ≡ entries_of n log
 entries_kept n k log cs all ne = entries_append n log cs ∙ (ap (λ l. entries_of n log ++ l) (entries_elsewhere n k cs all ne) ∙ append-nil (entries_of n log))
-
-pub entry_of_one : (n : ℕ) (e : List ℕ) → entries_of n ((n, e) ∷ []) ≡ e ∷ []
-entry_of_one n e = rw (eq-eqb n n refl) refl
 
 pub times_hit : (x y : ℕ) (ys : List ℕ) → y ≡ x → times x (y ∷ ys) ≡ 1 + times x ys
 times_hit x y ys is = rw (eq-eqb y x is) refl

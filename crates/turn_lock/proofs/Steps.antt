@@ -6,14 +6,14 @@ use mathlib.Core.Option.{Option, some, none}
 use native.Mathlib.Decide.{dec_le, ℕ_discrete}
 use Rattle.std.proofs.Math.Seq.{drop-append_seam}
 use lib.ListN.{get_elem?}
-use Rattle.atomic_table.specs.Table.{State, Me, Act, Valid, step, stepped, carried_after, keeps, takes, gives, rest, put_back as back_at, Allows, Enters, Splits, Joins}
+use Rattle.atomic_table.specs.Table.{State, Act, Valid, step, stepped, carried_after, keeps, takes, gives, rest, put_back as back_at, Allows, Enters}
 use Rattle.atomic_table.proofs.Lists.{at_set, at_snoc, set_again, one_turn}
 use Rattle.turn_lock.specs.declared.hand.Hand.{Hand}
 use Rattle.turn_lock.specs.declared.hand.Stage.{Stage}
 use Rattle.turn_lock.specs.declared.hand.Stage.TheVariants.{Idle, Waiting, Turn}
-use Rattle.turn_lock.specs.History.{Made, entries_of}
-use Rattle.turn_lock.specs.Turns.{Part, times, total, tickets, tickets_of, numbers, numbers_of, out_with, often, in_flight, pass_total, absent, hand, blank, first_hand, AtHome, Fits, Turns, AllMade, InStage}
-use Rattle.turn_lock.specs.Plays.{Seated, at_stage, ticket_of, entered, drew, looked, TookValue, HasTurn, passed_on, put_back, gained, log_before}
+use Rattle.turn_lock.specs.History.{Made}
+use Rattle.turn_lock.specs.Turns.{times, tickets, tickets_of, numbers, numbers_of, out_with, absent, blank, first_hand, AtHome, Fits, Turns, AllMade, InStage}
+use Rattle.turn_lock.specs.Plays.{Seated, at_stage, ticket_of, entered, drew, looked, HasTurn, passed_on, put_back, gained, log_before}
 use Rattle.turn_lock.proofs.Totals.{total_set, total_push, total_at, total_two, total_le, total_le_beside}
 use Rattle.turn_lock.proofs.Parts.{entries_kept, times_hit, times_miss, made_longer, made_elsewhere, numbers_also, length_also}
 

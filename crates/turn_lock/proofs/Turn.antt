@@ -1,15 +1,12 @@
 -- One call of `change`, from the ticket on.
 use Rattle.std.proofs.Common.{◌≡◌, ℕ, ◌%◌, ◌^◌, List, [], ◌∷◌, ◌++◌, length, drop, get_or, sym, refl, ap, ◌∙◌, subst, IfSome, Some, None, Result, Ok, Err}
 use Rattle.std.proofs.Common as std
-use Rattle.std.proofs.Math.Seq.{drop-append_seam}
 use Rattle.mine_model.specs.declared.memory.NoMemory.{NoMemory}
 use Rattle.turn_lock.specs.declared.hand.Hand.{Hand}
-use Rattle.turn_lock.specs.declared.hand.Stage.TheVariants.{Idle, Waiting, Turn}
-use Rattle.turn_lock.specs.History.{Made, entries_of}
-use Rattle.turn_lock.specs.Turns.{Part}
+use Rattle.turn_lock.specs.declared.hand.Stage.TheVariants.{Waiting, Turn}
+use Rattle.turn_lock.specs.History.{Made}
 use Rattle.turn_lock.specs.Rests.{Rests, entries_made}
-use Rattle.turn_lock.specs.Plays.{Seated, at_stage, ticket_of, log_before, TookValue, Extends, HasTurn, AllBy, changes, gained, made_also, put_back}
-use Rattle.turn_lock.proofs.Parts.{entry_of_one}
+use Rattle.turn_lock.specs.Plays.{Seated, at_stage, ticket_of, TookValue, Extends, HasTurn, AllBy, changes}
 
 -- what a call changes is its own
 own_changes : (r : Result (Unit {0}) NoMemory) (n : ℕ) (e : List ℕ) → AllBy n (changes r (n, e))
@@ -43,11 +40,3 @@ module _ {T G : Type 0} (history : T → List Made) (ground_at : T → G) where
         own = own_changes r n e;
         stays = extends.stays ∙ (ap ground_at same ∙ ground_known y start drawn.0.start known' took.2);
       }
-
-  -- what the pass has made when its call is over
-  pub parts_after : (after : Seated T) (turn : HasTurn history ground_at after) → (put_back history after).0.parts ≡ (turn.part.0, turn.part.1 ++ entries_of turn.part.0 turn.added) ∷ []
-  parts_after after turn =
-      let added_is : gained history after.1 (log_before after.0.stage) ≡ turn.added =
-      ap (λ l. gained history l (log_before after.0.stage)) turn.out ∙ (ap (λ st. drop (length (log_before st)) (history turn.value)) turn.stage
-      ∙ (ap (λ l. drop (length turn.log) l) turn.longer ∙ drop-append_seam turn.log turn.added)) in
-      ap (λ cs. made_also cs after.0.parts) added_is ∙ ap (λ ps. made_also turn.added ps) turn.one

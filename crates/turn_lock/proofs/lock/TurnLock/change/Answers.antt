@@ -1,4 +1,3 @@
-use Rattle.std.proofs.Common.{◌≡◌, ◌<◌, ◌∷◌, [], ◌++◌, ◌∙◌, ap, sym, arith}
 use Rattle.turn_lock.proofs.Turn.{turn_made}
 use Rattle.turn_lock.proofs.lock.TurnLock.change.Goals as goal
 

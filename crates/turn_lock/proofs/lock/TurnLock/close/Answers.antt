@@ -1,4 +1,4 @@
-use Rattle.std.proofs.Common.{◌≡◌, ◌∙◌, ap, None}
+use Rattle.std.proofs.Common.{◌∙◌, ap, None}
 use Rattle.std.proofs.lemmas.List.{length-map}
 use Rattle.turn_lock.specs.Passes.{number, made, parts_of, opened_with, pass_count}
 use Rattle.turn_lock.proofs.Ends.{Kept, closes, each_made, each_ours, weighs_same}

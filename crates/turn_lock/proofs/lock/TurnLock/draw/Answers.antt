@@ -1,4 +1,4 @@
-use Rattle.std.proofs.Common.{lit<, ◌≡◌, ◌<◌, ℕ, subst, sym, arith}
+use Rattle.std.proofs.Common.{arith}
 use Rattle.turn_lock.proofs.Steps.{draws}
 use Rattle.turn_lock.proofs.lock.TurnLock.draw.Goals as goal
 

@@ -1,4 +1,4 @@
-use Rattle.std.proofs.Common.{◌≡◌, ◌∙◌, ap, sym, arith}
+use Rattle.std.proofs.Common.{◌∙◌, ap, arith}
 use Rattle.turn_lock.specs.Passes.{IsPassOf}
 use Rattle.turn_lock.proofs.Ends.{joins, gathers_on, gathers_parts, all_front, all_last}
 use Rattle.turn_lock.proofs.lock.TurnLock.gather.Goals as goal

@@ -1,4 +1,4 @@
-use Rattle.std.proofs.Common.{◌≡◌, ◌<◌, ◌∷◌, [], ◌++◌, ◌∙◌, ap, sym, arith}
+use Rattle.std.proofs.Common.{◌∷◌, [], ◌++◌, ◌∙◌, ap, sym, arith}
 use Rattle.turn_lock.proofs.Ends.{opens_with}
 use Rattle.turn_lock.proofs.lock.TurnLock.new.Goals as goal
 
