@@ -1,4 +1,6 @@
-//! What a pass knows of its lock, and what each step tells it. These types are for the proofs alone: no value of `Hand` or `Stage` is made.
+//! What a pass knows of its lock, and what each step tells it.
+//!
+//! These types are for the proofs alone: no value of `Hand` or `Stage` is made.
 ghost use Rattle.std.specs.Prelude.{None, []};
 
 use crate::kept::Kept;
@@ -13,7 +15,8 @@ pub enum Stage {
     Turn(u64, LinkedList<(u64, LinkedList<u64>)>),
 }
 
-/// What a seat at the lock's table knows: the value that the lock was made with, the passes that it stands for, each with its number and the entries of its changes, and the stage of its call.
+/// What a seat at the lock's table knows: the value that the lock was made with, the passes that it
+/// stands for, each with its number and the entries of its changes, and the stage of its call.
 pub struct Hand<T> {
     pub start: Option<T>,
     pub parts: LinkedList<(u64, LinkedList<LinkedList<u64>>)>,

@@ -30,7 +30,8 @@ pub trait Change<T: Kept> {
     /// Makes the change, as the pass of this number.
     fn apply(&mut self, number: u32, value: &mut T) -> Result<(), NoMemory>
         requires { suits self.old (T.ground_of value.old) }
-        ensures made { OnOk result (T.history_of value.new ≡ T.history_of value.old ++ (number, entry self.old) ∷ []) }
+        ensures made { OnOk result
+            (T.history_of value.new ≡ T.history_of value.old ++ (number, entry self.old) ∷ []) }
         ensures stays { OnOk result (T.ground_of value.new ≡ T.ground_of value.old) }
         ensures refused { OnErr result (refused self.old self.new) }
         ensures same { OnErr result (value.new ≡ value.old) };

@@ -117,8 +117,9 @@ impl<T: Kept + Drop> TurnLock<T> {
         outcome
     }
 
-    // Waits a while for a moment with no call in flight. A thread that has a ticket and does not run holds up all who draw
-    // one after it, so it is best that few do. What is seen here may be out of date at once, and nothing rests on it.
+    // Waits a while for a moment with no call in flight. A thread that has a ticket and does not run
+    // holds up all who draw one after it, so it is best that few do. What is seen here may be out of
+    // date at once, and nothing rests on it.
     fn give_way(&self) {
         for round in 0..PATIENCE {
             if self.table.shared.peek(TICKETS) == self.table.shared.peek(SERVING) {
@@ -132,7 +133,8 @@ impl<T: Kept + Drop> TurnLock<T> {
         requires seat { seat.old.table_id ≡ self.now.table.shared.table_id }
         requires idle { (seat.old.me.0.stage ≡ Idle) × (length seat.old.me.0.parts ≡ 1) }
         ensures seat { seat.new.table_id ≡ seat.old.table_id }
-        ensures drew { (t : ℕ) × (result ≡ t % 2 ^ 64) × (seat.new.me ≡ (at_stage seat.old.me.0 (Waiting t), seat.old.me.1)) }
+        ensures drew { (t : ℕ) × (result ≡ t % 2 ^ 64)
+            × (seat.new.me ≡ (at_stage seat.old.me.0 (Waiting t), seat.old.me.1)) }
     {
         self.table.shared.fetch_add::<Draw>(seat, TICKETS, 1)
     }
@@ -166,7 +168,8 @@ impl<T: Kept + Drop> TurnLock<T> {
         requires seat { seat.old.table_id ≡ self.now.table.shared.table_id }
         requires out { (y : T) × (seat.old.me.1 ≡ (0, y) ∷ []) × C.suits change.old (T.ground_of y) }
         ensures seat { (seat.new.table_id ≡ seat.old.table_id) × (seat.new.me.0 ≡ seat.old.me.0) }
-        ensures value { Extends T.history_of T.ground_of seat.old.me.1 seat.new.me.1 (changes result (number, C.entry change.old)) }
+        ensures value { Extends T.history_of T.ground_of seat.old.me.1 seat.new.me.1
+            (changes result (number, C.entry change.old)) }
         ensures refused { OnErr result (C.refused change.old change.new) }
     {
         let value = seat.slot_mut(&self.table.shared, VALUE);
@@ -188,7 +191,9 @@ impl<T: Kept + Drop> TurnLock<T> {
         requires { AreAllPasses self passes.items }
         ensures made { All (λ p. entries_of (number p) (T.history_of result) ≡ made p) passes.items }
         ensures others { All (λ c. Any (λ p. number p ≡ c.0) passes.items) (T.history_of result) }
-        ensures counts { (f : List ℕ → ℕ) → sum_by (λ c. f c.1) (T.history_of result) ≡ sum_by (λ p. sum_by f (made p)) passes.items }
+        // So the history has as many of each entry as the passes made.
+        ensures counts { (f : List ℕ → ℕ)
+            → sum_by (λ c. f c.1) (T.history_of result) ≡ sum_by (λ p. sum_by f (made p)) passes.items }
         ensures stays { T.ground_of result ≡ T.ground_of (opened_with self) }
     {
         let all = self.gather(passes);
