@@ -85,6 +85,7 @@ InStage served log parts (Waiting t) = parts ≡ 1
 InStage served log parts (Turn t seen) = (parts ≡ 1) × (t ≡ served) × (seen ≡ log)
 
 module _ {T G : Type 0} (history : T → List Made) (ground_at : T → G) (start : T) where
+  -- what a hand has agrees with the lock: the value at the start, what its passes made, and the stage of its call
   pub record Fits (served : ℕ) (log : List Made) (v : Hand T) : Type 0 where
     pub knows : IfSome v.start (λ x. x ≡ start)
     pub made : AllMade log v.parts
@@ -95,7 +96,7 @@ module _ {T G : Type 0} (history : T → List Made) (ground_at : T → G) (start
   AtHome log none = Unit {0}
   AtHome log (some y) = (history y ≡ log) × (ground_at y ≡ ground_at start)
 
-  -- `served` calls are over, and `flight` have a ticket. The history is of the passes' changes, and of no others
+  -- `served` calls are over, and `flight` have a ticket. `log` is the history, and `home` is the value unless it is out
   pub record Turns (count : ℕ) (s : State T (Hand T)) : Type 0 where
     pub served : ℕ
     pub flight : ℕ
@@ -105,10 +106,13 @@ module _ {T G : Type 0} (history : T → List Made) (ground_at : T → G) (start
     pub words : s.words ≡ ((served + flight) % 2 ^ 64) ∷ (served % 2 ^ 64) ∷ []
     pub slot : s.homes ≡ home ∷ []
     pub value : AtHome log home
+    -- the value is out with one hand, or with none
     pub gone : total (λ v. out_with v.stage) s.views ≡ absent home
     pub busy : in_flight s.views ≡ flight
+    -- each ticket from the one served to below the next is had once, and no other is had
     pub given : (n : ℕ) → served ≤ n → n < served + flight → often tickets n s.views ≡ 1
     pub others : (n : ℕ) → (n < served) ⊎ (served + flight ≤ n) → often tickets n s.views ≡ 0
+    -- each pass is with one hand, no two have one number, and the history has no other's changes
     pub passes : pass_total s.views ≡ count
     pub once : (x : ℕ) → often numbers x s.views ≤ 1
     pub strangers : (x : ℕ) → often numbers x s.views ≡ 0 → entries_of x log ≡ []
