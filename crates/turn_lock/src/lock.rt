@@ -12,6 +12,7 @@ use std::hint::spin_loop;
 use std::snapshot::Snapshot;
 use std::sync::Wait;
 use std::thread::yield_now;
+use std::time::Duration;
 
 // The words of the table.
 const TICKETS: usize = 0;
@@ -21,11 +22,16 @@ const SERVING: usize = 1;
 // The slot in which the value lies.
 const VALUE: usize = 0;
 
-// How often a waiter looks again at once, before it lets other threads run in between.
-const SPINS: u32 = 16;
+// Between two looks a waiter spins in so many rounds, and then yields up to this round.
+const SPINS: u32 = 10;
+
+const YIELDS: u32 = 32;
+
+// How long it sleeps in each later round, where the same ticket is still served.
+const SLEEP_MICROS: u64 = 500;
 
 // How often a call gives way to others before it draws its ticket.
-const PATIENCE: u32 = 1024;
+const PATIENCE: u32 = 4096;
 
 /// The right to change the value under a lock, for one thread at a time. It has a number of its own.
 #[derive(Drop)]
@@ -109,7 +115,7 @@ impl<T: Kept + Drop> TurnLock<T> {
         ensures same { OnErr result (made pass.new ≡ made pass.old) }
         ensures refused { OnErr result (C.refused change.old change.new) }
     {
-        self.give_way();
+        self.give_way(rt);
         let ticket = self.draw(&mut pass.seat);
         self.wait(rt, &mut pass.seat, ticket);
         let outcome = self.apply(&mut pass.seat, pass.number, change);
@@ -120,12 +126,13 @@ impl<T: Kept + Drop> TurnLock<T> {
     // Waits a while for a moment with no call in flight. A thread that has a ticket and does not run
     // holds up all who draw one after it, so it is best that few do. What is seen here may be out of
     // date at once, and nothing rests on it.
-    fn give_way(&self) {
+    fn give_way(&self, rt: &impl Wait) {
         for round in 0..PATIENCE {
-            if self.table.shared.peek(TICKETS) == self.table.shared.peek(SERVING) {
+            let serving = self.table.shared.peek(SERVING);
+            if self.table.shared.peek(TICKETS) == serving {
                 return;
             }
-            pause(round);
+            self.pause(rt, round, serving);
         }
     }
 
@@ -149,10 +156,11 @@ impl<T: Kept + Drop> TurnLock<T> {
     {
         let mut round = 0;
         for _ in rt.forever() {
-            if self.table.shared.load::<Look>(seat, SERVING) == ticket {
+            let serving = self.table.shared.load::<Look>(seat, SERVING);
+            if serving == ticket {
                 return;
             }
-            pause(round);
+            self.pause(rt, round, serving);
             round = round.saturating_add(1);
         }
         unreachable!()
@@ -224,15 +232,24 @@ impl<T: Kept + Drop> TurnLock<T> {
     {
         self.table.shared.load_new_seat::<Enter>(SERVING).1
     }
+
+    // Spins at first, twice as long each time, later lets other threads run, and at last sleeps a
+    // little while the same ticket is served.
+    fn pause(&self, rt: &impl Wait, round: u32, serving: u64) {
+        if round < SPINS {
+            spin(1 << round);
+        } else if round < YIELDS {
+            yield_now();
+        } else {
+            let low = (serving & 0xffff_ffff) as u32;
+            let sleep = Duration::from_micros(SLEEP_MICROS);
+            self.table.shared.park_timeout(rt, SERVING, low, sleep);
+        }
+    }
 }
 
-// Spins at first, longer each time, and later lets other threads run.
-fn pause(round: u32) {
-    if round >= SPINS {
-        yield_now();
-        return;
-    }
-    for _ in 0..round {
+fn spin(times: u32) {
+    for _ in 0..times {
         spin_loop();
     }
 }
