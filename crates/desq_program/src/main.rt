@@ -3,22 +3,31 @@
 
 use desq_run::run;
 use mine_model::OpenGate;
-use std::env;
+use std::io::ErrorKind;
 use std::process::ExitCode;
-use text_ports::{DiskFiles, StdSink};
+use std::{env, io};
+use text_ports::{DiskFiles, Sink, StdSink};
+
+/// The words of the command line without the program's name.
+fn read_words(rt: &HostRuntime) -> io::Result<Vec<String>> {
+    let mut words = env::args(rt)?;
+    let _name = words.next();
+    Ok(words.collect(rt.alloc())?)
+}
 
 fn main(rt: HostRuntime) -> ExitCode {
-    let Ok(mut words) = env::args(&rt) else {
-        return ExitCode::from(7);
-    };
-    // The first word is the program's own name.
-    let _name = words.next();
-    let Ok(words) = words.collect::<Vec<String>>(rt.alloc()) else {
-        return ExitCode::from(7);
+    let mut err = StdSink::err(&rt);
+    let words = match read_words(&rt) {
+        Ok(words) => words,
+        // Words that are not UTF-8 are no command, as no words are.
+        Err(error) if error.kind() == ErrorKind::InvalidData => Vec::new(rt.alloc()),
+        Err(_) => {
+            let _ = err.write(b"desq: out of memory\n");
+            return ExitCode::from(7);
+        }
     };
     let mut files = DiskFiles::new(&rt);
     let mut out = StdSink::out(&rt);
-    let mut err = StdSink::err(&rt);
     let status = run(
         rt.alloc(),
         words.as_slice(),

@@ -1,0 +1,5 @@
+pub mod Totals
+pub mod Parts
+pub mod Steps
+pub mod Ends
+pub mod Turn
