@@ -1,13 +1,13 @@
 -- At most one list of rows is the answer.
-use Rattle.std.proofs.Common.{◌≡◌, ℕ, ◌+◌, ◌<◌, ◌⊎◌, inl, inr, List, [], ◌∷◌, refl, sym, ap, ◌∙◌, subst, map, arith, length, suc, zero, true≢false}
-use Rattle.std.specs.List.{AllByRecursion, Contains, slice_index_or}
+use Rattle.std.proofs.Common.{◌≡◌, ℕ, ◌⊎◌, inl, inr, List, [], ◌∷◌, refl, sym, ap, ◌∙◌, subst, map, arith, suc, zero, true≢false}
+use Rattle.std.specs.List.{AllByRecursion, Contains}
 use Rattle.std.specs.Ordering.{nat_cmp, is_eq}
 use Rattle.std.specs.Cmp.{IsTotalOrder, nat_cmp_total, tied_itself}
 use Rattle.std.specs.Cmp.Lexicographic.{slice_cmp, lists_total}
 use Rattle.std.specs.declared.cmp.Ordering.{Ordering}
 use Rattle.std.specs.declared.cmp.Ordering.TheVariants.{Less, Equal}
 use Rattle.mine_model.specs.declared.row.Row.{Row}
-use Rattle.mine_model.specs.Answer.{Data, IsAnswer, IsFrequent, Rises, ComesBefore, ComeEarlier, name_of}
+use Rattle.mine_model.specs.Answer.{Data, IsAnswer, Rises, ComesBefore, name_of}
 
 names_total : IsTotalOrder (slice_cmp (slice_cmp nat_cmp))
 names_total = lists_total (lists_total nat_cmp_total)
@@ -45,7 +45,7 @@ pub AllByRecursion-contained : {X : Type 0} (P : X → Type 0) (xs : List X) (y 
 AllByRecursion-contained P [] y all (k, lt, is) = absurd (omega arith)
 AllByRecursion-contained P (x ∷ xs) y all inside =
     elim (Contains-cases x xs y inside) [
-        inl same ↦ subst P (sym same) all.0
+      | inl same ↦ subst P (sym same) all.0
       | inr other ↦ AllByRecursion-contained P xs y all.1 other
     ]
 
@@ -55,13 +55,13 @@ same_first : (names : List (List ℕ)) (r s : Row) (rs ss : List Row)
     → Contains (s ∷ ss) r → Contains (r ∷ rs) s → r ≡ s
 same_first names r s rs ss after_r after_s r_inside s_inside =
     elim (Contains-cases s ss r r_inside) [
-        inl same ↦ same
+      | inl same ↦ same
       | inr later ↦ elim (Contains-cases r rs s s_inside) [
-            inl same ↦ sym same
-          | inr later' ↦ absurd (ComesBefore-irreflexive names r (ComesBefore-chain names r s r
-                (AllByRecursion-contained (ComesBefore names r) rs s after_r later')
-                (AllByRecursion-contained (ComesBefore names s) ss r after_s later)))
-        ]
+        | inl same ↦ sym same
+        | inr later' ↦ absurd (ComesBefore-irreflexive names r (ComesBefore-chain names r s r
+            (AllByRecursion-contained (ComesBefore names r) rs s after_r later')
+            (AllByRecursion-contained (ComesBefore names s) ss r after_s later)))
+      ]
     ]
 
 -- a later row of the one list is a later row of the other
@@ -69,7 +69,7 @@ later_row : (names : List (List ℕ)) (r s : Row) (rs ss : List Row) → r ≡ s
     → AllByRecursion (ComesBefore names r) rs → (t : Row) → Contains rs t → Contains (s ∷ ss) t → Contains ss t
 later_row names r s rs ss same after t inside both =
     elim (Contains-cases s ss t both) [
-        inl first ↦ absurd (ComesBefore-irreflexive names r (subst (ComesBefore names r) (first ∙ sym same) (AllByRecursion-contained (ComesBefore names r) rs t after inside)))
+      | inl first ↦ absurd (ComesBefore-irreflexive names r (subst (ComesBefore names r) (first ∙ sym same) (AllByRecursion-contained (ComesBefore names r) rs t after inside)))
       | inr later ↦ later
     ]
 
@@ -82,8 +82,8 @@ Rises-unique names (r ∷ rs) [] p q there back = absurd (Contains-none r (there
 Rises-unique names (r ∷ rs) (s ∷ ss) p q there back =
     let same : r ≡ s = same_first names r s rs ss p.0 q.0 (there r (Contains-first r rs)) (back s (Contains-first s ss)) in
     let tails : rs ≡ ss = Rises-unique names rs ss p.1 q.1
-            (λ t inside. later_row names r s rs ss same p.0 t inside (there t (Contains-other r rs t inside)))
-            (λ t inside. later_row names s r ss rs (sym same) q.0 t inside (back t (Contains-other s ss t inside))) in
+    (λ t inside. later_row names r s rs ss same p.0 t inside (there t (Contains-other r rs t inside)))
+    (λ t inside. later_row names s r ss rs (sym same) q.0 t inside (back t (Contains-other s ss t inside))) in
     cc
 
 pub IsAnswer-unique : (d : Data) (rs ss : List Row) → IsAnswer d rs → IsAnswer d ss → rs ≡ ss

@@ -1,5 +1,5 @@
 -- What stands in an output: the items of a pattern are those of its sequence and what stands above them.
-use Rattle.std.proofs.Common.{◌≡◌, ℕ, ◌++◌, ◌⊎◌, inl, inr, Bool, true, false, List, [], ◌∷◌, Option, refl, sym, ap, ◌∙◌, subst}
+use Rattle.std.proofs.Common.{◌≡◌, ◌++◌, inl, inr, Bool, true, false, List, [], ◌∷◌, sym, ◌∙◌, subst}
 use Rattle.std.specs.List.{AllByRecursion, flat_map}
 use Rattle.mine_model.specs.declared.item.Item.{Item}
 use Rattle.mine_model.specs.declared.expression.Leaf.{Leaf}
@@ -48,8 +48,8 @@ module _ (rows : List Link) (P : Item → Type 0) (up : (v t : Item) → IsAnces
   of_turns Made (turn ∷ turns) each made all =
       let inputs : List Item = flat_map (λ turn. turn.input) turns in
       of_both P turn.output (flat_map (λ turn. turn.output) turns)
-          (each turn.input turn.output made.0 (front_of_both P turn.input inputs all))
-          (of_turns Made turns each made.1 (back_of_both P turn.input inputs all))
+      (each turn.input turn.output made.0 (front_of_both P turn.input inputs all))
+      (of_turns Made turns each made.1 (back_of_both P turn.input inputs all))
 
   -- what holds of all items of the input, and of all above those of which it holds, holds of the items of the output
   pub Generates-items : (tree : Tree) (captured : Bool) (input output : List Item) → Generates rows tree captured input output → AllByRecursion P input → AllByRecursion P output
@@ -58,11 +58,11 @@ module _ (rows : List Link) (P : Item → Type 0) (up : (v t : Item) → IsAnces
   Generates-items (cat left right) captured input output (input1, input2, output1, output2, cut, joined, first, second) all =
       let both : AllByRecursion P (input1 ++ input2) = subst (AllByRecursion P) cut all in
       subst (AllByRecursion P) (sym joined) (of_both P output1 output2
-          (Generates-items left captured input1 output1 first (front_of_both P input1 input2 both))
-          (Generates-items right captured input2 output2 second (back_of_both P input1 input2 both)))
+      (Generates-items left captured input1 output1 first (front_of_both P input1 input2 both))
+      (Generates-items right captured input2 output2 second (back_of_both P input1 input2 both)))
   Generates-items (alt left right) captured input output (inl made) all = Generates-items left captured input output made all
   Generates-items (alt left right) captured input output (inr made) all = Generates-items right captured input output made all
   Generates-items (rep inner least most) captured input output (turns, enough, few, cut, joined, made) all =
       subst (AllByRecursion P) (sym joined)
-          (of_turns (Generates rows inner captured) turns (Generates-items inner captured) made (subst (AllByRecursion P) cut all))
+      (of_turns (Generates rows inner captured) turns (Generates-items inner captured) made (subst (AllByRecursion P) cut all))
   Generates-items (cap inner) captured input output made all = Generates-items inner true input output made all

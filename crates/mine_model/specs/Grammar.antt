@@ -1,8 +1,7 @@
 -- How tokens read as an expression. Concatenation and alternation of the DESQ article; this program's own spelling.
-use Rattle.std.specs.Prelude.{◌≡◌, ℕ, ◌+◌, ◌*◌, ◌-◌, true, false, ◌⊎◌, ◌≢◌, List, [], ◌∷◌, ◌++◌, map, length, Option, Some, None}
+use Rattle.std.specs.Prelude.{◌≡◌, ℕ, ◌+◌, ◌*◌, ◌-◌, true, ◌⊎◌, ◌≢◌, List, [], ◌∷◌, ◌++◌, map, length, Option, Some, None}
 use Rattle.std.specs.List.{flat_map, fold}
 use Rattle.mine_model.specs.declared.item.Item.{Item}
-use Rattle.mine_model.specs.declared.expression.Leaf.{Leaf}
 use Rattle.mine_model.specs.declared.expression.Leaf.TheVariants.{Under, Exact, Climb, Forced, Any, AnyClimb}
 use Rattle.mine_model.specs.Expression.{Tree, leaf, cat, alt, rep, cap}
 use Rattle.mine_model.specs.Tokens.{Token, name, sign, repeat, open_repeat, Placed, Each, is_free, is_digit}

@@ -1,8 +1,7 @@
 -- The trees of narrow expressions, which alone are mined so far.
-use Rattle.std.specs.Prelude.{◌≡◌, ℕ, ◌⊎◌, Option, Some, None}
-use Rattle.mine_model.specs.declared.expression.Leaf.{Leaf}
-use Rattle.mine_model.specs.declared.expression.Leaf.TheVariants.{Under, Exact, Climb, Forced, Any, AnyClimb}
-use Rattle.mine_model.specs.Expression.{Tree, leaf, cat, alt, rep, cap}
+use Rattle.std.specs.Prelude.{◌≡◌, ◌⊎◌, None}
+use Rattle.mine_model.specs.declared.expression.Leaf.TheVariants.{Under, Any}
+use Rattle.mine_model.specs.Expression.{Tree, leaf, cat, rep, cap}
 
 -- a name or a dot
 abbrev pub IsItem : Tree → Type 0

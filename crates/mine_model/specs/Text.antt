@@ -1,5 +1,5 @@
 -- Lines and fields of a file. This program's own format.
-use Rattle.std.specs.Prelude.{ℕ, ◌==◌, ◌&&◌, ◌||◌, nat_lt, nat_le, not, Bool, true, false, if◌then◌else◌, List, [], ◌∷◌, filter, map, drop, nat_eq}
+use Rattle.std.specs.Prelude.{ℕ, ◌==◌, ◌&&◌, ◌||◌, nat_lt, not, Bool, true, false, if◌then◌else◌, List, [], ◌∷◌, filter, map, drop, nat_eq}
 use Rattle.std.specs.List.{starts_with}
 
 abbrev pub tab : ℕ

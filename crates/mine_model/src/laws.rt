@@ -9,13 +9,11 @@ ghost use Rattle.mine_model.specs.Support.{HasSupport};
 /// There is at most one answer.
 pub fn at_most_one_answer()
     ensures { (data_of_run : Data) (first second : List Row) → IsAnswer data_of_run first → IsAnswer data_of_run second → first ≡ second }
-{
-}
+{}
 
 /// A pattern has at most one support.
 pub fn at_most_one_support()
     ensures { (data_of_run : Data) (pattern : List Item) (m n : ℕ) →
         HasSupport data_of_run.rows data_of_run.expression data_of_run.sequences pattern m →
         HasSupport data_of_run.rows data_of_run.expression data_of_run.sequences pattern n → m ≡ n }
-{
-}
+{}

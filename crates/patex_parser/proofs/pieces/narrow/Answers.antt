@@ -1,10 +1,9 @@
-use Rattle.std.proofs.Common.{◌≡◌, ◌≢◌, length, map, vec_len, ◌≤◌, ◌<◌, sym, ap, subst, ◌∙◌, arith}
+use Rattle.std.proofs.Common.{◌≡◌, ◌≢◌, length, map, vec_len, ◌≤◌, sym, ap, subst, ◌∙◌, arith}
 use Rattle.std.proofs.Common.{false-eqb}
 use Rattle.std.proofs.lemmas.Bool.{eqb-true}
 use Rattle.std.proofs.lemmas.List.{length-map}
 use Rattle.mine_model.specs.Expression.{tree_of, IsTreeBelow}
 use Rattle.mine_model.specs.Grammar.{uses_of}
-use Rattle.patex_parser.specs.Narrow.{IsNarrow}
 use Rattle.patex_parser.specs.Parsing.{use_view}
 use Rattle.patex_parser.proofs.Spelling.{not_scanned, not_cut, wrong_count, narrow_from_pieces, narrow_has_tokens}
 use Rattle.patex_parser.proofs.Trees.{row_is_reading, row_is_narrow}
