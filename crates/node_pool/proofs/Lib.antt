@@ -1,2 +1,5 @@
 pub mod Views
 pub mod Steps
+pub mod Lists
+pub mod Ways
+pub mod Dry

@@ -1,0 +1,31 @@
+-- Lists read by `slice_get`, after one element changed.
+use Rattle.std.proofs.Common.{◌≡◌, ◌≢◌, ℕ, zero, suc, ◌+◌, ◌<◌, ◌⊎◌, inl, inr, List, [], ◌∷◌, ◌++◌, set, sym, refl, ap, ◌∙◌, arith, sum_by, map, length, Option, None, Some, flat_map, slice_get}
+use Rattle.std.proofs.lemmas.List.Sums.{sum_by-append}
+
+module _ {X : Type 0} where
+  pub get_set : (xs : List X) (i : ℕ) (y : X) (k : ℕ) (z : X) → slice_get (set xs i y) k ≡ Some z → ((k ≡ i) × (y ≡ z)) ⊎ ((k ≢ i) × (slice_get xs k ≡ Some z))
+  get_set [] i y k z e = absurd (cc)
+  get_set (x ∷ xs) zero y zero z e = inl (refl, cc)
+  get_set (x ∷ xs) zero y (suc k) z e = inr ((λ h. omega arith), e)
+  get_set (x ∷ xs) (suc i) y zero z e = inr ((λ h. omega arith), e)
+  get_set (x ∷ xs) (suc i) y (suc k) z e = elim (get_set xs i y k z e) [ inl t ↦ inl (ap suc t.0, t.1) | inr t ↦ inr ((λ h. t.0 (omega arith)), t.1) ]
+
+  -- a change that f does not see
+  pub map_kept : {Y : Type 0} (f : X → Y) (xs : List X) (i : ℕ) (x y : X) → slice_get xs i ≡ Some x → f y ≡ f x → map f (set xs i y) ≡ map f xs
+  map_kept f [] i x y e same = refl
+  map_kept f (z ∷ xs) zero x y e same = let is : z ≡ x = cc in ap (λ a. a ∷ map f xs) (same ∙ ap f (sym is))
+  map_kept f (z ∷ xs) (suc i) x y e same = ap (λ a. f z ∷ a) (map_kept f xs i x y e same)
+
+  pub flat_map_kept : {Y : Type 0} (f : X → List Y) (xs : List X) (i : ℕ) (x y : X) → slice_get xs i ≡ Some x → f y ≡ f x → flat_map f (set xs i y) ≡ flat_map f xs
+  flat_map_kept f [] i x y e same = refl
+  flat_map_kept f (z ∷ xs) zero x y e same = let is : z ≡ x = cc in ap (λ a. a ++ flat_map f xs) (same ∙ ap f (sym is))
+  flat_map_kept f (z ∷ xs) (suc i) x y e same = ap (λ a. f z ++ a) (flat_map_kept f xs i x y e same)
+
+  -- what all pieces weigh after one of them changed
+  pub flat_map_set : {Y : Type 0} (f : X → List Y) (weight : Y → ℕ) (xs : List X) (i : ℕ) (x y : X) → slice_get xs i ≡ Some x
+      → sum_by weight (flat_map f (set xs i y)) + sum_by weight (f x) ≡ sum_by weight (flat_map f xs) + sum_by weight (f y)
+  flat_map_set f weight [] i x y e = absurd (cc)
+  flat_map_set f weight (z ∷ xs) zero x y e = let is : z ≡ x = cc in let same : sum_by weight (f z) ≡ sum_by weight (f x) = ap (λ a. sum_by weight (f a)) is in
+      omega (arith, sum_by-append weight (f z) (flat_map f xs), sum_by-append weight (f y) (flat_map f xs))
+  flat_map_set f weight (z ∷ xs) (suc i) x y e =
+      omega (arith, sum_by-append weight (f z) (flat_map f xs), sum_by-append weight (f z) (flat_map f (set xs i y)), flat_map_set f weight xs i x y e)
