@@ -3,3 +3,7 @@ pub mod Steps
 pub mod Lists
 pub mod Ways
 pub mod Dry
+pub mod Kept
+pub mod NewWays
+pub mod Seating
+pub mod Opened

@@ -1,5 +1,5 @@
 -- Lists read by `slice_get`, after one element changed.
-use Rattle.std.proofs.Common.{◌≡◌, ◌≢◌, ℕ, zero, suc, ◌+◌, ◌<◌, ◌⊎◌, inl, inr, List, [], ◌∷◌, ◌++◌, set, sym, refl, ap, ◌∙◌, arith, sum_by, map, length, Option, None, Some, flat_map, slice_get}
+use Rattle.std.proofs.Common.{◌≡◌, ◌≢◌, ℕ, zero, suc, ◌+◌, ◌<◌, ◌⊎◌, inl, inr, List, [], ◌∷◌, ◌++◌, set, sym, refl, ap, ◌∙◌, arith, sum_by, map, length, subst, Option, None, Some, flat_map, slice_get}
 use Rattle.std.proofs.lemmas.List.Sums.{sum_by-append}
 
 module _ {X : Type 0} where
@@ -29,3 +29,32 @@ module _ {X : Type 0} where
       omega (arith, sum_by-append weight (f z) (flat_map f xs), sum_by-append weight (f y) (flat_map f xs))
   flat_map_set f weight (z ∷ xs) (suc i) x y e =
       omega (arith, sum_by-append weight (f z) (flat_map f xs), sum_by-append weight (f z) (flat_map f (set xs i y)), flat_map_set f weight xs i x y e)
+
+  pub get_snoc : (xs : List X) (y : X) (k : ℕ) (z : X) → slice_get (xs ++ y ∷ []) k ≡ Some z → (slice_get xs k ≡ Some z) ⊎ ((k ≡ length xs) × (y ≡ z))
+  get_snoc [] y zero z e = inr (refl, cc)
+  get_snoc [] y (suc k) z e = absurd (cc)
+  get_snoc (x ∷ xs) y zero z e = inl e
+  get_snoc (x ∷ xs) y (suc k) z e = elim (get_snoc xs y k z e) [ inl t ↦ inl t | inr t ↦ inr (ap suc t.0, t.1) ]
+
+  -- what holds of each element, at its index
+  abbrev pub Everywhere : (ℕ → X → Type 0) → List X → Type 0
+  Everywhere F xs = (k : ℕ) (x : X) → slice_get xs k ≡ Some x → F k x
+
+  pub everywhere_snoc : (F : ℕ → X → Type 0) (xs : List X) (y : X) → Everywhere F xs → F (length xs) y → Everywhere F (xs ++ y ∷ [])
+  everywhere_snoc F xs y old new k z e = elim (get_snoc xs y k z e) [ inl t ↦ old k z t | inr t ↦ subst (λ (p : ℕ × X). F p.0 p.1) (λ i. (sym t.0 i, t.1 i)) new ]
+
+  pub everywhere_set : (F G : ℕ → X → Type 0) (xs : List X) (i : ℕ) (y : X) → Everywhere F xs → G i y → ((k : ℕ) (x : X) → k ≢ i → F k x → G k x) → Everywhere G (set xs i y)
+  everywhere_set F G xs i y old new others k z e = elim (get_set xs i y k z e) [ inl t ↦ subst (λ (p : ℕ × X). G p.0 p.1) (λ j. (sym t.0 j, t.1 j)) new | inr t ↦ others k z t.0 (old k z t.1) ]
+
+  -- what holds of each element holds of a list's front
+  get_front : (xs : List X) (y : X) (k : ℕ) (z : X) → slice_get xs k ≡ Some z → slice_get (xs ++ y ∷ []) k ≡ Some z
+  get_front [] y k z e = absurd (cc)
+  get_front (x ∷ xs) y zero z e = e
+  get_front (x ∷ xs) y (suc k) z e = get_front xs y k z e
+
+  pub get_last : (xs : List X) (y : X) → slice_get (xs ++ y ∷ []) (length xs) ≡ Some y
+  get_last [] y = refl
+  get_last (x ∷ xs) y = get_last xs y
+
+  pub everywhere_front : (F : ℕ → X → Type 0) (xs : List X) (y : X) → Everywhere F (xs ++ y ∷ []) → Everywhere F xs × F (length xs) y
+  everywhere_front F xs y all = ((λ k z e. all k z (get_front xs y k z e)), all (length xs) y (get_last xs y))

@@ -1,3 +1,4 @@
 pub mod Rule
 pub mod Reaches
+pub mod Opening
 pub mod Pool

@@ -44,3 +44,7 @@ module _ {T G : Type 0} where
   -- nothing was put, got or found dry
   abbrev pub IsFresh : Seat T G → Type 0
   IsFresh s = (given s ≡ []) × (got s ≡ []) × ((k : ℕ) → is_dry s k ≡ false)
+
+  -- these are fresh seats over these deques, in order
+  abbrev pub AreSeats : Option G → List Deque → List (Seat T G) → Type 0
+  AreSeats home deques seats = (k : ℕ) (s : Seat T G) → slice_get seats k ≡ Some s → (number_of s ≡ k) × (pool_of s ≡ deques) × (home_of s ≡ home) × IsFresh s

@@ -5,7 +5,9 @@ mod reach;
 mod play;
 mod rule;
 mod seat;
+mod setup;
 mod task;
 
 pub use seat::Seat;
+pub use setup::open;
 pub use task::Task;
