@@ -7,3 +7,4 @@ pub mod Kept
 pub mod NewWays
 pub mod Seating
 pub mod Opened
+pub mod Returning

@@ -58,3 +58,18 @@ module _ {X : Type 0} where
 
   pub everywhere_front : (F : ℕ → X → Type 0) (xs : List X) (y : X) → Everywhere F (xs ++ y ∷ []) → Everywhere F xs × F (length xs) y
   everywhere_front F xs y all = ((λ k z e. all k z (get_front xs y k z e)), all (length xs) y (get_last xs y))
+
+  pub get_set_same : (xs : List X) (i : ℕ) (x y : X) → slice_get xs i ≡ Some x → slice_get (set xs i y) i ≡ Some y
+  get_set_same [] i x y e = absurd (cc)
+  get_set_same (z ∷ xs) zero x y e = refl
+  get_set_same (z ∷ xs) (suc i) x y e = get_set_same xs i x y e
+
+  pub get_set_other : (xs : List X) (i k : ℕ) (y : X) → k ≢ i → slice_get (set xs i y) k ≡ slice_get xs k
+  get_set_other [] i k y other = refl
+  get_set_other (z ∷ xs) zero zero y other = absurd (other refl)
+  get_set_other (z ∷ xs) zero (suc k) y other = refl
+  get_set_other (z ∷ xs) (suc i) zero y other = refl
+  get_set_other (z ∷ xs) (suc i) (suc k) y other = get_set_other xs i k y (λ e. other (ap suc e))
+
+  pub same_some : (x y : X) → Some x ≡ Some y → x ≡ y
+  same_some x y e = cc

@@ -1,4 +1,5 @@
 pub mod Rule
 pub mod Reaches
 pub mod Opening
+pub mod Closing
 pub mod Pool

@@ -1,13 +1,15 @@
 //! Work-stealing pools: each seat has a deque of its own, and takes the oldest tasks of the others.
 #![tactic(auto)]
 
-mod reach;
+mod closing;
 mod play;
+mod reach;
 mod rule;
 mod seat;
 mod setup;
 mod task;
 
+pub use closing::finish;
 pub use seat::Seat;
 pub use setup::open;
 pub use task::Task;
