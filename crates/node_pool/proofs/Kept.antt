@@ -47,6 +47,12 @@ kept_room number k few within = dite (ℕ_discrete k number)
         (λ below. let b = kept_below number k below in omega arith)
         (λ no. let after : number < suc k = lt_of_not-le no in let from : number ≤ k = omega arith in let b = kept_from number k from in omega arith))
 
+-- and each owner has a part
+pub kept_some : (seats k : ℕ) → seats ≤ 64 → k < 64 → 0 < kept seats k
+kept_some seats k few within = dite (dec_le (suc k) seats)
+    (λ below. let b = kept_below seats k below in omega arith)
+    (λ no. let after : seats < suc k = lt_of_not-le no in let from : seats ≤ k = omega arith in let b = kept_from seats k from in omega arith)
+
 module _ {T G : Type 0} where
   pub fresh_snoc : (home : Option G) (owners : List (Owner T G)) (o : Owner T G) → AreFresh home 0 owners → worker_view o ≡ hand 64 [] [] home → AreFresh home 0 (owners ++ o ∷ [])
   fresh_snoc home owners o old new = everywhere_snoc (λ k (o : Owner T G). worker_view o ≡ hand (kept 0 k) [] [] home) owners o old (new ∙ ap (λ n. hand n [] [] home) (sym (kept_none (length owners))))

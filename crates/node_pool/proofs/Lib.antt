@@ -8,3 +8,6 @@ pub mod NewWays
 pub mod Seating
 pub mod Opened
 pub mod Returning
+pub mod Gathering
+pub mod Emptying
+pub mod Finishing

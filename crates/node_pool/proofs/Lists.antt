@@ -1,6 +1,6 @@
 -- Lists read by `slice_get`, after one element changed.
 use Rattle.std.proofs.Common.{◌≡◌, ◌≢◌, ℕ, zero, suc, ◌+◌, ◌<◌, ◌⊎◌, inl, inr, List, [], ◌∷◌, ◌++◌, set, sym, refl, ap, ◌∙◌, arith, sum_by, map, length, subst, Option, None, Some, flat_map, slice_get}
-use Rattle.std.proofs.lemmas.List.Sums.{sum_by-append}
+use Rattle.std.proofs.lemmas.List.Sums.{sum_by-append, sum_by-cons}
 
 module _ {X : Type 0} where
   pub get_set : (xs : List X) (i : ℕ) (y : X) (k : ℕ) (z : X) → slice_get (set xs i y) k ≡ Some z → ((k ≡ i) × (y ≡ z)) ⊎ ((k ≢ i) × (slice_get xs k ≡ Some z))
@@ -47,7 +47,7 @@ module _ {X : Type 0} where
   everywhere_set F G xs i y old new others k z e = elim (get_set xs i y k z e) [ inl t ↦ subst (λ (p : ℕ × X). G p.0 p.1) (λ j. (sym t.0 j, t.1 j)) new | inr t ↦ others k z t.0 (old k z t.1) ]
 
   -- what holds of each element holds of a list's front
-  get_front : (xs : List X) (y : X) (k : ℕ) (z : X) → slice_get xs k ≡ Some z → slice_get (xs ++ y ∷ []) k ≡ Some z
+  pub get_front : (xs : List X) (y : X) (k : ℕ) (z : X) → slice_get xs k ≡ Some z → slice_get (xs ++ y ∷ []) k ≡ Some z
   get_front [] y k z e = absurd (cc)
   get_front (x ∷ xs) y zero z e = e
   get_front (x ∷ xs) y (suc k) z e = get_front xs y k z e
@@ -73,3 +73,27 @@ module _ {X : Type 0} where
 
   pub same_some : (x y : X) → Some x ≡ Some y → x ≡ y
   same_some x y e = cc
+
+  -- some element stands at each index
+  pub get_some : (xs : List X) (k : ℕ) → k < length xs → (x : X) × (slice_get xs k ≡ Some x)
+  get_some [] k h = absurd (omega arith)
+  get_some (x ∷ xs) zero h = (x, refl)
+  get_some (x ∷ xs) (suc k) h = get_some xs k (omega arith)
+
+  -- lists of one length that agree at each index
+  pub same_lists : (xs ys : List X) → length xs ≡ length ys → ((k : ℕ) (x : X) → slice_get xs k ≡ Some x → slice_get ys k ≡ Some x) → xs ≡ ys
+  same_lists [] [] n all = refl
+  same_lists [] (y ∷ ys) n all = absurd (omega arith)
+  same_lists (x ∷ xs) [] n all = absurd (omega arith)
+  same_lists (x ∷ xs) (y ∷ ys) n all = let is : y ≡ x = same_some y x (all 0 x refl) in ap (λ a. a ∷ xs) (sym is) ∙ ap (λ l. y ∷ l) (same_lists xs ys (omega arith) (λ k. all (suc k)))
+
+  -- where an element of a mapped list comes from
+  pub get_map : {Y : Type 0} (f : X → Y) (xs : List X) (k : ℕ) (y : Y) → slice_get (map f xs) k ≡ Some y → (x : X) × (slice_get xs k ≡ Some x) × (f x ≡ y)
+  get_map f [] k y e = absurd (cc)
+  get_map f (x ∷ xs) zero y e = (x, refl, cc)
+  get_map f (x ∷ xs) (suc k) y e = get_map f xs k y e
+
+  -- what all pieces weigh
+  pub sum_by_flat_map : {Y : Type 0} (f : X → List Y) (weight : Y → ℕ) (xs : List X) → sum_by weight (flat_map f xs) ≡ sum_by (λ x. sum_by weight (f x)) xs
+  sum_by_flat_map f weight [] = refl
+  sum_by_flat_map f weight (x ∷ xs) = omega (arith, sum_by-append weight (f x) (flat_map f xs), sum_by-cons (λ x. sum_by weight (f x)) x xs, sum_by_flat_map f weight xs)

@@ -11,7 +11,7 @@ use Rattle.node_pool.specs.declared.rule.Hand.{Hand}
 use Rattle.node_pool.specs.Rule.{hand, Fits, Balanced, Got}
 use Rattle.node_pool.proofs.Views.{sum_by_set, set_there, within, alone, others_idle, Each, each_set, each_snoc}
 
-sum_by_map : {X Y : Type 0} (weight : Y → ℕ) (f : X → Y) (xs : List X) → sum_by weight (map f xs) ≡ sum_by (λ x. weight (f x)) xs
+pub sum_by_map : {X Y : Type 0} (weight : Y → ℕ) (f : X → Y) (xs : List X) → sum_by weight (map f xs) ≡ sum_by (λ x. weight (f x)) xs
 sum_by_map weight f [] = refl
 sum_by_map weight f (x ∷ xs) = omega (arith, sum_by-cons weight (f x) (map f xs), sum_by-cons (λ x. weight (f x)) x xs, sum_by_map weight f xs)
 
@@ -19,7 +19,7 @@ pub sum_by_ones : {X : Type 0} (xs : List X) → sum_by (λ _. 1) xs ≡ length 
 sum_by_ones [] = refl
 sum_by_ones (x ∷ xs) = omega (arith, sum_by-cons (λ _. 1) x xs, sum_by_ones xs)
 
-all_one : {X : Type 0} (P : X → Type 0) (x : X) → P x → All P (x ∷ [])
+pub all_one : {X : Type 0} (P : X → Type 0) (x : X) → P x → All P (x ∷ [])
 all_one P x p zero d h = p
 all_one P x p (suc k) d h = absurd (omega arith)
 

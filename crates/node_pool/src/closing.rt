@@ -56,6 +56,7 @@ fn gather<T: Task>(owners: &mut Vec<Owner<T>>, mut rows: Vec<Vec<Reach<T>>>)
     requires few { (vec_len rows ≡ vec_len owners.old) × (vec_len rows ≤ 64) }
     requires parts { HaveParts home (vec_len rows) owners.old.items }
     requires ways { AreWays home (map worker_deque owners.old.items) rows.items }
+    ensures count { vec_len owners.new ≡ vec_len owners.old }
     ensures parts { HaveParts home 0 owners.new.items }
     ensures given { (weight : List ℕ → ℕ) → given_weight weight owners.new.items ≡ given_weight weight owners.old.items }
     ensures got { (weight : List ℕ → ℕ) → got_weight weight owners.new.items ≡ got_weight weight owners.old.items + all_stolen_weight weight rows.items }
