@@ -3,3 +3,4 @@ pub mod Reaches
 pub mod Opening
 pub mod Closing
 pub mod Pool
+pub mod Trial

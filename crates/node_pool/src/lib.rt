@@ -9,6 +9,9 @@ mod seat;
 mod setup;
 mod task;
 
+#[cfg(test)]
+mod tests;
+
 pub use closing::finish;
 pub use seat::Seat;
 pub use setup::open;
