@@ -11,3 +11,4 @@ pub mod Returning
 pub mod Gathering
 pub mod Emptying
 pub mod Finishing
+pub mod Trials
