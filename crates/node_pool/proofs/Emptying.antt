@@ -1,12 +1,12 @@
 -- What the deques hold moves into a list.
-use Rattle.std.proofs.Common.{◌≡◌, ℕ, ◌+◌, ◌-◌, ◌<◌, ◌≤◌, List, [], ◌∷◌, ◌++◌, Option, Some, All, refl, ap, sym, ◌∙◌, subst, slice_get, length, map, arith, sum_by}
+use Rattle.std.proofs.Common.{◌≡◌, ℕ, ◌+◌, ◌-◌, ◌<◌, List, [], ◌∷◌, ◌++◌, Option, Some, All, refl, ap, sym, ◌∙◌, subst, length, arith, sum_by}
 use Rattle.std.proofs.lemmas.List.{length_push}
 use Rattle.std.proofs.lemmas.List.Sums.{sum_by_push}
 use Rattle.std.proofs.lemmas.List.Elements.{All-append}
 use Rattle.mine_model.specs.Labels.{SameLabels}
 use Rattle.crossbeam_deque.specs.Handles.{worker_view}
 use Rattle.node_pool.specs.declared.rule.Hand.{Hand}
-use Rattle.node_pool.specs.Rule.{hand, Got}
+use Rattle.node_pool.specs.Rule.{Got}
 use Rattle.node_pool.specs.Opening.{Owner}
 use Rattle.node_pool.specs.Closing.{given_weight, got_weight, HaveParts}
 use Rattle.node_pool.proofs.Lists.{get_front, get_last}

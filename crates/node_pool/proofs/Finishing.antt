@@ -1,5 +1,5 @@
 -- All seats of a pool, taken apart, make the pool whole again.
-use Rattle.std.proofs.Common.{◌≡◌, ℕ, zero, suc, ◌+◌, ◌-◌, ◌<◌, ◌≤◌, List, [], ◌∷◌, ◌++◌, Option, Some, All, refl, ap, sym, ◌∙◌, subst, slice_get, get_or, length, map, arith, sum_by, flat_map}
+use Rattle.std.proofs.Common.{◌≡◌, ℕ, ◌+◌, ◌<◌, ◌≤◌, List, [], ◌∷◌, ◌++◌, Option, Some, All, refl, ap, sym, ◌∙◌, subst, slice_get, get_or, length, map, arith, sum_by, flat_map}
 use Rattle.std.proofs.lemmas.List.{length-map}
 use Rattle.std.proofs.lemmas.List.Sums.{sum_by-cons, sum_by-append}
 use Rattle.std.proofs.lemmas.Option.{slice_get_within, slice_get-get_or}
@@ -9,11 +9,11 @@ use Rattle.mine_model.specs.Labels.{SameLabels}
 use Rattle.crossbeam_deque.specs.Handles.{view, worker_view, worker_deque, stealer_deque}
 use Rattle.node_pool.specs.declared.reach.Reach.{Reach}
 use Rattle.node_pool.specs.declared.seat.Seat.{Seat}
-use Rattle.node_pool.specs.Reaches.{Deque, pool_by, AreRights}
-use Rattle.node_pool.specs.Opening.{Owner, kept}
+use Rattle.node_pool.specs.Reaches.{pool_by, AreRights}
+use Rattle.node_pool.specs.Opening.{Owner}
 use Rattle.node_pool.specs.Closing.{given_weight, got_weight, stolen_weight, all_stolen_weight, HaveParts, AreWays}
-use Rattle.node_pool.specs.Pool.{number_of, pool_of, home_of, given, got, IsWholePool}
-use Rattle.node_pool.proofs.Lists.{get_map, same_lists, same_some, sum_by_flat_map}
+use Rattle.node_pool.specs.Pool.{home_of, given, got, IsWholePool}
+use Rattle.node_pool.proofs.Lists.{get_map, same_lists, sum_by_flat_map}
 use Rattle.node_pool.proofs.Kept.{kept_below, first_home}
 use Rattle.node_pool.proofs.Steps.{sum_by_map}
 
@@ -50,11 +50,11 @@ module _ {T G : Type 0} where
   whole_deques seats w = same_lists (map (λ (o : Owner T G). worker_deque o) (owners_of seats)) w.0
       (length-map (owners_of seats) (λ (o : Owner T G). worker_deque o) ∙ length-map seats (λ (s : Seat T G). s.owner) ∙ sym w.2)
       (λ k d e.
-          let at = get_map (λ (o : Owner T G). worker_deque o) (owners_of seats) k d e in
-          let from = get_map (λ (s : Seat T G). s.owner) seats k at.0 at.1 in
-          let s : Seat T G = from.0 in
-          let place = w.3 k s from.1 in
-          ap (slice_get w.0) (sym place.0) ∙ ap (λ l. slice_get l s.number) (sym place.1) ∙ s.own ∙ ap (λ (o : Owner T G). Some (worker_deque o)) from.2 ∙ ap Some at.2)
+      let at = get_map (λ (o : Owner T G). worker_deque o) (owners_of seats) k d e in
+      let from = get_map (λ (s : Seat T G). s.owner) seats k at.0 at.1 in
+      let s : Seat T G = from.0 in
+      let place = w.3 k s from.1 in
+      ap (slice_get w.0) (sym place.0) ∙ ap (λ l. slice_get l s.number) (sym place.1) ∙ s.own ∙ ap (λ (o : Owner T G). Some (worker_deque o)) from.2 ∙ ap Some at.2)
 
   whole_ways : (seats : List (Seat T G)) (w : IsWholePool seats) → AreWays w.1 (map (λ (o : Owner T G). worker_deque o) (owners_of seats)) (rows_of seats)
   whole_ways seats w k ways e =
@@ -62,7 +62,7 @@ module _ {T G : Type 0} where
       let s : Seat T G = from.0 in
       let place = w.3 k s from.1 in
       subst (λ (v : Vec (Reach T G) Global). (pool_by v.items ≡ map (λ (o : Owner T G). worker_deque o) (owners_of seats)) × AreRights k w.1 v.items) from.2
-          (place.1 ∙ sym (whole_deques seats w), subst (λ (p : ℕ × Option G). AreRights p.0 p.1 s.reaches.items) (λ i. (place.0 i, place.2 i)) s.rights)
+      (place.1 ∙ sym (whole_deques seats w), subst (λ (p : ℕ × Option G). AreRights p.0 p.1 s.reaches.items) (λ i. (place.0 i, place.2 i)) s.rights)
 
   first_of : (seats : List (Seat T G)) (w : IsWholePool seats) → 0 < length seats → first_home (owners_of seats) ≡ w.1
   first_of [] w some = absurd (omega arith)

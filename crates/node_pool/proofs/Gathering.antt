@@ -1,6 +1,6 @@
 -- The passes of all seats come back, from the last seat to the first.
-use Rattle.std.proofs.Common.{◌≡◌, ◌≢◌, ℕ, zero, suc, ◌+◌, ◌-◌, ◌<◌, ◌≤◌, List, [], ◌∷◌, ◌++◌, Option, None, Some, refl, ap, sym, ◌∙◌, subst, slice_get, get_or, length, map, arith, sum_by}
-use Rattle.std.proofs.lemmas.List.{length-map, length_push}
+use Rattle.std.proofs.Common.{◌≡◌, ℕ, ◌+◌, ◌<◌, ◌≤◌, List, [], ◌∷◌, ◌++◌, Option, Some, refl, ap, sym, ◌∙◌, subst, slice_get, length, map, arith}
+use Rattle.std.proofs.lemmas.List.{length_push}
 use Rattle.std.proofs.lemmas.List.Sums.{sum_by_push}
 use Rattle.std.proofs.lemmas.Option.{slice_get_within, slice_get-map}
 use Rattle.std.specs.Option.{option_map}
@@ -8,10 +8,10 @@ use Rattle.std.specs.declared.vec.Vec.{Vec}
 use Rattle.std.specs.declared.alloc.Global.{Global}
 use Rattle.crossbeam_deque.specs.Handles.{view, worker_view, worker_deque, stealer_deque}
 use Rattle.node_pool.specs.declared.reach.Reach.{Reach}
-use Rattle.node_pool.specs.Reaches.{Deque, pool_by, share, AreRights}
-use Rattle.node_pool.specs.Opening.{Owner, kept}
-use Rattle.node_pool.specs.Closing.{given_weight, got_weight, stolen_weight, all_stolen_weight, AllCanReturn, AllReturned, Returned, HaveParts, AreWays}
-use Rattle.node_pool.proofs.Lists.{Everywhere, everywhere_front, same_some, get_some}
+use Rattle.node_pool.specs.Reaches.{pool_by, AreRights}
+use Rattle.node_pool.specs.Opening.{Owner}
+use Rattle.node_pool.specs.Closing.{given_weight, got_weight, stolen_weight, all_stolen_weight, AllCanReturn, AllReturned, HaveParts, AreWays}
+use Rattle.node_pool.proofs.Lists.{everywhere_front, same_some, get_some}
 use Rattle.node_pool.proofs.Kept.{kept_next, kept_room, kept_some}
 use Rattle.node_pool.proofs.NewWays.{same_length}
 use Rattle.node_pool.proofs.Returning.{returned_given, returned_got, returned_deques}

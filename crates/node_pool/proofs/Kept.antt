@@ -1,14 +1,14 @@
 -- The parts of the deques, seat by seat.
-use Rattle.std.proofs.Common.{◌≡◌, ◌≢◌, ℕ, zero, suc, ◌+◌, ◌-◌, ◌<◌, ◌≤◌, ◌==◌, true, false, refl, ap, sym, ◌∙◌, nat_lt, eq-eqb, ne_eqb, arith, eqb, ltb, lt_of_not-le, subst, List, [], ◌∷◌, ◌++◌, Option, None, Some, slice_get, set, length, map, get_or, take}
+use Rattle.std.proofs.Common.{◌≡◌, ◌≢◌, ℕ, suc, ◌+◌, ◌-◌, ◌<◌, ◌≤◌, true, false, refl, ap, sym, ◌∙◌, eq-eqb, ne_eqb, arith, eqb, ltb, lt_of_not-le, subst, List, [], ◌∷◌, ◌++◌, Option, None, Some, slice_get, set, length, map}
 use Rattle.std.proofs.lemmas.Bool.{lt-ltb, le-ltb}
 use mathlib.Core.Logic.{dite}
 use native.Mathlib.Decide.{dec_le, ℕ_discrete}
-use Rattle.node_pool.specs.Reaches.{Deque, pool_by, share}
-use Rattle.std.proofs.lemmas.Option.{slice_get_within, slice_get_read}
-use Rattle.crossbeam_deque.specs.Handles.{view, worker_view, worker_deque, stealer_deque}
+use Rattle.node_pool.specs.Reaches.{Deque, share}
+use Rattle.std.proofs.lemmas.Option.{slice_get_within}
+use Rattle.crossbeam_deque.specs.Handles.{worker_view, worker_deque}
 use Rattle.node_pool.specs.declared.reach.Reach.{Reach}
 use Rattle.node_pool.specs.Rule.{hand}
-use Rattle.node_pool.specs.Opening.{kept, Owner, AreFresh, AreNewWays, AreRows}
+use Rattle.node_pool.specs.Opening.{kept, Owner, AreFresh, AreRows}
 use Rattle.std.specs.declared.vec.Vec.{Vec}
 use Rattle.std.specs.declared.alloc.Global.{Global}
 use Rattle.node_pool.proofs.Lists.{Everywhere, everywhere_snoc, everywhere_set, map_kept}
@@ -36,16 +36,16 @@ pub kept_next : (number k : ℕ) → number < 64 → kept (number + 1) k ≡ kep
 kept_next number k few = dite (ℕ_discrete k number)
     (λ is. let a = kept_below (number + 1) k (omega arith) in let b = kept_from number k (omega arith) in let c = share_own number k is in omega arith)
     (λ other. let c = share_other number k other in dite (dec_le (suc k) number)
-        (λ below. let a = kept_below (number + 1) k (omega arith) in let b = kept_below number k below in omega arith)
-        (λ no. let after : number < suc k = lt_of_not-le no in let from : number ≤ k = omega arith in let a = kept_from (number + 1) k (omega arith) in let b = kept_from number k from in omega arith))
+    (λ below. let a = kept_below (number + 1) k (omega arith) in let b = kept_below number k below in omega arith)
+    (λ no. let after : number < suc k = lt_of_not-le no in let from : number ≤ k = omega arith in let a = kept_from (number + 1) k (omega arith) in let b = kept_from number k from in omega arith))
 
 -- which leaves the owner a part
 pub kept_room : (number k : ℕ) → number < 64 → k < 64 → share number k < kept number k
 kept_room number k few within = dite (ℕ_discrete k number)
     (λ is. let b = kept_from number k (omega arith) in let c = share_own number k is in omega arith)
     (λ other. let c = share_other number k other in dite (dec_le (suc k) number)
-        (λ below. let b = kept_below number k below in omega arith)
-        (λ no. let after : number < suc k = lt_of_not-le no in let from : number ≤ k = omega arith in let b = kept_from number k from in omega arith))
+    (λ below. let b = kept_below number k below in omega arith)
+    (λ no. let after : number < suc k = lt_of_not-le no in let from : number ≤ k = omega arith in let b = kept_from number k from in omega arith))
 
 -- and each owner has a part
 pub kept_some : (seats k : ℕ) → seats ≤ 64 → k < 64 → 0 < kept seats k
@@ -73,11 +73,11 @@ module _ {T G : Type 0} where
       let was : worker_view o ≡ hand (kept number k) [] [] home = (all k o at).1 (omega arith) in
       let is : worker_view p ≡ hand (kept number k - share number k) [] [] home = new ∙ ap (λ v. hand (v.parts - share number k) v.given v.got v.home) was in
       everywhere_set
-          (λ j (o : Owner T G). (j < k → worker_view o ≡ hand (kept (number + 1) j) [] [] home) × (k ≤ j → worker_view o ≡ hand (kept number j) [] [] home))
-          (λ j (o : Owner T G). (j < k + 1 → worker_view o ≡ hand (kept (number + 1) j) [] [] home) × (k + 1 ≤ j → worker_view o ≡ hand (kept number j) [] [] home))
-          owners k p all
-          ((λ _. is ∙ ap (λ n. hand n [] [] home) (sym (kept_next number k few))), λ no. absurd (omega arith))
-          (λ j u other old. ((λ below. old.0 (omega arith)), λ from. old.1 (omega arith)))
+      (λ j (o : Owner T G). (j < k → worker_view o ≡ hand (kept (number + 1) j) [] [] home) × (k ≤ j → worker_view o ≡ hand (kept number j) [] [] home))
+      (λ j (o : Owner T G). (j < k + 1 → worker_view o ≡ hand (kept (number + 1) j) [] [] home) × (k + 1 ≤ j → worker_view o ≡ hand (kept number j) [] [] home))
+      owners k p all
+      ((λ _. is ∙ ap (λ n. hand n [] [] home) (sym (kept_next number k few))), λ no. absurd (omega arith))
+      (λ j u other old. ((λ below. old.0 (omega arith)), λ from. old.1 (omega arith)))
 
   pub partly_room : (home : Option G) (number k : ℕ) (owners : List (Owner T G)) (o : Owner T G) → number < 64 → length owners ≤ 64 → slice_get owners k ≡ Some o → Partly home number k owners → share number k < (worker_view o).parts
   partly_room home number k owners o few size at all =

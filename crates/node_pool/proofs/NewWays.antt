@@ -1,7 +1,7 @@
 -- The ways of a new seat, one by one.
 use Rattle.std.proofs.Common.{◌≡◌, ℕ, zero, suc, ◌+◌, ◌<◌, ◌≤◌, List, [], ◌∷◌, ◌++◌, Option, Some, refl, ap, sym, ◌∙◌, subst, slice_get, get_or, length, map, take, arith, add-one}
 use Rattle.std.proofs.lemmas.List.{length-map, length_push}
-use Rattle.std.proofs.lemmas.Option.{slice_get-map, slice_get_read, slice_get_within}
+use Rattle.std.proofs.lemmas.Option.{slice_get-map, slice_get_read}
 use Rattle.std.specs.Option.{option_map}
 use Rattle.std.specs.declared.vec.Vec.{Vec}
 use Rattle.std.specs.declared.alloc.Global.{Global}
@@ -43,7 +43,7 @@ module _ {T G : Type 0} where
       let deques = map (λ (w : Owner T G). worker_deque w) first in
       let here : slice_get deques k ≡ Some (worker_deque o) = ap (λ l. slice_get l k) (sym same) ∙ slice_get-map (λ (w : Owner T G). worker_deque w) owners k ∙ ap (option_map (λ (w : Owner T G). worker_deque w)) at in
       map_snoc (λ (r : Reach T G). stealer_deque r.thief) ways r ∙ ap (λ l. l ++ stealer_deque r.thief ∷ []) so_far ∙ ap (λ d. take k deques ++ d ∷ []) there ∙ sym (take_snoc deques k (worker_deque o) here)
-          ∙ ap (λ n. take n deques) (sym (add-one k))
+      ∙ ap (λ n. take n deques) (sym (add-one k))
 
   pub ways_next : (home : Option G) (number k : ℕ) (first : List (Owner T G)) (ways : List (Reach T G)) (r : Reach T G) → k ≤ length first → pool_by ways ≡ take k (map (λ (w : Owner T G). worker_deque w) first)
       → AreNewWays home number ways → view r.right ≡ hand (share number k) [] [] home → AreNewWays home number (ways ++ r ∷ [])

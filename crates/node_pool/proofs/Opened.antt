@@ -1,10 +1,9 @@
 -- What is known of an open pool.
-use Rattle.std.proofs.Common.{◌≡◌, ℕ, ◌+◌, ◌<◌, List, Option, Some, Result, Ok, Err, IfOk, All, refl, ap, sym, ◌∙◌, slice_get, get_or, length, arith}
-use Rattle.std.proofs.lemmas.Option.{slice_get_read}
+use Rattle.std.proofs.Common.{◌≡◌, List, Option, Result, Ok, Err, IfOk, All, ◌∙◌, get_or, length}
 use Rattle.std.proofs.lemmas.Option.{slice_get-get_or}
 use Rattle.node_pool.specs.declared.seat.Seat.{Seat}
 use Rattle.node_pool.specs.Reaches.{Deque}
-use Rattle.node_pool.specs.Pool.{number_of, pool_of, home_of, IsFresh, IsWholePool, AreSeats}
+use Rattle.node_pool.specs.Pool.{home_of, IsFresh, IsWholePool, AreSeats}
 
 -- what follows of the value in an Ok
 pub ok_then : {X E : Type 0} (r : Result X E) (P Q : X → Type 0) → ((x : X) → P x → Q x) → IfOk r P → IfOk r Q

@@ -1,11 +1,11 @@
 -- The passes of one seat come back, from the last deque to the first.
-use Rattle.std.proofs.Common.{◌≡◌, ◌≢◌, ℕ, zero, suc, ◌+◌, ◌-◌, ◌<◌, ◌≤◌, List, [], ◌∷◌, ◌++◌, Option, Some, refl, ap, sym, ◌∙◌, subst, slice_get, get_or, set, length, map, arith, sum_by}
+use Rattle.std.proofs.Common.{◌≡◌, ℕ, suc, ◌+◌, ◌<◌, ◌≤◌, List, [], ◌∷◌, ◌++◌, Some, refl, ap, sym, ◌∙◌, subst, slice_get, get_or, set, length, map, arith, sum_by}
 use Rattle.std.proofs.lemmas.List.{length_push}
 use Rattle.std.proofs.lemmas.Option.{slice_get_within, slice_get_read}
 use Rattle.std.proofs.Common.{length-set}
 use mathlib.Core.Logic.{dite}
 use native.Mathlib.Decide.{ℕ_discrete}
-use Rattle.crossbeam_deque.specs.Handles.{view, worker_view, worker_deque, stealer_deque, IsPassOf}
+use Rattle.crossbeam_deque.specs.Handles.{view, worker_view, worker_deque}
 use Rattle.node_pool.specs.declared.reach.Reach.{Reach}
 use Rattle.node_pool.specs.Opening.{Owner}
 use Rattle.node_pool.specs.Closing.{CanReturn, Returned, AllCanReturn, AllReturned, given_weight, got_weight, stolen_weight}
@@ -61,22 +61,22 @@ module _ {T G : Type 0} where
         untouched = λ k h. get_set_other owners (length front) k p (λ e. omega arith) ∙ t.untouched k (omega arith);
         done = λ k u w past e f. dite (ℕ_discrete k (length front))
             (λ here.
-                let same : u ≡ o = same_some u o (sym e ∙ ap (slice_get first) here ∙ was) in
-                let way : w ≡ r = same_some w r (sym f ∙ ap (slice_get ways) here ∙ todo.1) in (
-                  p,
-                  ap (slice_get (set owners (length front) p)) here ∙ get_set_same owners (length front) o p at,
-                  subst (λ (q : Owner T G × Reach T G). Returned q.0 q.1 p) (λ i. (sym same i, sym way i)) back,
-                ))
+            let same : u ≡ o = same_some u o (sym e ∙ ap (slice_get first) here ∙ was) in
+            let way : w ≡ r = same_some w r (sym f ∙ ap (slice_get ways) here ∙ todo.1) in (
+              p,
+              ap (slice_get (set owners (length front) p)) here ∙ get_set_same owners (length front) o p at,
+              subst (λ (q : Owner T G × Reach T G). Returned q.0 q.1 p) (λ i. (sym same i, sym way i)) back,
+            ))
             (λ other.
-                let old = t.done k u w (omega (arith, other)) e f in
-                (old.0, get_set_other owners (length front) k p other ∙ old.1, old.2));
+            let old = t.done k u w (omega (arith, other)) e f in
+            (old.0, get_set_other owners (length front) k p other ∙ old.1, old.2));
       }
 
   pub returning_step : (first : List (Owner T G)) (ways : List (Reach T G)) (owners : List (Owner T G)) (before front : List (Reach T G)) (r : Reach T G) (o p : Owner T G) (i : ℕ)
       → i ≡ length front → before ≡ front ++ r ∷ [] → o ≡ get_or owners i o → Returned o r p → Returning first ways owners before → Returning first ways (set owners i p) front
   returning_step first ways owners before front r o p i place is value back s =
       subst (λ (k : ℕ). Returning first ways (set owners k p) front) (sym place)
-          (returning_next first ways owners before front r o p is (ap (slice_get owners) (sym place) ∙ returning_at first ways owners before front r o i place is value s) back s)
+      (returning_next first ways owners before front r o p is (ap (slice_get owners) (sym place) ∙ returning_at first ways owners before front r o i place is value s) back s)
 
   pub returning_ends : (first : List (Owner T G)) (ways : List (Reach T G)) (owners : List (Owner T G)) (left : List (Reach T G)) → length left ≡ 0 → Returning first ways owners left → AllReturned first ways owners
   returning_ends first ways owners left none s k o r e f = s.done k o r (omega arith) e f
@@ -107,8 +107,13 @@ module _ {T G : Type 0} where
       let same : p ≡ here.0 = same_some p here.0 here.1 in
       let is : sum_by weight (worker_view p).got ≡ sum_by weight ((worker_view o).got ++ (view r.right).got) = ap (λ (q : Owner T G). sum_by weight (worker_view q).got) same ∙ ap (λ v. sum_by weight v.got) here.2.1 in
       let rest = returned_got weight os rs ps (omega arith) (omega arith) (λ k. all (suc k)) in
-      omega (arith, sum_by-append weight (worker_view o).got (view r.right).got, sum_by-cons (λ (q : Owner T G). sum_by weight (worker_view q).got) p ps, sum_by-cons (λ (q : Owner T G). sum_by weight (worker_view q).got) o os,
-          sum_by-cons (λ (w : Reach T G). sum_by weight (view w.right).got) r rs)
+      omega (
+        arith,
+        sum_by-append weight (worker_view o).got (view r.right).got,
+        sum_by-cons (λ (q : Owner T G). sum_by weight (worker_view q).got) p ps,
+        sum_by-cons (λ (q : Owner T G). sum_by weight (worker_view q).got) o os,
+        sum_by-cons (λ (w : Reach T G). sum_by weight (view w.right).got) r rs,
+      )
 
   pub returned_deques : (owners : List (Owner T G)) (ways : List (Reach T G)) (after : List (Owner T G)) → length ways ≡ length owners → length after ≡ length owners → AllReturned owners ways after
       → map (λ (o : Owner T G). worker_deque o) after ≡ map (λ (o : Owner T G). worker_deque o) owners

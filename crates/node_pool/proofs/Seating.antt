@@ -1,5 +1,5 @@
 -- Seats are put together from the last to the first.
-use Rattle.std.proofs.Common.{◌≡◌, ℕ, zero, suc, ◌+◌, ◌-◌, ◌<◌, ◌≤◌, List, [], ◌∷◌, ◌++◌, Option, Some, refl, ap, sym, ◌∙◌, subst, slice_get, get_or, length, map, arith, reverse, flat_map, ◌==◌, false}
+use Rattle.std.proofs.Common.{◌≡◌, ℕ, suc, ◌+◌, ◌-◌, ◌<◌, ◌≤◌, List, [], ◌∷◌, ◌++◌, Option, Some, refl, ap, sym, ◌∙◌, subst, slice_get, get_or, length, map, arith, reverse, flat_map, ◌==◌, false}
 use Rattle.std.specs.Int.{bit_at}
 use Rattle.std.proofs.lemmas.Nat.Bits.{bit_at-zero}
 use Rattle.std.proofs.lemmas.List.{length-map, length_push, length-reverse, get_or-reverse}
@@ -11,7 +11,7 @@ use Rattle.crossbeam_deque.specs.Handles.{view, worker_view, worker_deque, steal
 use Rattle.node_pool.specs.declared.reach.Reach.{Reach}
 use Rattle.node_pool.specs.declared.seat.Seat.{Seat}
 use Rattle.node_pool.specs.Rule.{hand}
-use Rattle.node_pool.specs.Reaches.{Deque, pool_by, share, AreRights}
+use Rattle.node_pool.specs.Reaches.{Deque, pool_by, AreRights}
 use Rattle.node_pool.specs.Opening.{Owner, kept, AreFresh, AreRows, AreNewWays}
 use Rattle.node_pool.specs.Pool.{number_of, pool_of, home_of, IsFresh, AreSeats}
 use Rattle.node_pool.proofs.Lists.{Everywhere, everywhere_snoc, everywhere_front}

@@ -1,15 +1,15 @@
 -- Each step of a deque keeps its rule.
-use Rattle.std.proofs.Common.{◌≡◌, ◌≢◌, ℕ, zero, suc, ◌+◌, ◌-◌, ◌<◌, ◌≤◌, List, [], ◌∷◌, ◌++◌, set, sym, refl, ap, ◌∙◌, subst, arith, sum_by, map, length, Option, None, Some, All}
+use Rattle.std.proofs.Common.{◌≡◌, ℕ, zero, suc, ◌+◌, ◌-◌, ◌<◌, List, [], ◌∷◌, ◌++◌, set, sym, refl, ap, ◌∙◌, subst, arith, sum_by, map, length, Option, None, Some, All}
 use Rattle.std.proofs.lemmas.List.Sums.{sum_by-cons, sum_by-append, sum_by_push}
 use Rattle.std.proofs.lemmas.List.Elements.{All-append, All-take, All-drop}
 use lib.Seq.{take-append_seam, drop-append_seam}
 use mathlib.Core.Option.{some, some-injective, some-ne-none}
 use lib.ListN.{get_elem?}
 use Rattle.mine_model.specs.Labels.{SameLabels}
-use Rattle.crossbeam_deque.specs.Tasks.{Pushes, Takes, Pops, Finds, FindsFew, Blocks, Forks, Merges}
+use Rattle.crossbeam_deque.specs.Tasks.{Pushes, Takes, Pops, Finds, Forks, Merges}
 use Rattle.node_pool.specs.declared.rule.Hand.{Hand}
 use Rattle.node_pool.specs.Rule.{hand, Fits, Balanced, Got}
-use Rattle.node_pool.proofs.Views.{sum_by_set, set_there, within, alone, others_idle, Each, each_set, each_snoc}
+use Rattle.node_pool.proofs.Views.{sum_by_set, set_there, alone, others_idle, Each, each_set, each_snoc}
 
 pub sum_by_map : {X Y : Type 0} (weight : Y → ℕ) (f : X → Y) (xs : List X) → sum_by weight (map f xs) ≡ sum_by (λ x. weight (f x)) xs
 sum_by_map weight f [] = refl
@@ -115,7 +115,7 @@ module _ {T G : Type 0} (label : T → List ℕ) (belongs : T → G) where
             omega (arith, sum_by_push (λ (u : Hand G). sum_by weight u.given) vs r, sum_by_push (λ (u : Hand G). sum_by weight u.got) vs r)),
         each_snoc (Fits base) vs r
             (each_set (λ _. Fits base) views port l ((λ _. refl), λ no. absurd (omega arith))
-                (λ j u other e. let idle = others_idle (λ (y : Hand G). y.parts) views port v at whole j u other e in ((λ no. absurd (omega arith)), (h.3 j u e).1)))
+            (λ j u other e. let idle = others_idle (λ (y : Hand G). y.parts) views port v at whole j u other e in ((λ no. absurd (omega arith)), (h.3 j u e).1)))
             ((λ no. absurd (omega arith)), λ _. (refl, refl)),
         subst (All (λ t. Some (belongs t) ≡ base)) (sym empty) (λ k d no. absurd (omega arith)),
       )
@@ -142,19 +142,18 @@ module _ {T G : Type 0} (label : T → List ℕ) (belongs : T → G) where
   spares port v part = splits port v v.parts 0 part (omega arith)
 
   pub returns : (port : ℕ) (v : Hand G) (other : ℕ) (u : Hand G) → 0 < v.parts → u.given ≡ [] → Merges (Balanced label belongs) port v other u (hand (v.parts + u.parts) v.given (v.got ++ u.got) v.home) (hand 0 [] [] None)
-  returns port v other u part nothing tasks views h at two at' = let both : Hand G = hand (v.parts + u.parts) v.given (v.got ++ u.got) v.home in let spent : Hand G = hand 0 [] [] None in let vs : List (Hand G) = set views port both in
-      (
-        h.0,
-        (let p = sum_by_set (λ (y : Hand G). y.parts) views port v both at in let p' = sum_by_set (λ (y : Hand G). y.parts) vs other u spent at' in let q = h.1 in omega arith),
-        (λ weight.
-            let g = sum_by_set (λ (y : Hand G). sum_by weight y.given) views port v both at in
-            let g' = sum_by_set (λ (y : Hand G). sum_by weight y.given) vs other u spent at' in
-            let t = sum_by_set (λ (y : Hand G). sum_by weight y.got) views port v both at in
-            let t' = sum_by_set (λ (y : Hand G). sum_by weight y.got) vs other u spent at' in
-            let b = h.2 weight in
-            let z : sum_by weight u.given ≡ 0 = ap (sum_by weight) nothing in
-            omega (arith, sum_by-append weight v.got u.got)),
-        each_set (λ _. Fits h.0) vs other spent ((λ no. absurd (omega arith)), λ _. (refl, refl))
-            (λ j y _ e. each_set (λ _. Fits h.0) views port both ((λ _. (h.3 port v at).0 part), λ no. absurd (omega arith)) (λ i z _. h.3 i z) j y e),
-        h.4,
-      )
+  returns port v other u part nothing tasks views h at two at' = let both : Hand G = hand (v.parts + u.parts) v.given (v.got ++ u.got) v.home in let spent : Hand G = hand 0 [] [] None in let vs : List (Hand G) = set views port both in (
+    h.0,
+    (let p = sum_by_set (λ (y : Hand G). y.parts) views port v both at in let p' = sum_by_set (λ (y : Hand G). y.parts) vs other u spent at' in let q = h.1 in omega arith),
+    (λ weight.
+        let g = sum_by_set (λ (y : Hand G). sum_by weight y.given) views port v both at in
+        let g' = sum_by_set (λ (y : Hand G). sum_by weight y.given) vs other u spent at' in
+        let t = sum_by_set (λ (y : Hand G). sum_by weight y.got) views port v both at in
+        let t' = sum_by_set (λ (y : Hand G). sum_by weight y.got) vs other u spent at' in
+        let b = h.2 weight in
+        let z : sum_by weight u.given ≡ 0 = ap (sum_by weight) nothing in
+        omega (arith, sum_by-append weight v.got u.got)),
+    each_set (λ _. Fits h.0) vs other spent ((λ no. absurd (omega arith)), λ _. (refl, refl))
+        (λ j y _ e. each_set (λ _. Fits h.0) views port both ((λ _. (h.3 port v at).0 part), λ no. absurd (omega arith)) (λ i z _. h.3 i z) j y e),
+    h.4,
+  )

@@ -1,5 +1,5 @@
 -- A pool whose seats did their shifts is still whole.
-use Rattle.std.proofs.Common.{◌≡◌, ℕ, ◌+◌, List, ◌++◌, Some, refl, ap, sym, ◌∙◌, subst, slice_get, length, take, drop, append-nil, arith}
+use Rattle.std.proofs.Common.{◌≡◌, ℕ, List, ◌++◌, ap, sym, ◌∙◌, subst, length, take, drop, arith}
 use lib.Seq.{take-append_seam}
 use Rattle.std.proofs.lemmas.Option.{slice_get_within}
 use Rattle.node_pool.specs.declared.seat.Seat.{Seat}

@@ -1,5 +1,5 @@
 -- What the calls of a seat leave as it was.
-use Rattle.std.proofs.Common.{◌≡◌, ◌≢◌, ℕ, zero, suc, ◌+◌, ◌<◌, ◌⊎◌, inl, inr, List, [], ◌∷◌, ◌++◌, set, sym, refl, ap, ◌∙◌, subst, arith, sum_by, map, length, Option, None, Some, All, MatchOption, IfSome, IfNone, flat_map, slice_get, get_or, ◌==◌, eq-eqb, ne_eqb, true, false}
+use Rattle.std.proofs.Common.{◌≡◌, ◌≢◌, ℕ, zero, suc, ◌+◌, ◌<◌, inl, inr, List, [], ◌∷◌, ◌++◌, set, sym, refl, ap, ◌∙◌, subst, arith, sum_by, length, Option, None, Some, MatchOption, IfSome, IfNone, flat_map, slice_get, get_or, ◌==◌, ne_eqb, false}
 use Rattle.std.proofs.lemmas.List.Sums.{sum_by-append, sum_by_push}
 use Rattle.mine_model.specs.Labels.{SameLabels}
 use Rattle.crossbeam_deque.specs.Handles.{view, stealer_deque}
@@ -66,13 +66,13 @@ module _ {T G : Type 0} (label : T → List ℕ) (belongs : T → G) where
 
     pub stole_rights : (number : ℕ) (home : Option G) (result : Option T) → Came result (view r.right) (view s.right) → AreRights number home reaches → i ≢ number → AreRights number home (set reaches i s)
     stole_rights number home result came rights other k t e = elim (get_set reaches i s k t e) [
-      inl h ↦
+      | inl h ↦
           let keeps = came_keeps result (view r.right) (view s.right) came in
           let old = rights i r at in
           subst (λ (p : ℕ × Reach T G). ((view p.1.right).parts ≡ share number p.0) × ((view p.1.right).given ≡ []) × ((view p.1.right).home ≡ home) × (p.0 ≡ number → (view p.1.right).got ≡ []))
-              (λ j. (sym h.0 j, h.1 j)) (keeps.0 ∙ old.0, keeps.1 ∙ old.1, keeps.2 ∙ old.2, λ is. absurd (other is))
+          (λ j. (sym h.0 j, h.1 j)) (keeps.0 ∙ old.0, keeps.1 ∙ old.1, keeps.2 ∙ old.2, λ is. absurd (other is))
       | inr h ↦ rights k t h.1
-      ]
+    ]
 
     pub stole_some : (result : Option T) (mine : List (List ℕ)) → Came result (view r.right) (view s.right)
         → IfSome result (λ task. SameLabels (mine ++ flat_map (λ (r : Reach T G). (view r.right).got) (set reaches i s)) ((mine ++ flat_map (λ (r : Reach T G). (view r.right).got) reaches) ++ label task ∷ []))

@@ -1,5 +1,5 @@
 -- How the passes of a pool come back to the owners of the deques, and the deques are emptied.
-use Rattle.std.specs.Prelude.{◌≡◌, ℕ, ◌+◌, ◌++◌, ◌<◌, List, [], Option, Some, All, slice_get, sum_by}
+use Rattle.std.specs.Prelude.{◌≡◌, ℕ, ◌+◌, ◌++◌, ◌<◌, List, [], Option, Some, slice_get, sum_by}
 use Rattle.std.specs.declared.alloc.Global.{Global}
 use Rattle.std.specs.declared.vec.Vec.{Vec}
 use Rattle.crossbeam_deque.specs.Handles.{view, worker_deque, worker_view, stealer_deque}

@@ -1,5 +1,5 @@
 -- What a contract says of a seat.
-use Rattle.std.specs.Prelude.{◌≡◌, ℕ, ◌==◌, ◌||◌, Bool, false, List, [], ◌++◌, length, map, Option, Some, All, slice_get}
+use Rattle.std.specs.Prelude.{◌≡◌, ℕ, ◌==◌, Bool, false, List, [], ◌++◌, length, Option, Some, slice_get}
 use Rattle.std.specs.List.{flat_map}
 use Rattle.std.specs.Int.{bit_at}
 use Rattle.crossbeam_deque.specs.Handles.{view, worker_view}

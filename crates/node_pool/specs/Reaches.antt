@@ -3,7 +3,6 @@ use Rattle.std.specs.Prelude.{◌≡◌, ℕ, ◌==◌, List, [], map, Option, S
 use Rattle.atomic_blocks.specs.Lent.{RowsId}
 use Rattle.std.specs.declared.alloc.Global.{Global}
 use Rattle.crossbeam_deque.specs.Handles.{view, stealer_deque}
-use Rattle.node_pool.specs.declared.rule.Hand.{Hand}
 use Rattle.node_pool.specs.declared.reach.Reach.{Reach}
 
 -- which deque it is

@@ -1,5 +1,5 @@
 -- The rule of one deque: what its owner put is what its passes took or stole and what it holds.
-use Rattle.std.specs.Prelude.{◌≡◌, ℕ, ◌+◌, ◌<◌, ◌≤◌, List, [], ◌++◌, Option, None, Some, All, length, map, sum_by}
+use Rattle.std.specs.Prelude.{◌≡◌, ℕ, ◌+◌, ◌<◌, ◌≤◌, List, [], ◌++◌, Option, Some, All, length, map, sum_by}
 use Rattle.node_pool.specs.declared.rule.Hand.{Hand}
 use mathlib.Core.Option.{some}
 use lib.ListN.{get_elem?}

@@ -8,7 +8,6 @@ mod rule;
 mod seat;
 mod setup;
 mod task;
-
 #[cfg(test)]
 mod tests;
 

@@ -1,4 +1,4 @@
-use Rattle.std.proofs.Common.{◌≡◌, ◌<◌, ◌∙◌, sym, arith}
+use Rattle.std.proofs.Common.{arith}
 use Rattle.crossbeam_deque.specs.Handles.{worker_view}
 use Rattle.node_pool.proofs.Steps.{steals, takes, finds}
 use Rattle.node_pool.proofs.Emptying.{emptying_begins, emptying_next, emptying_falls, emptying_ends}

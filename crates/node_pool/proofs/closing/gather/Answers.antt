@@ -1,4 +1,4 @@
-use Rattle.std.proofs.Common.{◌≡◌, length, arith, subst, sym, ◌∙◌}
+use Rattle.std.proofs.Common.{◌≡◌, length, arith, subst}
 use Rattle.node_pool.specs.Closing.{HaveParts}
 use Rattle.node_pool.proofs.Gathering.{gathering_begins, gathering_count, gathering_can, gathering_next, gathering_ends}
 use Rattle.node_pool.proofs.closing.gather.Goals as goal

@@ -1,4 +1,4 @@
-use Rattle.std.proofs.Common.{◌≡◌, arith}
+use Rattle.std.proofs.Common.{arith}
 use Rattle.node_pool.proofs.Emptying.{remaining_begins, remaining_whole, remaining_next, remaining_ends}
 use Rattle.node_pool.proofs.closing.remains.Goals as goal
 

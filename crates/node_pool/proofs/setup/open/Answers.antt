@@ -1,4 +1,4 @@
-use Rattle.std.proofs.Common.{◌≡◌, ◌<◌, ◌∙◌, ap, sym, length, map, Some, vec_len, arith, rules, All}
+use Rattle.std.proofs.Common.{◌≡◌, ◌<◌, ◌∙◌, sym, length, map, Some, vec_len, arith, rules, All}
 use Rattle.std.proofs.lemmas.List.{length-map}
 use Rattle.crossbeam_deque.specs.Handles.{worker_deque}
 use Rattle.node_pool.specs.Pool.{home_of, IsWholePool, AreSeats}
@@ -17,20 +17,28 @@ seated-requires-send-T g c κs within =
     let count : vec_len c.in_ok-owners.owners ≡ vec_len c.all_ways.new.owners = omega (arith, c.in_ok-owners.owners.ok.0, c.all_ways.new.owners.ok.0) in
     let some : 0 < length c.all_ways.new.owners.items = omega (arith, c.in_ok-owners.owners.ok.0, c.in_ok-owners.ensures.count) in
     let home : first_home c.in_ok-owners.owners.items ≡ first_home c.all_ways.new.owners.items =
-        sym (first_home_is (first_home c.in_ok-owners.owners.items) (vec_len c.in_ok-owners.owners) c.all_ways.new.owners.items some c.in_ok-rows.ensures.left) in
-    (search rules, (search rules, (search rules, (
-      fresh_for _ _ _ _ _ home count c.in_ok-rows.ensures.left,
-      (omega (arith, c.in_ok-owners.ensures.count), rows_for _ _ _ _ _ _ _ home (sym c.in_ok-rows.ensures.same) count c.in_ok-rows.ensures.rows),
-    ))))
+    sym (first_home_is (first_home c.in_ok-owners.owners.items) (vec_len c.in_ok-owners.owners) c.all_ways.new.owners.items some c.in_ok-rows.ensures.left) in (
+      search rules,
+      (
+        search rules,
+        (
+          search rules,
+          (
+            fresh_for _ _ _ _ _ home count c.in_ok-rows.ensures.left,
+            (omega (arith, c.in_ok-owners.ensures.count), rows_for _ _ _ _ _ _ _ home (sym c.in_ok-rows.ensures.same) count c.in_ok-rows.ensures.rows),
+          ),
+        ),
+      ),
+    )
 
 pub returns-clause-pool : goal.returns-clause-pool
 returns-clause-pool g c =
     let n = length-map c.all_ways.new.owners.items worker_deque in
     ok_then c.seated.result
-        (λ seats. (vec_len seats ≡ vec_len c.all_ways.new.owners) × AreSeats (first_home c.all_ways.new.owners.items) (map worker_deque c.all_ways.new.owners.items) seats.items)
-        (λ seats. IsWholePool seats.items)
-        (λ seats h. whole_pool (first_home c.all_ways.new.owners.items) (map worker_deque c.all_ways.new.owners.items) seats.items (omega (arith, h.0, seats.ok.0, c.all_ways.new.owners.ok.0)) h.1)
-        (ok_both c.seated.result _ _ c.seated.ensures.count c.seated.ensures.seats)
+    (λ seats. (vec_len seats ≡ vec_len c.all_ways.new.owners) × AreSeats (first_home c.all_ways.new.owners.items) (map worker_deque c.all_ways.new.owners.items) seats.items)
+    (λ seats. IsWholePool seats.items)
+    (λ seats h. whole_pool (first_home c.all_ways.new.owners.items) (map worker_deque c.all_ways.new.owners.items) seats.items (omega (arith, h.0, seats.ok.0, c.all_ways.new.owners.ok.0)) h.1)
+    (ok_both c.seated.result _ _ c.seated.ensures.count c.seated.ensures.seats)
 
 pub returns-clause-home : goal.returns-clause-home
 returns-clause-home g c =
@@ -38,10 +46,10 @@ returns-clause-home g c =
     let some : 0 < length c.all_ways.new.owners.items = omega (arith, c.in_ok-owners.owners.ok.0, c.in_ok-owners.ensures.count) in
     let were : 0 < length c.in_ok-owners.owners.items = omega arith in
     let home : first_home c.all_ways.new.owners.items ≡ Some c.args.ground.now =
-        first_home_is (first_home c.in_ok-owners.owners.items) (vec_len c.in_ok-owners.owners) c.all_ways.new.owners.items some c.in_ok-rows.ensures.left
-            ∙ first_home_is (Some c.args.ground.now) 0 c.in_ok-owners.owners.items were c.in_ok-owners.ensures.fresh in
+    first_home_is (first_home c.in_ok-owners.owners.items) (vec_len c.in_ok-owners.owners) c.all_ways.new.owners.items some c.in_ok-rows.ensures.left
+    ∙ first_home_is (Some c.args.ground.now) 0 c.in_ok-owners.owners.items were c.in_ok-owners.ensures.fresh in
     ok_then c.seated.result
-        (λ seats. AreSeats (first_home c.all_ways.new.owners.items) (map worker_deque c.all_ways.new.owners.items) seats.items)
-        (λ seats. All (λ seat. home_of seat ≡ Some c.args.ground.now) seats.items)
-        (λ seats h. all_home (first_home c.all_ways.new.owners.items) (map worker_deque c.all_ways.new.owners.items) seats.items (Some c.args.ground.now) home h)
-        c.seated.ensures.seats
+    (λ seats. AreSeats (first_home c.all_ways.new.owners.items) (map worker_deque c.all_ways.new.owners.items) seats.items)
+    (λ seats. All (λ seat. home_of seat ≡ Some c.args.ground.now) seats.items)
+    (λ seats h. all_home (first_home c.all_ways.new.owners.items) (map worker_deque c.all_ways.new.owners.items) seats.items (Some c.args.ground.now) home h)
+    c.seated.ensures.seats

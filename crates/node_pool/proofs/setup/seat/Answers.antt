@@ -1,4 +1,4 @@
-use Rattle.std.proofs.Common.{refl, arith, ap, ◌∙◌, ◌+◌, ◌-◌, ◌≡◌, length}
+use Rattle.std.proofs.Common.{arith, ap, ◌∙◌, ◌+◌, ◌-◌, ◌≡◌, length}
 use Rattle.node_pool.proofs.Seating.{seat_fresh, seat_rights}
 use Rattle.node_pool.proofs.setup.seat.Goals as goal
 

@@ -1,4 +1,4 @@
-use Rattle.std.proofs.Common.{◌≡◌, length, map, sym, subst, arith, ℕ, ◌∙◌, rules}
+use Rattle.std.proofs.Common.{◌≡◌, length, map, sym, subst, arith, ℕ, ◌∙◌}
 use Rattle.crossbeam_deque.specs.Handles.{worker_deque}
 use Rattle.node_pool.proofs.Seating.{Last, seating_popped, seating_last, seating_next, seating_ends, seat_owner, seat_ways}
 use Rattle.node_pool.proofs.setup.seated.Goals as goal
@@ -6,48 +6,48 @@ use Rattle.node_pool.proofs.setup.seated.Goals as goal
 pub seat-seat-requires-clause-few : goal.seat-seat-requires-clause-few
 seat-seat-requires-clause-few g c =
     let old = seating_popped g.home (length c.args.owners.items) (map worker_deque c.args.owners.items) c.seats.owners.items c.pop.new.self.items c.in-Some.owner c.seats.rows.items c.pop-in-Some.new.self.items c.in-Some-pop.reaches c.seats.seats.items
-        c.in-Some.ensures.items c.in-Some-pop.ensures.items c.seats.invariant in
+    c.in-Some.ensures.items c.in-Some-pop.ensures.items c.seats.invariant in
     let number : c.len.result ≡ length c.pop.new.self.items = omega (arith, c.len.ensures, c.pop.new.self.ok.0) in
     let last = subst (λ (k : ℕ). Last g.home (length c.args.owners.items) (map worker_deque c.args.owners.items) k c.in-Some.owner c.in-Some-pop.reaches.items) (sym number)
-        (seating_last g.home (length c.args.owners.items) (map worker_deque c.args.owners.items) c.pop.new.self.items c.in-Some.owner c.pop-in-Some.new.self.items c.in-Some-pop.reaches c.seats.seats.items old) in
+    (seating_last g.home (length c.args.owners.items) (map worker_deque c.args.owners.items) c.pop.new.self.items c.in-Some.owner c.pop-in-Some.new.self.items c.in-Some-pop.reaches c.seats.seats.items old) in
     omega (arith, last.size, last.few)
 
 pub seat-seat-requires-clause-own : goal.seat-seat-requires-clause-own
 seat-seat-requires-clause-own g c = λ _ _.
     let old = seating_popped g.home (length c.args.owners.items) (map worker_deque c.args.owners.items) c.seats.owners.items c.pop.new.self.items c.in-Some.owner c.seats.rows.items c.pop-in-Some.new.self.items c.in-Some-pop.reaches c.seats.seats.items
-        c.in-Some.ensures.items c.in-Some-pop.ensures.items c.seats.invariant in
+    c.in-Some.ensures.items c.in-Some-pop.ensures.items c.seats.invariant in
     let number : c.len.result ≡ length c.pop.new.self.items = omega (arith, c.len.ensures, c.pop.new.self.ok.0) in
     let last = subst (λ (k : ℕ). Last g.home (length c.args.owners.items) (map worker_deque c.args.owners.items) k c.in-Some.owner c.in-Some-pop.reaches.items) (sym number)
-        (seating_last g.home (length c.args.owners.items) (map worker_deque c.args.owners.items) c.pop.new.self.items c.in-Some.owner c.pop-in-Some.new.self.items c.in-Some-pop.reaches c.seats.seats.items old) in
+    (seating_last g.home (length c.args.owners.items) (map worker_deque c.args.owners.items) c.pop.new.self.items c.in-Some.owner c.pop-in-Some.new.self.items c.in-Some-pop.reaches c.seats.seats.items old) in
     last.own
 
 pub seat-seat-requires-clause-owner : goal.seat-seat-requires-clause-owner
 seat-seat-requires-clause-owner g c = λ _ _.
     let old = seating_popped g.home (length c.args.owners.items) (map worker_deque c.args.owners.items) c.seats.owners.items c.pop.new.self.items c.in-Some.owner c.seats.rows.items c.pop-in-Some.new.self.items c.in-Some-pop.reaches c.seats.seats.items
-        c.in-Some.ensures.items c.in-Some-pop.ensures.items c.seats.invariant in
+    c.in-Some.ensures.items c.in-Some-pop.ensures.items c.seats.invariant in
     let number : c.len.result ≡ length c.pop.new.self.items = omega (arith, c.len.ensures, c.pop.new.self.ok.0) in
     let last = subst (λ (k : ℕ). Last g.home (length c.args.owners.items) (map worker_deque c.args.owners.items) k c.in-Some.owner c.in-Some-pop.reaches.items) (sym number)
-        (seating_last g.home (length c.args.owners.items) (map worker_deque c.args.owners.items) c.pop.new.self.items c.in-Some.owner c.pop-in-Some.new.self.items c.in-Some-pop.reaches c.seats.seats.items old) in
+    (seating_last g.home (length c.args.owners.items) (map worker_deque c.args.owners.items) c.pop.new.self.items c.in-Some.owner c.pop-in-Some.new.self.items c.in-Some-pop.reaches c.seats.seats.items old) in
     seat_owner _ _ _ _ _ _ last
 
 pub seat-seat-requires-clause-ways : goal.seat-seat-requires-clause-ways
 seat-seat-requires-clause-ways g c = λ _ _.
     let old = seating_popped g.home (length c.args.owners.items) (map worker_deque c.args.owners.items) c.seats.owners.items c.pop.new.self.items c.in-Some.owner c.seats.rows.items c.pop-in-Some.new.self.items c.in-Some-pop.reaches c.seats.seats.items
-        c.in-Some.ensures.items c.in-Some-pop.ensures.items c.seats.invariant in
+    c.in-Some.ensures.items c.in-Some-pop.ensures.items c.seats.invariant in
     let number : c.len.result ≡ length c.pop.new.self.items = omega (arith, c.len.ensures, c.pop.new.self.ok.0) in
     let last = subst (λ (k : ℕ). Last g.home (length c.args.owners.items) (map worker_deque c.args.owners.items) k c.in-Some.owner c.in-Some-pop.reaches.items) (sym number)
-        (seating_last g.home (length c.args.owners.items) (map worker_deque c.args.owners.items) c.pop.new.self.items c.in-Some.owner c.pop-in-Some.new.self.items c.in-Some-pop.reaches c.seats.seats.items old) in
+    (seating_last g.home (length c.args.owners.items) (map worker_deque c.args.owners.items) c.pop.new.self.items c.in-Some.owner c.pop-in-Some.new.self.items c.in-Some-pop.reaches c.seats.seats.items old) in
     seat_ways _ _ _ _ _ _ last
 
 pub seats-preserved : goal.seats-preserved
 seats-preserved g c =
     let old = seating_popped g.home (length c.args.owners.items) (map worker_deque c.args.owners.items) c.seats.owners.items c.pop.new.self.items c.in-Some.owner c.seats.rows.items c.pop-in-Some.new.self.items c.in-Some-pop.reaches c.seats.seats.items
-        c.in-Some.ensures.items c.in-Some-pop.ensures.items c.seats.invariant in
+    c.in-Some.ensures.items c.in-Some-pop.ensures.items c.seats.invariant in
     let number : c.len.result ≡ length c.pop.new.self.items = omega (arith, c.len.ensures, c.pop.new.self.ok.0) in
     let last = subst (λ (k : ℕ). Last g.home (length c.args.owners.items) (map worker_deque c.args.owners.items) k c.in-Some.owner c.in-Some-pop.reaches.items) (sym number)
-        (seating_last g.home (length c.args.owners.items) (map worker_deque c.args.owners.items) c.pop.new.self.items c.in-Some.owner c.pop-in-Some.new.self.items c.in-Some-pop.reaches c.seats.seats.items old) in
+    (seating_last g.home (length c.args.owners.items) (map worker_deque c.args.owners.items) c.pop.new.self.items c.in-Some.owner c.pop-in-Some.new.self.items c.in-Some-pop.reaches c.seats.seats.items old) in
     seating_next g.home (length c.args.owners.items) (map worker_deque c.args.owners.items) c.pop.new.self.items c.in-Some.owner c.pop-in-Some.new.self.items c.in-Some-pop.reaches c.seats.seats.items c.seat-seat.result c.push.new.self.items
-        c.in_ok-push.ensures.items old (c.seat-seat.ensures.place.0 ∙ number) c.seat-seat.ensures.place.1 c.seat-seat.ensures.place.2 c.seat-seat.ensures.fresh
+    c.in_ok-push.ensures.items old (c.seat-seat.ensures.place.0 ∙ number) c.seat-seat.ensures.place.1 c.seat-seat.ensures.place.2 c.seat-seat.ensures.fresh
 
 pub returns-clause-seats : goal.returns-clause-seats
 returns-clause-seats g c = rw c.reverse.ensures.items (seating_ends g.home (length c.args.owners.items) (map worker_deque c.args.owners.items) c.seats.owners.items c.seats.rows.items c.seats.seats.items

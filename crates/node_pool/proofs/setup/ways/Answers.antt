@@ -2,7 +2,7 @@ use Rattle.std.proofs.Common.{◌≡◌, length, [], ap, ◌∙◌, arith}
 use Rattle.node_pool.specs.Rule.{hand}
 use Rattle.node_pool.specs.Reaches.{share}
 use Rattle.crossbeam_deque.specs.Handles.{worker_deque}
-use Rattle.node_pool.proofs.Kept.{partly_none, partly_next, partly_all, partly_room, partly_home, same_deques}
+use Rattle.node_pool.proofs.Kept.{partly_next, partly_all, partly_room, partly_home, same_deques}
 use Rattle.node_pool.proofs.NewWays.{same_length, owner_at, pool_next, ways_next}
 use Rattle.node_pool.proofs.setup.ways.Goals as goal
 

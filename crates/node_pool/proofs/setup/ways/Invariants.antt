@@ -1,4 +1,4 @@
-use Rattle.std.proofs.Common.{◌≡◌, ◌≤◌, map, take, vec_len}
+use Rattle.std.proofs.Common.{◌≡◌, map, take}
 use Rattle.crossbeam_deque.specs.Handles.{worker_deque}
 use Rattle.node_pool.specs.Reaches.{pool_by}
 use Rattle.node_pool.specs.Opening.{AreNewWays}
