@@ -109,6 +109,12 @@ module _ {T G : Type 0} where
   seating_popped home n pool before owners o ways rows w seats e f s =
       subst (λ (p : List (Owner T G) × List (Vec (Reach T G) Global)). Seating home n pool p.0 p.1 seats) (λ i. (e i, f i)) s
 
+  -- so what was popped is the last, by whatever number
+  pub seating_top : (home : Option G) (pool : List Deque) (before owners : List (Owner T G)) (o : Owner T G) (ways rows : List (Vec (Reach T G) Global)) (w : Vec (Reach T G) Global) (seats : List (Seat T G)) (n number : ℕ)
+      → before ≡ owners ++ o ∷ [] → ways ≡ rows ++ w ∷ [] → number ≡ length owners → Seating home n pool before ways seats → Last home n pool number o w.items
+  seating_top home pool before owners o ways rows w seats n number e f place s =
+      subst (λ (k : ℕ). Last home n pool k o w.items) (sym place) (seating_last home n pool owners o rows w seats (seating_popped home n pool before owners o ways rows w seats e f s))
+
   nothing_got : (home : Option G) (number : ℕ) (ways : List (Reach T G)) → ((k : ℕ) (r : Reach T G) → slice_get ways k ≡ Some r → (view r.right).got ≡ []) → flat_map (λ (r : Reach T G). (view r.right).got) ways ≡ []
   nothing_got home number [] none = refl
   nothing_got home number (r ∷ rs) none = ap (λ l. l ++ flat_map (λ (r : Reach T G). (view r.right).got) rs) (none 0 r refl) ∙ nothing_got home number rs (λ k. none (suc k))
