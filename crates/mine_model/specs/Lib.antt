@@ -8,3 +8,4 @@ pub mod Support
 pub mod Answer
 pub mod AnswerText
 pub mod Narrow
+pub mod Labels

@@ -1,0 +1,14 @@
+pub mod Views
+pub mod Steps
+pub mod Lists
+pub mod Ways
+pub mod Dry
+pub mod Kept
+pub mod NewWays
+pub mod Seating
+pub mod Opened
+pub mod Returning
+pub mod Gathering
+pub mod Emptying
+pub mod Finishing
+pub mod Trials

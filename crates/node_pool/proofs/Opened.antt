@@ -1,0 +1,25 @@
+-- What is known of an open pool.
+use Rattle.std.proofs.Common.{◌≡◌, List, Option, Result, Ok, Err, IfOk, All, ◌∙◌, get_or, length}
+use Rattle.std.proofs.lemmas.Option.{slice_get-get_or}
+use Rattle.node_pool.specs.declared.seat.Seat.{Seat}
+use Rattle.node_pool.specs.Reaches.{Deque}
+use Rattle.node_pool.specs.Pool.{home_of, IsFresh, IsWholePool, AreSeats}
+
+-- what follows of the value in an Ok
+pub ok_then : {X E : Type 0} (r : Result X E) (P Q : X → Type 0) → ((x : X) → P x → Q x) → IfOk r P → IfOk r Q
+ok_then (Ok x) P Q f p = f x p
+ok_then (Err e) P Q f p = p
+
+pub ok_both : {X E : Type 0} (r : Result X E) (P Q : X → Type 0) → IfOk r P → IfOk r Q → IfOk r (λ x. P x × Q x)
+ok_both (Ok x) P Q p q = (p, q)
+ok_both (Err e) P Q p q = p
+
+module _ {T G : Type 0} (home : Option G) (deques : List Deque) (seats : List (Seat T G)) where
+  pub whole_pool : length deques ≡ length seats → AreSeats home deques seats → IsWholePool seats
+  whole_pool size all = (deques, home, size, λ k s e. let a = all k s e in (a.0, a.1, a.2))
+
+  pub all_fresh : AreSeats home deques seats → All IsFresh seats
+  all_fresh all k d within = (all k (get_or seats k d) (slice_get-get_or seats k d within)).3
+
+  pub all_home : (h : Option G) → home ≡ h → AreSeats home deques seats → All (λ s. home_of s ≡ h) seats
+  all_home h is all k d within = (all k (get_or seats k d) (slice_get-get_or seats k d within)).2 ∙ is

@@ -1,0 +1,17 @@
+//! Work-stealing pools: each seat has a deque of its own, and takes the oldest tasks of the others.
+#![tactic(auto)]
+
+mod closing;
+mod play;
+mod reach;
+mod rule;
+mod seat;
+mod setup;
+mod task;
+#[cfg(test)]
+mod tests;
+
+pub use closing::finish;
+pub use seat::Seat;
+pub use setup::open;
+pub use task::Task;
