@@ -1,5 +1,5 @@
 -- Outputs by their numbers.
-use Rattle.std.proofs.Common.{◌≡◌, ◌≢◌, ℕ, zero, suc, ◌+◌, ◌<◌, ◌≤◌, Bool, true, false, cond, ◌&&◌, eqb, ◌⊎◌, Option, Some, None, List, [], ◌∷◌, ◌++◌, length, get_or, refl, sym, subst, ap, ◌∙◌, inl, inr, arith, length-append, append_assoc, ◌-◌, Result, Ok, Err, IfOk, OnErr}
+use Rattle.std.proofs.Common.{◌≡◌, ℕ, zero, suc, ◌+◌, ◌<◌, ◌≤◌, Bool, true, false, cond, ◌&&◌, eqb, ◌⊎◌, Option, Some, None, List, [], ◌∷◌, ◌++◌, length, get_or, refl, sym, subst, ap, ◌∙◌, inl, inr, arith, length-append, append_assoc, ◌-◌, Result, Ok, Err, IfOk, OnErr}
 use Rattle.std.specs.Prelude.{reverse}
 use Rattle.std.specs.HashMap.{HashMap, get, IsUnchanged, Updates}
 use Rattle.std.specs.Map.{lookup}
@@ -11,7 +11,7 @@ use Rattle.std.proofs.lemmas.Grind.{fold-append}
 use Rattle.std.proofs.lemmas.Option.{same_Some, none-some, slice_get-get_or, slice_get_within, slice_get_read, get_or_from_slice_get}
 use Rattle.mine_model.specs.declared.item.Item.{Item}
 use Rattle.desq_run.specs.declared.evaluator.outputs.Node.{Node}
-use Rattle.desq_run.specs.OutputIds.{AreDistinct, Extends, AreIds, Holds}
+use Rattle.desq_run.specs.OutputIds.{AreDistinct, Extends}
 use Rattle.desq_run.specs.OutputTrie.{with_output, outputs_of, pair_eq, IsTrie}
 
 pub get_left : {X : Type 0} (xs ys : List X) (i : ℕ) (x : X) → slice_get xs i ≡ Some x → slice_get (xs ++ ys) i ≡ Some x
@@ -38,7 +38,7 @@ extends_refl outputs = record { kept = λ id output h. h; distinct = λ h. h }
 pub extends_trans : (old middle new : List (List Item)) → Extends old middle → Extends middle new → Extends old new
 extends_trans old middle new first second = record {
   kept = λ id output h. second.kept id output (first.kept id output h);
-  distinct = λ h. second.distinct (first.distinct h)
+  distinct = λ h. second.distinct (first.distinct h);
 }
 
 -- ---- the outputs of nodes
@@ -117,19 +117,19 @@ same_key found node other k l e f h g =
 distinct_below : (nodes : List Node) (found : ℕ × ℕ → Option ℕ) → IsTrie nodes found → (n i j : ℕ) (output : List Item) → i < n → slice_get (outputs_of nodes) i ≡ Some output → slice_get (outputs_of nodes) j ≡ Some output → i ≡ j
 distinct_below nodes found trie zero i j output below h g = absurd (omega arith)
 distinct_below nodes found trie (suc n) i j output below h g = elim (empty_or_longer nodes found trie i output h) [
-    inl first ↦ elim (empty_or_longer nodes found trie j output g) [
-        inl second ↦ first.0 ∙ sym second.0
-      | inr second ↦ absurd (append_not_nil second.2 second.1.item (sym first.1 ∙ second.7))
-      ]
-  | inr first ↦ elim (empty_or_longer nodes found trie j output g) [
-        inl second ↦ absurd (append_not_nil first.2 first.1.item (sym second.1 ∙ first.7))
-      | inr second ↦
-          let parts = same_from_push first.2 second.2 first.1.item second.1.item (sym first.7 ∙ second.7) in
-          let less : first.1.shorter < n = omega (arith, first.3, first.5, below) in
-          let shorter = distinct_below nodes found trie n first.1.shorter second.1.shorter second.2 less (first.6 ∙ ap (λ (xs : List Item). Some xs) parts.0) second.6 in
-          first.3 ∙ same_key found first.1 second.1 first.0 second.0 shorter parts.1 (trie.each first.0 first.1 first.4) (trie.each second.0 second.1 second.4) ∙ sym second.3
-      ]
+  | inl first ↦ elim (empty_or_longer nodes found trie j output g) [
+    | inl second ↦ first.0 ∙ sym second.0
+    | inr second ↦ absurd (append_not_nil second.2 second.1.item (sym first.1 ∙ second.7))
   ]
+  | inr first ↦ elim (empty_or_longer nodes found trie j output g) [
+    | inl second ↦ absurd (append_not_nil first.2 first.1.item (sym second.1 ∙ first.7))
+    | inr second ↦
+        let parts = same_from_push first.2 second.2 first.1.item second.1.item (sym first.7 ∙ second.7) in
+        let less : first.1.shorter < n = omega (arith, first.3, first.5, below) in
+        let shorter = distinct_below nodes found trie n first.1.shorter second.1.shorter second.2 less (first.6 ∙ ap (λ (xs : List Item). Some xs) parts.0) second.6 in
+        first.3 ∙ same_key found first.1 second.1 first.0 second.0 shorter parts.1 (trie.each first.0 first.1 first.4) (trie.each second.0 second.1 second.4) ∙ sym second.3
+  ]
+]
 
 pub distinct_of_trie : (nodes : List Node) (found : ℕ × ℕ → Option ℕ) → IsTrie nodes found → AreDistinct (outputs_of nodes)
 distinct_of_trie nodes found trie = record { same = λ i j output h g. distinct_below nodes found trie (suc i) i j output (omega arith) h g }
@@ -138,7 +138,7 @@ pub trie_of_none : (found : ℕ × ℕ → Option ℕ) → ((key : ℕ × ℕ) �
 trie_of_none found none = record {
   earlier = λ k node h. absurd (none-some node h);
   exact = λ key id h. absurd (none-some id (sym (none key) ∙ h));
-  each = λ k node h. absurd (none-some node h)
+  each = λ k node h. absurd (none-some node h);
 }
 
 -- ---- one more node
@@ -157,38 +157,38 @@ pair_same x y e f = ap (λ (n : ℕ). let p : ℕ × ℕ = (n, x.1) in p) e ∙ 
 
 pub changes_from_update : (found found' : ℕ × ℕ → Option ℕ) (key : ℕ × ℕ) (id : ℕ) → ((q : ℕ × ℕ) → found' q ≡ cond (pair_eq key q) (Some id) (found q)) → Changes found found' key id
 changes_from_update found found' key id h q = elim (both_or_not (eqb key.0 q.0) (eqb key.1 q.1) (Some id) (found q) (found' q) (h q)) [
-    inl e ↦ inl (pair_same key q (eqb-true key.0 q.0 e.0) (eqb-true key.1 q.1 e.1), e.2)
+  | inl e ↦ inl (pair_same key q (eqb-true key.0 q.0 e.0) (eqb-true key.1 q.1 e.1), e.2)
   | inr e ↦ inr (λ same. e.0 (eq-eqb key.0 q.0 (ap (λ (p : ℕ × ℕ). p.0) same), eq-eqb key.1 q.1 (ap (λ (p : ℕ × ℕ). p.1) same)), e.1)
-  ]
+]
 
 pub trie_push : (nodes : List Node) (found found' : ℕ × ℕ → Option ℕ) (node : Node) → IsTrie nodes found → node.shorter ≤ length nodes → found (node.shorter, node.item.0) ≡ None → Changes found found' (node.shorter, node.item.0) (length nodes + 1) → IsTrie (nodes ++ node ∷ []) found'
 trie_push nodes found found' node trie below none changes = record {
   earlier = λ k n at. elim (get_push_cases nodes node k n at) [
-      inl old ↦ trie.earlier k n old
+    | inl old ↦ trie.earlier k n old
     | inr new ↦ subst (λ (m : Node). m.shorter ≤ k) new.1 (omega (arith, new.0, below))
-    ];
+  ];
   exact = λ key id at. elim (changes key) [
-      inl same ↦ (length nodes, node, same_Some _ _ (sym at ∙ same.1), get_seam nodes [] node (length nodes) refl, ap (λ (p : ℕ × ℕ). p.0) same.0, ap (λ (p : ℕ × ℕ). p.1) same.0)
+    | inl same ↦ (length nodes, node, same_Some _ _ (sym at ∙ same.1), get_seam nodes [] node (length nodes) refl, ap (λ (p : ℕ × ℕ). p.0) same.0, ap (λ (p : ℕ × ℕ). p.1) same.0)
     | inr other ↦
         let old = trie.exact key id (sym other.1 ∙ at) in
         (old.0, old.1, old.2, get_left nodes (node ∷ []) old.0 old.1 old.3, old.4, old.5)
-    ];
+  ];
   each = λ k n at. elim (get_push_cases nodes node k n at) [
-      inl old ↦ elim (changes (n.shorter, n.item.0)) [
-          inl same ↦ absurd (none-some (k + 1) (sym none ∙ ap found same.0 ∙ trie.each k n old))
-        | inr other ↦ other.1 ∙ trie.each k n old
-        ]
-    | inr new ↦ elim (changes (n.shorter, n.item.0)) [
-          inl same ↦ same.1 ∙ ap (λ (m : ℕ). Some (m + 1)) (sym new.0)
-        | inr other ↦ absurd (other.0 (ap (λ (m : Node). let p : ℕ × ℕ = (m.shorter, m.item.0) in p) new.1))
-        ]
+    | inl old ↦ elim (changes (n.shorter, n.item.0)) [
+      | inl same ↦ absurd (none-some (k + 1) (sym none ∙ ap found same.0 ∙ trie.each k n old))
+      | inr other ↦ other.1 ∙ trie.each k n old
     ]
+    | inr new ↦ elim (changes (n.shorter, n.item.0)) [
+      | inl same ↦ same.1 ∙ ap (λ (m : ℕ). Some (m + 1)) (sym new.0)
+      | inr other ↦ absurd (other.0 (ap (λ (m : Node). let p : ℕ × ℕ = (m.shorter, m.item.0) in p) new.1))
+    ]
+  ];
 }
 
 pub extends_push : (nodes : List Node) (found' : ℕ × ℕ → Option ℕ) (node : Node) → IsTrie (nodes ++ node ∷ []) found' → Extends (outputs_of nodes) (outputs_of (nodes ++ node ∷ []))
 extends_push nodes found' node trie = record {
   kept = λ id output h. rw (outputs_push nodes node) (get_left (outputs_of nodes) _ id output h);
-  distinct = λ h. distinct_of_trie (nodes ++ node ∷ []) found' trie
+  distinct = λ h. distinct_of_trie (nodes ++ node ∷ []) found' trie;
 }
 
 pub appended_push : (nodes : List Node) (node : Node) (id : ℕ) (output : List Item) → id ≡ length nodes + 1 → slice_get (outputs_of nodes) node.shorter ≡ Some output → slice_get (outputs_of (nodes ++ node ∷ [])) id ≡ Some (output ++ node.item ∷ [])
@@ -208,7 +208,7 @@ trie_same : (nodes : List Node) (found found' : ℕ × ℕ → Option ℕ) → (
 trie_same nodes found found' same trie = record {
   earlier = trie.earlier;
   exact = λ key id h. trie.exact key id (sym (same key) ∙ h);
-  each = λ k node h. same (node.shorter, node.item.0) ∙ trie.each k node h
+  each = λ k node h. same (node.shorter, node.item.0) ∙ trie.each k node h;
 }
 
 -- what adding a node makes of the outputs
@@ -232,15 +232,16 @@ added longer longer' nodes nodes' (Ok id) shorter item e u err trie below none =
     record {
       trie = rw e.1 next;
       extends = rw e.1 (extends_push nodes (get pair_eq longer') node next);
-      appended = λ output h. rw e.1 (appended_push nodes node id output e.0 h)
+      appended = λ output h. rw e.1 (appended_push nodes node id output e.0 h);
     }
 added longer longer' nodes nodes' (Err no_memory) shorter item e u err trie below none =
     let same : (key : ℕ × ℕ) → get pair_eq longer' key ≡ get pair_eq longer key = λ key. ap (λ (es : List ((ℕ × ℕ) × ℕ)). lookup (pair_eq key) es) err.1 in
     record {
       trie = rw err.0 (trie_same nodes (get pair_eq longer) (get pair_eq longer') same trie);
       extends = rw err.0 (extends_refl (outputs_of nodes));
-      appended = tt
+      appended = tt;
     }
+
 -- ---- the way back from a number to its output
 
 -- the output of id is that of rest with the items after it, the last one first
@@ -251,7 +252,7 @@ pub record IsOnTheWay (nodes : List Node) (id rest : ℕ) (items : List Item) : 
 pub way_begins : (nodes : List Node) (id : ℕ) → id < length (outputs_of nodes) → IsOnTheWay nodes id id []
 way_begins nodes id below = record {
   below = omega (arith, length_outputs nodes);
-  ends = λ output h. h ∙ ap (λ (xs : List Item). Some xs) (sym (append-nil output))
+  ends = λ output h. h ∙ ap (λ (xs : List Item). Some xs) (sym (append-nil output));
 }
 
 pub way_goes_on : (nodes : List Node) (found : ℕ × ℕ → Option ℕ) (id rest : ℕ) (items : List Item) (node : Node) → IsTrie nodes found → 0 < rest → node ≡ get_or nodes (rest - 1) node → IsOnTheWay nodes id rest items → (node.shorter < rest) × IsOnTheWay nodes id node.shorter (items ++ node.item ∷ [])
@@ -259,12 +260,12 @@ way_goes_on nodes found id rest items node trie positive is way =
     let here : slice_get nodes (rest - 1) ≡ Some node = slice_get_read nodes (length nodes) (rest - 1) node refl (omega (arith, way.below)) is in
     let earlier = trie.earlier (rest - 1) node here in
     let one_more : rest - 1 + 1 ≡ rest = omega arith in
-    let at_rest : (output : List Item) → slice_get (outputs_of nodes) node.shorter ≡ Some output → slice_get (outputs_of nodes) rest ≡ Some (output ++ node.item ∷ []) = λ output h. subst (λ (m : ℕ). slice_get (outputs_of nodes) m ≡ Some (output ++ node.item ∷ [])) one_more (outputs_at nodes (rest - 1) node output here earlier h) in
-    ( omega (arith, earlier)
-    , record {
+    let at_rest : (output : List Item) → slice_get (outputs_of nodes) node.shorter ≡ Some output → slice_get (outputs_of nodes) rest ≡ Some (output ++ node.item ∷ []) = λ output h. subst (λ (m : ℕ). slice_get (outputs_of nodes) m ≡ Some (output ++ node.item ∷ [])) one_more (outputs_at nodes (rest - 1) node output here earlier h) in (
+      omega (arith, earlier),
+      record {
         below = omega (arith, earlier, way.below);
-        ends = λ output h. way.ends (output ++ node.item ∷ []) (at_rest output h) ∙ ap (λ (xs : List Item). Some xs) (append_assoc output (node.item ∷ []) (reverse items) ∙ ap (λ (xs : List Item). output ++ xs) (sym (reverse-append items (node.item ∷ []))))
-      }
+        ends = λ output h. way.ends (output ++ node.item ∷ []) (at_rest output h) ∙ ap (λ (xs : List Item). Some xs) (append_assoc output (node.item ∷ []) (reverse items) ∙ ap (λ (xs : List Item). output ++ xs) (sym (reverse-append items (node.item ∷ []))));
+      },
     )
 
 pub way_ends : (nodes : List Node) (id rest : ℕ) (items : List Item) → rest ≡ 0 → IsOnTheWay nodes id rest items → slice_get (outputs_of nodes) id ≡ Some (reverse items)

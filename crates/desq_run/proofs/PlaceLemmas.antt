@@ -1,12 +1,11 @@
 -- Sets of numbers of outputs, and how one more step changes them.
-use Rattle.std.proofs.Common.{◌≡◌, ◌≢◌, ℕ, zero, suc, ◌+◌, ◌-◌, ◌<◌, ◌≤◌, Bool, true, false, eqb, ◌⊎◌, Option, Some, None, List, [], ◌∷◌, ◌++◌, length, get_or, take, drop, refl, sym, subst, ap, ◌∙◌, inl, inr, arith, Result, Ok, Err, IfOk, Vec, Global, Contains, IsPermutation}
+use Rattle.std.proofs.Common.{◌≡◌, ℕ, zero, suc, ◌+◌, ◌-◌, ◌<◌, ◌≤◌, Bool, true, false, eqb, ◌⊎◌, Option, Some, List, [], ◌∷◌, ◌++◌, length, get_or, take, drop, refl, sym, subst, ap, ◌∙◌, inl, inr, arith, Vec, Global, Contains, IsPermutation}
 use Rattle.std.specs.List.{slice_get, dedup}
-use Rattle.std.proofs.lemmas.Bool.{false≢true}
 use Rattle.std.proofs.lemmas.List.{append-nil, drop_more, take_more, take_all, length-take-le}
 use Rattle.std.proofs.lemmas.List.Elements.{Contains-append_left, Contains-append_right, Contains-append_cases, Contains-push, Contains-push_cases}
 use Rattle.std.proofs.lemmas.List.Kept.{Contains-dedup_nat, Contains-from_dedup}
 use Rattle.std.proofs.lemmas.List.Sorted.{Contains-permutation, IsPermutation-sym}
-use Rattle.std.proofs.lemmas.Option.{same_Some, none-some, slice_get-get_or, slice_get_within, get_or_from_slice_get}
+use Rattle.std.proofs.lemmas.Option.{same_Some, none-some, slice_get_within, get_or_from_slice_get}
 use Rattle.mine_model.specs.declared.item.Item.{Item}
 use Rattle.desq_run.specs.declared.evaluator.steps.Step.{Step}
 use Rattle.desq_run.specs.StepMeaning.{IsTaken, written_at, Reaches}
@@ -14,7 +13,7 @@ use Rattle.desq_run.specs.LivePlaces.{IsOpenBefore, AreOpenRows}
 use Rattle.desq_run.specs.OutputIds.{AreIds, Extends, Holds}
 use Rattle.desq_run.specs.PlaceSets.{IsSet, IsRow, AreRowIds, IsHeldAt, IsLonger, IsWritten}
 use Rattle.desq_run.proofs.StepLemmas.{one_on_nothing, one_from_reaches, reaches_one, reaches_skip, reaches_more, star_on_nothing, star_on_more}
-use Rattle.desq_run.proofs.OutputLemmas.{get_left, get_seam, get_push_cases, extends_trans}
+use Rattle.desq_run.proofs.OutputLemmas.{get_push_cases, extends_trans}
 
 abbrev pub Outs : Type 0
 Outs = List (List Item)
@@ -22,19 +21,19 @@ Outs = List (List Item)
 -- ---- members
 
 pub same_members : (ids sorted kept : List ℕ) → IsPermutation ids sorted → kept ≡ dedup eqb sorted → (id : ℕ) → (Contains kept id → Contains ids id) × (Contains ids id → Contains kept id)
-same_members ids sorted kept p e id =
-    ( λ h. Contains-permutation sorted ids id (IsPermutation-sym ids sorted p) (Contains-from_dedup eqb sorted id (subst (λ (xs : List ℕ). Contains xs id) e h))
-    , λ h. subst (λ (xs : List ℕ). Contains xs id) (sym e) (Contains-dedup_nat sorted id (Contains-permutation ids sorted id p h))
-    )
+same_members ids sorted kept p e id = (
+  λ h. Contains-permutation sorted ids id (IsPermutation-sym ids sorted p) (Contains-from_dedup eqb sorted id (subst (λ (xs : List ℕ). Contains xs id) e h)),
+  λ h. subst (λ (xs : List ℕ). Contains xs id) (sym e) (Contains-dedup_nat sorted id (Contains-permutation ids sorted id p h)),
+)
 
 abbrev pub AreBoth : List ℕ → List ℕ → List ℕ → Type 0
 AreBoth all ids others = (id : ℕ) → (Contains all id → Contains ids id ⊎ Contains others id) × (Contains ids id ⊎ Contains others id → Contains all id)
 
 pub both_members : (all joined ids others : List ℕ) → joined ≡ ids ++ others → ((id : ℕ) → (Contains all id → Contains joined id) × (Contains joined id → Contains all id)) → AreBoth all ids others
-both_members all joined ids others e same id =
-    ( λ h. Contains-append_cases ids others id (subst (λ (xs : List ℕ). Contains xs id) e ((same id).0 h))
-    , λ h. (same id).1 (subst (λ (xs : List ℕ). Contains xs id) (sym e) (elim h [ inl l ↦ Contains-append_left ids others id l | inr r ↦ Contains-append_right ids others id r ]))
-    )
+both_members all joined ids others e same id = (
+  λ h. Contains-append_cases ids others id (subst (λ (xs : List ℕ). Contains xs id) e ((same id).0 h)),
+  λ h. (same id).1 (subst (λ (xs : List ℕ). Contains xs id) (sym e) (elim h [ inl l ↦ Contains-append_left ids others id l | inr r ↦ Contains-append_right ids others id r ])),
+)
 
 contains_nothing : {A : Type 0} (id : ℕ) → Contains [] id → A
 contains_nothing id h = absurd (omega (arith, h.1))
@@ -48,7 +47,7 @@ get_some (x ∷ xs) (suc i) below = get_some xs i (omega arith)
 
 pub ids_extend : (old new : Outs) (ids : List ℕ) → Extends old new → AreIds old ids → AreIds new ids
 ids_extend old new ids extends known = record {
-  below = λ id h. (let o = get_some old id (known.below id h) in slice_get_within new id o.0 (extends.kept id o.0 o.1))
+  below = λ id h. (let o = get_some old id (known.below id h) in slice_get_within new id o.0 (extends.kept id o.0 o.1));
 }
 
 pub holds_extend : (old new : Outs) (ids : List ℕ) (output : List Item) → Extends old new → Holds old ids output → Holds new ids output
@@ -64,12 +63,12 @@ pub set_extend : (old new : Outs) (ids : List ℕ) (taken : List Step) (input : 
 set_extend old new ids taken input is_open extends s = record {
   known = ids_extend old new ids extends s.known;
   sound = λ output h. s.sound output (holds_back old new ids output extends s.known h);
-  complete = λ o output h. holds_extend old new ids output extends (s.complete o output h)
+  complete = λ o output h. holds_extend old new ids output extends (s.complete o output h);
 }
 
 pub row_extend : (old new : Outs) (row : List (Vec ℕ Global)) (taken : List Step) (items : List Item) (open_places : List Bool) → Extends old new → IsRow old row taken items open_places → IsRow new row taken items open_places
 row_extend old new row taken items open_places extends r = record {
-  each = λ place set at. set_extend old new set.items taken (take place items) (slice_get open_places place) extends (r.each place set at)
+  each = λ place set at. set_extend old new set.items taken (take place items) (slice_get open_places place) extends (r.each place set at);
 }
 
 pub row_ids_extend : (old new : Outs) (row : List (Vec ℕ Global)) → Extends old new → AreRowIds old row → AreRowIds new row
@@ -78,9 +77,9 @@ row_ids_extend old new row extends r = record { each = λ place set at. ids_exte
 pub row_ids_push : (outputs : Outs) (row : List (Vec ℕ Global)) (set : Vec ℕ Global) → AreRowIds outputs row → AreIds outputs set.items → AreRowIds outputs (row ++ set ∷ [])
 row_ids_push outputs row set r known = record {
   each = λ place other at. elim (get_push_cases row set place other at) [
-      inl old ↦ r.each place other old
+    | inl old ↦ r.each place other old
     | inr new ↦ subst (λ (v : Vec ℕ Global). AreIds outputs v.items) new.1 known
-    ]
+  ];
 }
 
 pub row_ids : (outputs : Outs) (row : List (Vec ℕ Global)) (taken : List Step) (items : List Item) (open_places : List Bool) → IsRow outputs row taken items open_places → AreRowIds outputs row
@@ -89,12 +88,12 @@ row_ids outputs row taken items open_places r = record { each = λ place set at.
 pub row_push : (outputs : Outs) (row : List (Vec ℕ Global)) (set : Vec ℕ Global) (taken : List Step) (items : List Item) (open_places : List Bool) (place : ℕ) → place ≡ length row → IsRow outputs row taken items open_places → IsSet outputs set.items taken (take place items) (slice_get open_places place) → IsRow outputs (row ++ set ∷ []) taken items open_places
 row_push outputs row set taken items open_places place e r s = record {
   each = λ k other at. elim (get_push_cases row set k other at) [
-      inl old ↦ r.each k other old
+    | inl old ↦ r.each k other old
     | inr new ↦
         let here : place ≡ k = e ∙ sym new.0 in
         let at_k : IsSet outputs set.items taken (take k items) (slice_get open_places k) = subst (λ (m : ℕ). IsSet outputs set.items taken (take m items) (slice_get open_places m)) here s in
         subst (λ (v : Vec ℕ Global). IsSet outputs v.items taken (take k items) (slice_get open_places k)) new.1 at_k
-    ]
+  ];
 }
 
 pub row_of_none : (outputs : Outs) (taken : List Step) (items : List Item) (open_places : List Bool) → IsRow outputs [] taken items open_places
@@ -126,21 +125,21 @@ appended_more old middle new longer ids next id id' item e below so_far extends 
     let there : slice_get new id' ≡ Some (source.0 ++ item ∷ []) = appended source.0 (so_far.extends.kept id source.0 source.1) in
     let known : AreIds new (longer ++ id' ∷ []) = record {
       below = λ n h. elim (Contains-push_cases longer id' n h) [
-          inl old_one ↦ (ids_extend middle new longer extends so_far.known).below n old_one
+        | inl old_one ↦ (ids_extend middle new longer extends so_far.known).below n old_one
         | inr new_one ↦ subst (λ (m : ℕ). m < length new) new_one (slice_get_within new id' _ there)
-        ]
+      ];
     } in
     let to : (output : List Item) → Holds new (longer ++ id' ∷ []) output → IsWritten old (ids ++ id ∷ []) true item output = λ output h. elim (Contains-push_cases longer id' h.id h.among) [
-        inl old_one ↦
+      | inl old_one ↦
           let held : Holds new longer output = record { id = h.id; among = old_one; is = h.is } in
           let w = (so_far.exact output).0 (holds_back middle new longer output extends so_far.known held) in
           record { source = w.source; held = record { id = w.held.id; among = Contains-append_left ids (id ∷ []) w.held.id w.held.among; is = w.held.is }; is = w.is }
       | inr new_one ↦
           let same : output ≡ source.0 ++ item ∷ [] = same_Some output (source.0 ++ item ∷ []) (sym h.is ∙ ap (slice_get new) (sym new_one) ∙ there) in
           record { source = source.0; held = record { id = id; among = Contains-push ids id; is = source.1 }; is = same }
-      ] in
+    ] in
     let from : (output : List Item) → IsWritten old (ids ++ id ∷ []) true item output → Holds new (longer ++ id' ∷ []) output = λ output w. elim (Contains-push_cases ids id w.held.id w.held.among) [
-        inl old_one ↦
+      | inl old_one ↦
           let before : IsWritten old ids true item output = record { source = w.source; held = record { id = w.held.id; among = old_one; is = w.held.is }; is = w.is } in
           let h = holds_extend middle new longer output extends ((so_far.exact output).1 before) in
           record { id = h.id; among = Contains-append_left longer (id' ∷ []) h.id h.among; is = h.is }
@@ -148,19 +147,19 @@ appended_more old middle new longer ids next id id' item e below so_far extends 
           let here : slice_get old id ≡ Some w.source = ap (slice_get old) new_one ∙ w.held.is in
           let is : slice_get new id' ≡ Some (w.source ++ item ∷ []) = appended w.source (so_far.extends.kept id w.source here) in
           record { id = id'; among = Contains-push longer id'; is = is ∙ ap (λ (xs : List Item). Some xs) (sym w.is) }
-      ] in
+    ] in
     record {
       extends = extends_trans old middle new so_far.extends extends;
       known = known;
-      exact = λ output. rw e (to output, from output)
+      exact = λ output. rw e (to output, from output);
     }
 
 -- where nothing is written
 pub written_plain : (outputs : Outs) (ids copy : List ℕ) (item : Item) → copy ≡ ids → (output : List Item) → (Holds outputs copy output → IsWritten outputs ids false item output) × (IsWritten outputs ids false item output → Holds outputs copy output)
-written_plain outputs ids copy item e output =
-    ( λ h. record { source = output; held = subst (λ (xs : List ℕ). Holds outputs xs output) e h; is = sym (append-nil output) }
-    , λ w. subst (λ (xs : List ℕ). Holds outputs xs output) (sym e) (subst (λ (xs : List Item). Holds outputs ids xs) (sym (w.is ∙ append-nil w.source)) w.held)
-    )
+written_plain outputs ids copy item e output = (
+  λ h. record { source = output; held = subst (λ (xs : List ℕ). Holds outputs xs output) e h; is = sym (append-nil output) },
+  λ w. subst (λ (xs : List ℕ). Holds outputs xs output) (sym e) (subst (λ (xs : List Item). Holds outputs ids xs) (sym (w.is ∙ append-nil w.source)) w.held),
+)
 
 -- ---- one more step
 
@@ -175,10 +174,10 @@ SetSound outputs ids taken input = (output : List Item) → Holds outputs ids ou
 
 -- what a longer output of a sound row says
 adds_from_longer : (outputs : Outs) (row : List (Vec ℕ Global)) (taken : List Step) (items : List Item) (open_places : List Bool) (step : Step) (place : ℕ) (output : List Item) → IsRow outputs row taken items open_places → (h : IsLonger outputs row step items place output) → (take place items ≡ take h.earlier items ++ h.item ∷ []) × Reaches taken (take h.earlier items) h.source
-adds_from_longer outputs row taken items open_places step place output r h =
-    ( ap (λ (k : ℕ). take k items) h.next ∙ take_next items h.earlier h.item h.at
-    , (r.each h.earlier h.held.set h.held.at).sound h.source h.held.held
-    )
+adds_from_longer outputs row taken items open_places step place output r h = (
+  ap (λ (k : ℕ). take k items) h.next ∙ take_next items h.earlier h.item h.at,
+  (r.each h.earlier h.held.set h.held.at).sound h.source h.held.held,
+)
 
 -- the row has a set at each place
 pub has_set : (row : List (Vec ℕ Global)) (items : List Item) (k : ℕ) → length row ≡ length items + 1 → k ≤ length items → (set : Vec ℕ Global) × (slice_get row k ≡ Some set)
@@ -206,7 +205,7 @@ longer_from_one old row taken items before after step (suc k) output single with
       at = item.1;
       taken = adds.0;
       held = record { set = set.0; at = set.1; held = held };
-      is = adds.1.2
+      is = adds.1.2;
     }
 
 pub set_one : (old new : Outs) (ids : List ℕ) (row : List (Vec ℕ Global)) (taken : List Step) (items : List Item) (before after : List Bool) (step : Step) (place : ℕ)
@@ -218,11 +217,11 @@ pub set_one : (old new : Outs) (ids : List ℕ) (row : List (Vec ℕ Global)) (t
 set_one old new ids row taken items before after step place single within width opens r known sound complete = record {
   known = known;
   sound = λ output h.
-    (let longer = sound output h in
-    let parts = adds_from_longer old row taken items before step place output r longer in
-    let there : Reaches (step ∷ taken) (take longer.earlier items ++ longer.item ∷ []) output = reaches_one step taken (take longer.earlier items) longer.item output single (longer.taken, (longer.source, parts.1, longer.is)) in
-    subst (λ (xs : List Item). Reaches (step ∷ taken) xs output) (sym parts.0) there);
-  complete = λ is_open output h. complete is_open output (longer_from_one old row taken items before after step place output single within width opens r is_open h)
+      (let longer = sound output h in
+      let parts = adds_from_longer old row taken items before step place output r longer in
+      let there : Reaches (step ∷ taken) (take longer.earlier items ++ longer.item ∷ []) output = reaches_one step taken (take longer.earlier items) longer.item output single (longer.taken, (longer.source, parts.1, longer.is)) in
+      subst (λ (xs : List Item). Reaches (step ∷ taken) xs output) (sym parts.0) there);
+  complete = λ is_open output h. complete is_open output (longer_from_one old row taken items before after step place output single within width opens r is_open h);
 }
 
 held_before : (old : Outs) (row : List (Vec ℕ Global)) (taken : List Step) (items : List Item) (before : List Bool) (place : ℕ) (output : List Item) → place ≤ length items → length row ≡ length items + 1 → IsRow old row taken items before → slice_get before place ≡ Some true → Reaches taken (take place items) output → IsHeldAt old row place output
@@ -241,22 +240,22 @@ held_or_longer old row next taken items before after step (suc k) output star wi
     let input : take (suc k) items ≡ take k items ++ item.0 ∷ [] = ap (λ (m : ℕ). take m items) one_more ∙ take_next items k item.0 item.1 in
     let there : Reaches (step ∷ taken) (take k items ++ item.0 ∷ []) output = subst (λ (xs : List Item). Reaches (step ∷ taken) xs output) input h in
     elim (star_on_more step taken (take k items) item.0 output star there) [
-      inl skipped ↦ inl (held_before old row taken items before (suc k) output within width r is_open (subst (λ (xs : List Item). Reaches taken xs output) (sym input) skipped))
-    | inr adds ↦ inr (
-        let next_open : slice_get before (k + 1) ≡ Some true = subst (λ (m : ℕ). slice_get before m ≡ Some true) one_more is_open in
-        let open_here : slice_get before k ≡ Some true = opens.more k item.0 star item.1 adds.0 next_open in
-        let set = get_some next k (omega arith) in
-        let held : Holds old set.0.items adds.1.0 = (s.each k set.0 set.1).complete open_here adds.1.0 adds.1.1 in
-        record {
-          earlier = k;
-          item = item.0;
-          source = adds.1.0;
-          next = one_more;
-          at = item.1;
-          taken = adds.0;
-          held = record { set = set.0; at = set.1; held = held };
-          is = adds.1.2
-        })
+      | inl skipped ↦ inl (held_before old row taken items before (suc k) output within width r is_open (subst (λ (xs : List Item). Reaches taken xs output) (sym input) skipped))
+      | inr adds ↦ inr (
+          let next_open : slice_get before (k + 1) ≡ Some true = subst (λ (m : ℕ). slice_get before m ≡ Some true) one_more is_open in
+          let open_here : slice_get before k ≡ Some true = opens.more k item.0 star item.1 adds.0 next_open in
+          let set = get_some next k (omega arith) in
+          let held : Holds old set.0.items adds.1.0 = (s.each k set.0 set.1).complete open_here adds.1.0 adds.1.1 in
+          record {
+            earlier = k;
+            item = item.0;
+            source = adds.1.0;
+            next = one_more;
+            at = item.1;
+            taken = adds.0;
+            held = record { set = set.0; at = set.1; held = held };
+            is = adds.1.2;
+          })
     ]
 
 pub set_star : (old new : Outs) (ids : List ℕ) (row next : List (Vec ℕ Global)) (taken : List Step) (items : List Item) (before after : List Bool) (step : Step) (place : ℕ)
@@ -269,24 +268,24 @@ pub set_star : (old new : Outs) (ids : List ℕ) (row next : List (Vec ℕ Globa
 set_star old new ids row next taken items before after step place star within width next_width opens r s known sound kept complete = record {
   known = known;
   sound = λ output h. elim (sound output h) [
-      inl held ↦ reaches_skip step taken (take place items) output star ((r.each place held.set held.at).sound output held.held)
+    | inl held ↦ reaches_skip step taken (take place items) output star ((r.each place held.set held.at).sound output held.held)
     | inr longer ↦
         let parts = adds_from_longer old next (step ∷ taken) items before step place output s longer in
         let there : Reaches (step ∷ taken) (take longer.earlier items ++ longer.item ∷ []) output = reaches_more step taken (take longer.earlier items) longer.item output star (longer.taken, (longer.source, parts.1, longer.is)) in
         subst (λ (xs : List Item). Reaches (step ∷ taken) xs output) (sym parts.0) there
-    ];
+  ];
   complete = λ is_open output h. elim (held_or_longer old row next taken items before after step place output star within width next_width opens r s is_open h) [
-      inl held ↦ kept output held
+    | inl held ↦ kept output held
     | inr longer ↦ complete is_open output longer
-    ]
+  ];
 }
 
 -- after a starred step fewer places are open than before it
 pub row_less_open : (outputs : Outs) (row : List (Vec ℕ Global)) (taken : List Step) (items : List Item) (before after : List Bool) (step : Step) → step.starred ≡ true → IsOpenBefore step items after before → IsRow outputs row taken items before → IsRow outputs row taken items after
 row_less_open outputs row taken items before after step star opens r = record {
   each = λ place set at.
-    (let s = r.each place set at in
-    record { known = s.known; sound = s.sound; complete = λ is_open output h. s.complete (opens.skip place star is_open) output h })
+      (let s = r.each place set at in
+      record { known = s.known; sound = s.sound; complete = λ is_open output h. s.complete (opens.skip place star is_open) output h });
 }
 
 -- ---- what the functions make of these
@@ -295,16 +294,16 @@ pub longer_exact : (old new : Outs) (ids : List ℕ) (row : List (Vec ℕ Global
     → 0 < place → slice_get items (place - 1) ≡ Some item → IsTaken step.matched item → slice_get row (place - 1) ≡ Some from
     → ((output : List Item) → (Holds new ids output → IsWritten old from.items step.captured item output) × (IsWritten old from.items step.captured item output → Holds new ids output))
     → (output : List Item) → (Holds new ids output → IsLonger old row step items place output) × (IsLonger old row step items place output → Holds new ids output)
-longer_exact old new ids row step items place item from positive at taken here exact output =
-    ( λ h. (let w = (exact output).0 h in
-      record { earlier = place - 1; item = item; source = w.source; next = omega arith; at = at; taken = taken; held = record { set = from; at = here; held = w.held }; is = w.is })
-    , λ l.
+longer_exact old new ids row step items place item from positive at taken here exact output = (
+  λ h. (let w = (exact output).0 h in
+      record { earlier = place - 1; item = item; source = w.source; next = omega arith; at = at; taken = taken; held = record { set = from; at = here; held = w.held }; is = w.is }),
+  λ l.
       (let same : l.earlier ≡ place - 1 = omega (arith, l.next) in
       let same_item : l.item ≡ item = same_Some l.item item (sym l.at ∙ ap (slice_get items) same ∙ at) in
       let same_set : l.held.set ≡ from = same_Some l.held.set from (sym l.held.at ∙ ap (slice_get row) same ∙ here) in
       let held : Holds old from.items l.source = subst (λ (v : Vec ℕ Global). Holds old v.items l.source) same_set l.held.held in
-      (exact output).1 (record { source = l.source; held = held; is = l.is ∙ ap (λ (t : Item). l.source ++ written_at step.captured t) same_item }))
-    )
+      (exact output).1 (record { source = l.source; held = held; is = l.is ∙ ap (λ (t : Item). l.source ++ written_at step.captured t) same_item })),
+)
 
 pub record StarSet (old new : Outs) (ids : List ℕ) (row next : List (Vec ℕ Global)) (step : Step) (items : List Item) (open_places : List Bool) (place : ℕ) : Type 0 where
   pub known : AreIds new ids
@@ -321,23 +320,23 @@ pub star_set : (old new : Outs) (row next : List (Vec ℕ Global)) (step : Step)
 star_set old new row next step items open_places place from longer all extends row_known here known sound complete both = record {
   known = record {
     below = λ id h. elim ((both id).0 h) [
-        inl l ↦ (ids_extend old new from.items extends (row_known.each place from here)).below id l
+      | inl l ↦ (ids_extend old new from.items extends (row_known.each place from here)).below id l
       | inr r ↦ known.below id r
-      ]
+    ];
   };
   sound = λ output h. elim ((both h.id).0 h.among) [
-      inl l ↦
+    | inl l ↦
         let held : Holds new from.items output = record { id = h.id; among = l; is = h.is } in
         inl (record { set = from; at = here; held = holds_back old new from.items output extends (row_known.each place from here) held })
     | inr r ↦ inr (sound output (record { id = h.id; among = r; is = h.is }))
-    ];
+  ];
   kept = λ output h.
-    (let same : h.set ≡ from = same_Some h.set from (sym h.at ∙ here) in
-    let held : Holds old from.items output = subst (λ (v : Vec ℕ Global). Holds old v.items output) same h.held in
-    record { id = held.id; among = (both held.id).1 (inl held.among); is = extends.kept held.id output held.is });
+      (let same : h.set ≡ from = same_Some h.set from (sym h.at ∙ here) in
+      let held : Holds old from.items output = subst (λ (v : Vec ℕ Global). Holds old v.items output) same h.held in
+      record { id = held.id; among = (both held.id).1 (inl held.among); is = extends.kept held.id output held.is });
   complete = λ is_open output l.
-    (let h = complete is_open output l in
-    record { id = h.id; among = (both h.id).1 (inr h.among); is = h.is })
+      (let h = complete is_open output l in
+      record { id = h.id; among = (both h.id).1 (inr h.among); is = h.is });
 }
 
 -- the row so far after a step of one item
@@ -396,14 +395,14 @@ pub first_set : (outputs : Outs) (items : List Item) (is_open : Option Bool) →
 first_set outputs items is_open empty = record {
   known = record { below = λ id h. subst (λ (m : ℕ). m < length outputs) (sym (first_ids id h)) (slice_get_within outputs 0 [] empty) };
   sound = λ output h. nothing_taken output (same_Some output [] (sym h.is ∙ ap (slice_get outputs) (first_ids h.id h.among) ∙ empty));
-  complete = λ o output h. record { id = 0; among = Contains-push [] 0; is = empty ∙ ap (λ (xs : List Item). Some xs) (sym (no_steps (take 0 items) output h).1) }
+  complete = λ o output h. record { id = 0; among = Contains-push [] 0; is = empty ∙ ap (λ (xs : List Item). Some xs) (sym (no_steps (take 0 items) output h).1) };
 }
 
 pub later_set : (outputs : Outs) (items : List Item) (is_open : Option Bool) (place : ℕ) → 0 < place → place ≤ length items → IsSet outputs [] [] (take place items) is_open
 later_set outputs items is_open place positive within = record {
   known = known_of_none outputs;
   sound = λ output h. contains_nothing h.id h.among;
-  complete = λ o output h. absurd (omega (arith, take_nil items place within (no_steps (take place items) output h).0))
+  complete = λ o output h. absurd (omega (arith, take_nil items place within (no_steps (take place items) output h).0));
 }
 
 -- the row so far before the first step
@@ -457,9 +456,9 @@ pub known_ids : (outputs : Outs) (set ids : List ℕ) (steps : List Step) (items
 known_ids outputs set ids steps items is_open s same = record { below = λ id h. s.known.below id ((same id).0 h) }
 
 pub generated_ids : (outputs : Outs) (set ids : List ℕ) (steps : List Step) (items : List Item) → IsSet outputs set steps items (Some true) → AreSame ids set → (output : List Item) → (Holds outputs ids output → Reaches steps items output) × (Reaches steps items output → Holds outputs ids output)
-generated_ids outputs set ids steps items s same output =
-    ( λ h. s.sound output (record { id = h.id; among = (same h.id).0 h.among; is = h.is })
-    , λ h.
+generated_ids outputs set ids steps items s same output = (
+  λ h. s.sound output (record { id = h.id; among = (same h.id).0 h.among; is = h.is }),
+  λ h.
       (let held = s.complete refl output h in
-      record { id = held.id; among = (same held.id).1 held.among; is = held.is })
-    )
+      record { id = held.id; among = (same held.id).1 held.among; is = held.is }),
+)

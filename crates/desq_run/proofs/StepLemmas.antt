@@ -1,20 +1,18 @@
 -- What one more step adds to what the steps generate.
-use Rattle.std.proofs.Common.{◌≡◌, ℕ, ◌+◌, ◌<◌, ◌≤◌, Bool, true, false, ◌⊎◌, Option, Some, None, List, [], ◌∷◌, ◌++◌, length, refl, sym, subst, ap, ◌∙◌, inl, inr, arith, append_assoc}
-use Rattle.std.specs.List.{AllByRecursion, flat_map, Contains}
-use Rattle.std.proofs.lemmas.Bool.{false≢true}
+use Rattle.std.proofs.Common.{◌≡◌, Bool, true, false, ◌⊎◌, Option, Some, None, List, [], ◌∷◌, ◌++◌, refl, sym, subst, ap, ◌∙◌, inl, inr, arith, append_assoc}
+use Rattle.std.specs.List.{AllByRecursion, flat_map}
 use Rattle.std.proofs.lemmas.List.{append-nil, same_from_push}
 use Rattle.std.proofs.lemmas.Grind.{flat_map-append}
 use Rattle.mine_model.specs.declared.item.Item.{Item}
-use Rattle.mine_model.specs.declared.expression.Leaf.TheVariants.{Under, Any}
-use Rattle.mine_model.specs.Hierarchy.{Link, IsWalk, IsAncestor}
-use Rattle.mine_model.specs.Expression.{Tree, leaf, cat, alt, rep, cap, tree_of, with_items}
+use Rattle.mine_model.specs.Hierarchy.{IsWalk, IsAncestor}
+use Rattle.mine_model.specs.Expression.{Tree, cat, rep, tree_of, with_items}
 use Rattle.mine_model.specs.declared.expression.Expr.{Expr}
 use Rattle.mine_model.specs.declared.expression.Expr.TheVariants.{Leaf as ItemLeaf, Cat, Cat', Alt', Rep', Cap'}
 use Rattle.std.proofs.Common.{Box, Global}
 use Rattle.mine_model.specs.Narrow.{IsNarrowTree, IsPieceTree}
 use Rattle.mine_model.specs.Generation.{Generates, Turn}
 use Rattle.desq_run.specs.declared.evaluator.steps.Step.{Step}
-use Rattle.desq_run.specs.StepMeaning.{IsTaken, written_at, item_tree, captured_tree, starred_tree, step_tree, Reaches}
+use Rattle.desq_run.specs.StepMeaning.{IsTaken, written_at, item_tree, captured_tree, step_tree, Reaches}
 
 -- with no rows a walk stays where it is
 walk_same : (steps : List Item) (from to : Item) → IsWalk [] from steps to → from ≡ to
@@ -71,24 +69,24 @@ StarParts inner input output =
 star_parts : (inner : Tree) (input output : List Item) (turns before : List Turn) (last : Turn) → turns ≡ before ++ last ∷ [] → input ≡ flat_map (λ (turn : Turn). turn.input) turns → output ≡ flat_map (λ (turn : Turn). turn.output) turns → AllByRecursion (λ (turn : Turn). Generates [] inner false turn.input turn.output) turns → StarParts inner input output
 star_parts inner input output turns before last e inputs outputs each =
     let P : List Turn → Type 0 = λ ts. AllByRecursion (λ (turn : Turn). Generates [] inner false turn.input turn.output) ts in
-    let parts = all_split (λ (turn : Turn). Generates [] inner false turn.input turn.output) before last (subst P e each) in
-    ( flat_map (λ (turn : Turn). turn.input) before
-    , last.input
-    , flat_map (λ (turn : Turn). turn.output) before
-    , last.output
-    , inputs ∙ ap (λ (ts : List Turn). flat_map (λ (turn : Turn). turn.input) ts) e ∙ flat_map_last (λ (turn : Turn). turn.input) before last
-    , outputs ∙ ap (λ (ts : List Turn). flat_map (λ (turn : Turn). turn.output) ts) e ∙ flat_map_last (λ (turn : Turn). turn.output) before last
-    , (before, omega arith, tt, refl, refl, parts.0)
-    , parts.1
+    let parts = all_split (λ (turn : Turn). Generates [] inner false turn.input turn.output) before last (subst P e each) in (
+      flat_map (λ (turn : Turn). turn.input) before,
+      last.input,
+      flat_map (λ (turn : Turn). turn.output) before,
+      last.output,
+      inputs ∙ ap (λ (ts : List Turn). flat_map (λ (turn : Turn). turn.input) ts) e ∙ flat_map_last (λ (turn : Turn). turn.input) before last,
+      outputs ∙ ap (λ (ts : List Turn). flat_map (λ (turn : Turn). turn.output) ts) e ∙ flat_map_last (λ (turn : Turn). turn.output) before last,
+      (before, omega arith, tt, refl, refl, parts.0),
+      parts.1,
     )
 
 -- a repetition has no turn, or a last one
 star_last : (inner : Tree) (input output : List Item) → StarGenerates inner input output
     → ((input ≡ []) × (output ≡ [])) ⊎ StarParts inner input output
 star_last inner input output h = elim (snoc_view h.0) [
-    inl e ↦ inl (h.3 ∙ ap (λ (ts : List Turn). flat_map (λ (turn : Turn). turn.input) ts) e, h.4 ∙ ap (λ (ts : List Turn). flat_map (λ (turn : Turn). turn.output) ts) e)
+  | inl e ↦ inl (h.3 ∙ ap (λ (ts : List Turn). flat_map (λ (turn : Turn). turn.input) ts) e, h.4 ∙ ap (λ (ts : List Turn). flat_map (λ (turn : Turn). turn.output) ts) e)
   | inr v ↦ inr (star_parts inner input output h.0 v.0 v.1 v.2 h.3 h.4 h.5)
-  ]
+]
 
 star_one_more : (inner : Tree) (input1 input2 output1 output2 : List Item) → StarGenerates inner input1 output1 → Generates [] inner false input2 output2 → StarGenerates inner (input1 ++ input2) (output1 ++ output2)
 star_one_more inner input1 input2 output1 output2 h last =
@@ -119,12 +117,13 @@ unfolding Reaches
 one_from_reaches step earlier input t output single h =
     let last : Generates [] (captured_tree step.captured (item_tree step.matched)) false h.1 h.3 = rw single at h.7 in
     let one = one_from_generates step.captured step.matched h.1 h.3 last in
-    let same = same_from_push input h.0 t one.0 (h.4 ∙ ap (λ (xs : List Item). h.0 ++ xs) one.1) in
-    ( subst (λ (u : Item). IsTaken step.matched u) (sym same.1) one.2
-    , ( h.2
-      , subst (λ (xs : List Item). Reaches earlier xs h.2) (sym same.0) h.6
-      , h.5 ∙ ap (λ (xs : List Item). h.2 ++ xs) (one.3 ∙ ap (λ (u : Item). written_at step.captured u) (sym same.1))
-      )
+    let same = same_from_push input h.0 t one.0 (h.4 ∙ ap (λ (xs : List Item). h.0 ++ xs) one.1) in (
+      subst (λ (u : Item). IsTaken step.matched u) (sym same.1) one.2,
+      (
+        h.2,
+        subst (λ (xs : List Item). Reaches earlier xs h.2) (sym same.0) h.6,
+        h.5 ∙ ap (λ (xs : List Item). h.2 ++ xs) (one.3 ∙ ap (λ (u : Item). written_at step.captured u) (sym same.1)),
+      ),
     )
 
 pub reaches_one : (step : Step) (earlier : List Step) (input : List Item) (t : Item) (output : List Item) → step.starred ≡ false → Adds step (Reaches earlier input) t output → Reaches (step ∷ earlier) (input ++ t ∷ []) output
@@ -146,15 +145,15 @@ reaches_more step earlier input t output starred h =
     let r = h.1.1 in
     let turns : StarGenerates inner r.1 r.3 = rw starred at r.7 in
     let more : StarGenerates inner (r.1 ++ t ∷ []) (r.3 ++ written_at step.captured t) = star_one_more inner r.1 (t ∷ []) r.3 (written_at step.captured t) turns (generates_one step.captured step.matched t h.0) in
-    let last : Generates [] (step_tree step) false (r.1 ++ t ∷ []) (r.3 ++ written_at step.captured t) = rw starred more in
-    ( r.0
-    , r.1 ++ t ∷ []
-    , r.2
-    , r.3 ++ written_at step.captured t
-    , ap (λ (xs : List Item). xs ++ t ∷ []) r.4 ∙ append_assoc r.0 r.1 (t ∷ [])
-    , h.1.2 ∙ ap (λ (xs : List Item). xs ++ written_at step.captured t) r.5 ∙ append_assoc r.2 r.3 (written_at step.captured t)
-    , r.6
-    , last
+    let last : Generates [] (step_tree step) false (r.1 ++ t ∷ []) (r.3 ++ written_at step.captured t) = rw starred more in (
+      r.0,
+      r.1 ++ t ∷ [],
+      r.2,
+      r.3 ++ written_at step.captured t,
+      ap (λ (xs : List Item). xs ++ t ∷ []) r.4 ∙ append_assoc r.0 r.1 (t ∷ []),
+      h.1.2 ∙ ap (λ (xs : List Item). xs ++ written_at step.captured t) r.5 ∙ append_assoc r.2 r.3 (written_at step.captured t),
+      r.6,
+      last,
     )
 
 abbrev pub StarCases : Step → List Step → List Item → List Item → Type 0
@@ -166,44 +165,47 @@ star_from_reaches step earlier input output starred h =
     let inner : Tree = captured_tree step.captured (item_tree step.matched) in
     let turns : StarGenerates inner h.1 h.3 = rw starred at h.7 in
     elim (star_last inner h.1 h.3 turns) [
-      inl none ↦ inl (
-        let same_input : h.0 ≡ input = sym (h.4 ∙ ap (λ (xs : List Item). h.0 ++ xs) none.0 ∙ append-nil h.0) in
-        let same_output : h.2 ≡ output = sym (h.5 ∙ ap (λ (xs : List Item). h.2 ++ xs) none.1 ∙ append-nil h.2) in
-        let at_input : Reaches earlier input h.2 = subst (λ (xs : List Item). Reaches earlier xs h.2) same_input h.6 in
-        subst (λ (xs : List Item). Reaches earlier input xs) same_output at_input)
-    | inr p ↦ inr (
-        let one = one_from_generates step.captured step.matched p.1 p.3 p.7 in
-        let before : Generates [] (step_tree step) false p.0 p.2 = rw starred p.6 in
-        ( h.0 ++ p.0
-        , one.0
-        , h.4 ∙ ap (λ (xs : List Item). h.0 ++ xs) (p.4 ∙ ap (λ (xs : List Item). p.0 ++ xs) one.1) ∙ sym (append_assoc h.0 p.0 (one.0 ∷ []))
-        , ( one.2
-          , ( h.2 ++ p.2
-            , (h.0, p.0, h.2, p.2, refl, refl, h.6, before)
-            , h.5 ∙ ap (λ (xs : List Item). h.2 ++ xs) (p.5 ∙ ap (λ (xs : List Item). p.2 ++ xs) one.3) ∙ sym (append_assoc h.2 p.2 (written_at step.captured one.0))
-            )
-          )
-        ))
+      | inl none ↦ inl (
+          let same_input : h.0 ≡ input = sym (h.4 ∙ ap (λ (xs : List Item). h.0 ++ xs) none.0 ∙ append-nil h.0) in
+          let same_output : h.2 ≡ output = sym (h.5 ∙ ap (λ (xs : List Item). h.2 ++ xs) none.1 ∙ append-nil h.2) in
+          let at_input : Reaches earlier input h.2 = subst (λ (xs : List Item). Reaches earlier xs h.2) same_input h.6 in
+          subst (λ (xs : List Item). Reaches earlier input xs) same_output at_input)
+      | inr p ↦ inr (
+          let one = one_from_generates step.captured step.matched p.1 p.3 p.7 in
+          let before : Generates [] (step_tree step) false p.0 p.2 = rw starred p.6 in (
+            h.0 ++ p.0,
+            one.0,
+            h.4 ∙ ap (λ (xs : List Item). h.0 ++ xs) (p.4 ∙ ap (λ (xs : List Item). p.0 ++ xs) one.1) ∙ sym (append_assoc h.0 p.0 (one.0 ∷ [])),
+            (
+              one.2,
+              (
+                h.2 ++ p.2,
+                (h.0, p.0, h.2, p.2, refl, refl, h.6, before),
+                h.5 ∙ ap (λ (xs : List Item). h.2 ++ xs) (p.5 ∙ ap (λ (xs : List Item). p.2 ++ xs) one.3) ∙ sym (append_assoc h.2 p.2 (written_at step.captured one.0)),
+              ),
+            ),
+          ))
     ]
 
 pub star_on_nothing : (step : Step) (earlier : List Step) (output : List Item) → step.starred ≡ true → Reaches (step ∷ earlier) [] output → Reaches earlier [] output
 star_on_nothing step earlier output starred h = elim (star_from_reaches step earlier [] output starred h) [
-    inl before ↦ before
+  | inl before ↦ before
   | inr more ↦ absurd (append_not_nil more.0 more.1 more.2)
-  ]
+]
 
 pub star_on_more : (step : Step) (earlier : List Step) (input : List Item) (t : Item) (output : List Item) → step.starred ≡ true → Reaches (step ∷ earlier) (input ++ t ∷ []) output → Reaches earlier (input ++ t ∷ []) output ⊎ Adds step (Reaches (step ∷ earlier) input) t output
 star_on_more step earlier input t output starred h = elim (star_from_reaches step earlier (input ++ t ∷ []) output starred h) [
-    inl before ↦ inl before
+  | inl before ↦ inl before
   | inr more ↦ inr (
-      let same = same_from_push input more.0 t more.1 more.2 in
-      ( subst (λ (u : Item). IsTaken step.matched u) (sym same.1) more.3.0
-      , ( more.3.1.0
-        , subst (λ (xs : List Item). Reaches (step ∷ earlier) xs more.3.1.0) (sym same.0) more.3.1.1
-        , more.3.1.2 ∙ ap (λ (u : Item). more.3.1.0 ++ written_at step.captured u) (sym same.1)
-        )
+      let same = same_from_push input more.0 t more.1 more.2 in (
+        subst (λ (u : Item). IsTaken step.matched u) (sym same.1) more.3.0,
+        (
+          more.3.1.0,
+          subst (λ (xs : List Item). Reaches (step ∷ earlier) xs more.3.1.0) (sym same.0) more.3.1.1,
+          more.3.1.2 ∙ ap (λ (u : Item). more.3.1.0 ++ written_at step.captured u) (sym same.1),
+        ),
       ))
-  ]
+]
 
 -- ---- the steps of an expression
 

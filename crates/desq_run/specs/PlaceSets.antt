@@ -1,5 +1,5 @@
 -- What the plain evaluator knows at each place of a sequence: the numbers of the outputs generated up to there.
-use Rattle.std.specs.Prelude.{◌≡◌, ℕ, ◌+◌, Bool, true, Option, Some, List, ◌∷◌, ◌++◌, take, Vec}
+use Rattle.std.specs.Prelude.{◌≡◌, ℕ, ◌+◌, Bool, true, Option, Some, List, ◌++◌, take, Vec}
 use Rattle.std.specs.Global.{Global}
 use Rattle.std.specs.List.{slice_get}
 use Rattle.mine_model.specs.declared.item.Item.{Item}

@@ -32,11 +32,11 @@ pub(crate) fn frequent_rows(
     requires support { 1 ≤ support }
     ensures each_once { IfOk result (λ rows. AllPairs (λ r s. r.pattern ≢ s.pattern) rows.items) }
     ensures exact { IfOk result (λ rows. (row : Row) → Contains rows.items row ↔ IsFrequent (record {
-        names = [];
-        rows = [];
-        sequences = map (λ s. s.items) sequences.now;
-        expression = with_items items.now (tree_of expression.now);
-        threshold = support
+      names = [];
+      rows = [];
+      sequences = map (λ s. s.items) sequences.now;
+      expression = with_items items.now (tree_of expression.now);
+      threshold = support;
     }) row) }
 {
     let steps = steps_of(alloc, expression, items)?;

@@ -30,7 +30,15 @@ pub(super) fn generated(
     let open = open_rows(alloc, steps, items)?;
     let mut row = first_row(alloc, items)?;
     for taken in (0..steps.len()).rev() {
-        row = next_row(alloc, &steps[taken], items, &open[taken + 1], &open[taken], &row, outputs)?;
+        row = next_row(
+            alloc,
+            &steps[taken],
+            items,
+            &open[taken + 1],
+            &open[taken],
+            &row,
+            outputs,
+        )?;
     }
     each_once(alloc, &row[items.len()])
 }
@@ -156,7 +164,13 @@ fn set_after_one(
     if !step.takes(items[place - 1]) {
         return Ok(Vec::new(alloc));
     }
-    written(alloc, step.captured, items[place - 1], &row[place - 1], outputs)
+    written(
+        alloc,
+        step.captured,
+        items[place - 1],
+        &row[place - 1],
+        outputs,
+    )
 }
 
 /// The next set of a row: what stood there before the step, and what one more turn gives.

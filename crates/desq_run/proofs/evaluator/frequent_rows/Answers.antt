@@ -1,4 +1,4 @@
-use Rattle.std.proofs.Common.{◌≡◌, ◌∙◌, ◌+◌, ◌<◌, ◌≤◌, ◌++◌, ◌∷◌, [], ℕ, List, Vec, Global, length, map, take, get_or, arith, ap, sym, subst}
+use Rattle.std.proofs.Common.{◌≡◌, ◌∙◌, ◌+◌, ◌≤◌, ◌++◌, ◌∷◌, [], List, Vec, Global, length, map, take, arith, ap, sym, subst}
 use Rattle.std.proofs.lemmas.List.{map_more, take_all, length-map, length-take-le}
 use Rattle.std.proofs.lemmas.Result.{IfOk-weaker}
 use Rattle.mine_model.specs.declared.item.Item.{Item}
@@ -29,7 +29,7 @@ loop-sequence-preserved c =
     let once : CountsOnce c.in_ok-ids.ids.items c.loop-sequence.counts c.count_each.new.counts = rw c.deref-in-loop-sequence-2.ensures.value at c.in_ok-count_each.ensures in
     record {
       empty = e.extends.kept 0 [] i.empty;
-      counted = rw more (counted_more c.loop-sequence.outputs c.generated.new.outputs c.loop-sequence.counts c.count_each.new.counts c.in_ok-steps.steps.items (items_of (take k sequences)) item.items c.in_ok-ids.ids.items e.extends e.known (rw (c.deref.ensures.value, c.deref-in-loop-sequence.ensures.value) at e.exact) once i.counted)
+      counted = rw more (counted_more c.loop-sequence.outputs c.generated.new.outputs c.loop-sequence.counts c.count_each.new.counts c.in_ok-steps.steps.items (items_of (take k sequences)) item.items c.in_ok-ids.ids.items e.extends e.known (rw (c.deref.ensures.value, c.deref-in-loop-sequence.ensures.value) at e.exact) once i.counted);
     }
 
 pub returns-clause-exact : goal.returns-clause-exact
@@ -39,5 +39,5 @@ returns-clause-exact c =
     let whole : take k sequences ≡ sequences = take_all k sequences c.loop-sequence-test.false in
     let counted : IsCounted c.loop-sequence.outputs c.loop-sequence.counts c.in_ok-steps.steps.items (items_of sequences) = subst (λ (xs : List (Vec Item Global)). IsCounted c.loop-sequence.outputs c.loop-sequence.counts c.in_ok-steps.steps.items (items_of xs)) whole c.loop-sequence.invariant.counted in
     IfOk-weaker c.rows_of.result _ _ (λ rows exact row.
-      (let frequent = frequent_from_counted c.loop-sequence.outputs c.loop-sequence.counts c.in_ok-steps.steps.items (with_items c.args.items.now (tree_of c.args.expression.now)) (items_of sequences) c.args.support row c.requires.support c.in_ok-steps.ensures counted in
-      (λ h. frequent.0 ((exact row).0 h), λ f. (exact row).1 (frequent.1 f)))) c.rows_of.ensures.exact
+    (let frequent = frequent_from_counted c.loop-sequence.outputs c.loop-sequence.counts c.in_ok-steps.steps.items (with_items c.args.items.now (tree_of c.args.expression.now)) (items_of sequences) c.args.support row c.requires.support c.in_ok-steps.ensures counted in
+    (λ h. frequent.0 ((exact row).0 h), λ f. (exact row).1 (frequent.1 f)))) c.rows_of.ensures.exact

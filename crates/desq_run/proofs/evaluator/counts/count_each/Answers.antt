@@ -1,6 +1,6 @@
-use Rattle.std.proofs.Common.{◌≡◌, ◌≢◌, ◌∙◌, ◌+◌, ◌^◌, ◌<◌, ℕ, Option, unwrap_or, length, get_or, take, ap, arith, refl, rules}
-use Rattle.std.proofs.lemmas.List.{take_more, take_all}
-use Rattle.desq_run.specs.CountedIds.{count_of, CountsOnce}
+use Rattle.std.proofs.Common.{◌≡◌, ◌∙◌, ◌+◌, ◌^◌, ◌<◌, ℕ, Option, unwrap_or, get_or, take, ap, arith, rules}
+use Rattle.std.proofs.lemmas.List.{take_more}
+use Rattle.desq_run.specs.CountedIds.{count_of}
 use Rattle.desq_run.proofs.CountLemmas.{counts_once_more, not_yet, is_at_apart}
 use Rattle.desq_run.proofs.evaluator.counts.count_each.Goals as goal
 
@@ -22,4 +22,4 @@ loop-id-preserved c =
     let counted : c.unwrap_or-count.result ≡ count_of c.loop-id.counts id = c.unwrap_or-count.ensures ∙ ap (λ (o : Option ℕ). unwrap_or o 0) (c.copied.ensures ∙ c.get.ensures.value) in
     let updates = c.in_ok-insert.ensures.updates in
     counts_once_more (take k ids) (take (k + 1) ids) id c.unwrap_or-count.result c.args.counts.now c.loop-id.counts c.insert.new.self (take_more ids k 0 c.loop-id-test.true) (not_yet ids k c.requires.rising c.loop-id-test.true) counted
-      (ap (λ (o : Option ℕ). unwrap_or o 0) updates.1) (λ q apart. ap (λ (o : Option ℕ). unwrap_or o 0) (updates.2 q (is_at_apart id q apart))) c.loop-id.invariant
+    (ap (λ (o : Option ℕ). unwrap_or o 0) updates.1) (λ q apart. ap (λ (o : Option ℕ). unwrap_or o 0) (updates.2 q (is_at_apart id q apart))) c.loop-id.invariant

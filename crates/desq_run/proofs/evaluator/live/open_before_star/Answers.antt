@@ -1,5 +1,4 @@
-use Rattle.std.proofs.Common.{◌≡◌, ◌<◌, ◌+◌, ◌-◌, Bool, false, Some, length, get_or, arith}
-use Rattle.std.specs.List.{slice_get}
+use Rattle.std.proofs.Common.{◌≡◌, ◌<◌, ◌+◌, ◌-◌, Bool, false, length, get_or, arith}
 use Rattle.std.proofs.lemmas.List.{length-set}
 use Rattle.std.proofs.lemmas.Option.{slice_get-get_or}
 use Rattle.mine_model.specs.declared.item.Item.{Item}
@@ -16,4 +15,4 @@ loop-place-preserved c =
     let inside : m < length items = omega arith in
     let width : length row ≡ length items + 1 = omega (arith, c.loop-place.auto.row, length-set {A = Bool}, c.requires.row) in
     star_more c.args.step.now items after row c.loop-place.place m (get_or items m none) (get_or after m false) (get_or row (m + 1) false) c.stays_open.result
-      (omega arith) (omega (arith, width)) (slice_get-get_or items m none inside) (slice_get-get_or after m false (omega arith)) (slice_get-get_or row (m + 1) false (omega (arith, width))) c.stays_open.ensures.1 c.loop-place.invariant
+    (omega arith) (omega (arith, width)) (slice_get-get_or items m none inside) (slice_get-get_or after m false (omega arith)) (slice_get-get_or row (m + 1) false (omega (arith, width))) c.stays_open.ensures.1 c.loop-place.invariant

@@ -1,4 +1,4 @@
-use Rattle.std.proofs.Common.{◌≡◌, ◌<◌, ◌+◌, ◌∙◌, false, None, Some, length, get_or, arith, refl, ap}
+use Rattle.std.proofs.Common.{◌≡◌, ◌+◌, ◌∙◌, false, None, Some, length, get_or, arith, refl, ap}
 use Rattle.std.specs.List.{slice_get}
 use Rattle.std.proofs.lemmas.List.{length_push}
 use Rattle.std.proofs.lemmas.Option.{slice_get-get_or, slice_get_read}
@@ -20,5 +20,5 @@ loop-k-preserved c =
     let width : length next.items ≡ length c.args.items.now + 1 = omega (arith, c.in_ok-row.ensures.width, next.ok) in
     record {
       count = ap length c.in_ok-push-2.ensures.items ∙ length_push rows next ∙ ap (λ n. n + 1) i.count;
-      rows = rw c.in_ok-push-2.ensures.items (open_rows_more steps c.args.items.now rows c.index.result.now next (get_or steps k none) k i.count (slice_get-get_or steps k none c.loop-k-test.true) here width opens i.rows)
+      rows = rw c.in_ok-push-2.ensures.items (open_rows_more steps c.args.items.now rows c.index.result.now next (get_or steps k none) k i.count (slice_get-get_or steps k none c.loop-k-test.true) here width opens i.rows);
     }

@@ -1,4 +1,4 @@
-use Rattle.std.proofs.Common.{◌≡◌, ◌<◌, ◌≤◌, ◌+◌, ◌∙◌, ◌++◌, ◌∷◌, [], ℕ, List, Vec, Global, length, arith, ap, sym}
+use Rattle.std.proofs.Common.{◌≡◌, ◌≤◌, ◌+◌, ◌∙◌, ◌++◌, ◌∷◌, [], ℕ, List, Vec, Global, length, arith, ap}
 use Rattle.std.proofs.lemmas.List.{length_push}
 use Rattle.desq_run.proofs.PlaceLemmas.{first_row_begins, first_row_more}
 use Rattle.desq_run.proofs.evaluator.places.first_row.Goals as goal
@@ -11,7 +11,7 @@ loop-alloc-init c =
     record {
       some = omega (arith, one);
       width = omega (arith, one);
-      sets = first_row_begins c.push.new.self.items set c.args.items.now pushed c.in_ok-vec.ensures.items
+      sets = first_row_begins c.push.new.self.items set c.args.items.now pushed c.in_ok-vec.ensures.items;
     }
 
 pub loop-alloc-preserved : goal.loop-alloc-preserved
@@ -24,5 +24,5 @@ loop-alloc-preserved c =
     record {
       some = omega (arith, one_more);
       width = omega (arith, one_more, within);
-      sets = first_row_more c.loop-alloc.row.items c.push-in-loop-alloc.new.self.items set c.args.items.now pushed c.new-nothing.ensures.items i.some within i.sets
+      sets = first_row_more c.loop-alloc.row.items c.push-in-loop-alloc.new.self.items set c.args.items.now pushed c.new-nothing.ensures.items i.some within i.sets;
     }

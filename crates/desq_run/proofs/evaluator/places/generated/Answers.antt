@@ -1,4 +1,4 @@
-use Rattle.std.proofs.Common.{◌≡◌, ◌<◌, ◌+◌, ◌-◌, ◌∙◌, Bool, false, true, None, Some, Vec, Global, List, length, get_or, arith, refl, ap, subst, sym}
+use Rattle.std.proofs.Common.{◌≡◌, ◌+◌, ◌-◌, false, true, None, Some, length, get_or, arith, refl, subst, sym}
 use Rattle.std.specs.List.{slice_get}
 use Rattle.std.proofs.lemmas.Option.{slice_get-get_or, slice_get_read}
 use Rattle.std.proofs.lemmas.Result.{IfOk-weaker}
@@ -46,7 +46,7 @@ loop-taken-preserved c =
     record {
       extends = extends_trans c.args.outputs.now c.loop-taken.outputs c.next_row.new.outputs i.extends c.next_row.ensures.extends;
       width = omega (arith, c.in_ok-row-2.ensures.width, c.in_ok-row-2.row.ok);
-      sets = generated_more c.loop-taken.outputs c.next_row.new.outputs c.loop-taken.row.items c.in_ok-row-2.row.items c.args.steps.now c.args.items.now rows before after c.deref.result.now c.deref-in-loop-taken.result.now n k none (sym one_more) (omega arith) before_at after_at c.deref.ensures.value c.deref-in-loop-taken.ensures.value (rw c.deref-in-loop-taken-2.ensures.value at c.in_ok-row-2.ensures.row) i.sets
+      sets = generated_more c.loop-taken.outputs c.next_row.new.outputs c.loop-taken.row.items c.in_ok-row-2.row.items c.args.steps.now c.args.items.now rows before after c.deref.result.now c.deref-in-loop-taken.result.now n k none (sym one_more) (omega arith) before_at after_at c.deref.ensures.value c.deref-in-loop-taken.ensures.value (rw c.deref-in-loop-taken-2.ensures.value at c.in_ok-row-2.ensures.row) i.sets;
     }
 
 at_end : (c : goal.After-drop-open-2) → IsSet c.loop-taken.outputs c.index-2.result.now.items c.args.steps.now c.args.items.now (Some true)

@@ -8,5 +8,5 @@ abbrev pub invariant-loop-taken : goal.invariant-loop-taken
 invariant-loop-taken l = record {
   extends : Extends l.fn.outputs l.outputs;
   width : length l.row.items ≡ length l.items + 1;
-  sets : (open_places : Vec Bool Global) → slice_get l.open.items l.taken ≡ Some open_places → IsRow l.outputs l.row.items (drop l.taken l.steps) l.items open_places.items
+  sets : (open_places : Vec Bool Global) → slice_get l.open.items l.taken ≡ Some open_places → IsRow l.outputs l.row.items (drop l.taken l.steps) l.items open_places.items;
 }

@@ -14,5 +14,5 @@ loop-place-preserved c =
     record {
       extends = extends_trans c.args.outputs.now c.loop-place.outputs c.set_after_one.new.outputs i.extends e.extends;
       width = rw c.in_ok-push.ensures.items (omega (arith, i.width, length_push c.loop-place.next.items c.in_ok-set_after_one.field-0));
-      row = one_row_more c.args.outputs.now c.loop-place.outputs c.set_after_one.new.outputs c.args.row.now c.loop-place.next.items c.push.new.self.items c.in_ok-set_after_one.field-0 c.args.step.now c.args.items.now c.args.after.now c.loop-place.place c.requires.one c.loop-place-test.true c.requires.width i.width c.in_ok-push.ensures.items i.extends e.extends i.row e.known e.sound e.complete
+      row = one_row_more c.args.outputs.now c.loop-place.outputs c.set_after_one.new.outputs c.args.row.now c.loop-place.next.items c.push.new.self.items c.in_ok-set_after_one.field-0 c.args.step.now c.args.items.now c.args.after.now c.loop-place.place c.requires.one c.loop-place-test.true c.requires.width i.width c.in_ok-push.ensures.items i.extends e.extends i.row e.known e.sound e.complete;
     }

@@ -7,5 +7,5 @@ abbrev pub invariant-loop-place : goal.invariant-loop-place
 invariant-loop-place l = record {
   extends : Extends l.fn.outputs l.outputs;
   width : l.place ≡ length l.next.items;
-  row : OneRow l.fn.outputs l.outputs l.row l.next.items l.step l.items l.after
+  row : OneRow l.fn.outputs l.outputs l.row l.next.items l.step l.items l.after;
 }

@@ -20,7 +20,7 @@ loop-alloc-preserved c =
       extends = extends_trans c.args.outputs.now c.loop-alloc.outputs c.set_after_star.new.outputs i.extends e.extends;
       width = rw pushed (omega (arith, below, length_push c.deref.result.now set));
       known = rw c.in_ok-push.ensures.items (row_ids_push c.set_after_star.new.outputs c.loop-alloc.next.items set (row_ids_extend c.loop-alloc.outputs c.set_after_star.new.outputs c.loop-alloc.next.items e.extends i.known) e.known);
-      row = star_row_more c.args.outputs.now c.loop-alloc.outputs c.set_after_star.new.outputs c.args.row.now c.deref.result.now c.push.new.self.items set c.args.step.now c.args.items.now c.args.before.now c.requires.star below c.requires.width pushed i.extends e.extends so_far e.known e.sound e.kept e.complete
+      row = star_row_more c.args.outputs.now c.loop-alloc.outputs c.set_after_star.new.outputs c.args.row.now c.deref.result.now c.push.new.self.items set c.args.step.now c.args.items.now c.args.before.now c.requires.star below c.requires.width pushed i.extends e.extends so_far e.known e.sound e.kept e.complete;
     }
 
 pub returns-clause-row : goal.returns-clause-row

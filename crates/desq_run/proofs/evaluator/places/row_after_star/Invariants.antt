@@ -1,4 +1,4 @@
-use Rattle.std.proofs.Common.{◌≡◌, ◌≤◌, ◌-◌, length, vec_len}
+use Rattle.std.proofs.Common.{◌≤◌, ◌-◌, length, vec_len}
 use Rattle.desq_run.specs.OutputIds.{Extends}
 use Rattle.desq_run.specs.PlaceSets.{AreRowIds}
 use Rattle.desq_run.proofs.PlaceLemmas.{StarRow}
@@ -9,7 +9,7 @@ invariant-loop-alloc l = record {
   extends : Extends l.fn.outputs l.outputs;
   width : length l.next.items ≤ length l.row;
   known : AreRowIds l.outputs l.next.items;
-  row : StarRow l.fn.outputs l.outputs l.row l.next.items l.step l.items l.before
+  row : StarRow l.fn.outputs l.outputs l.row l.next.items l.step l.items l.before;
 }
 
 abbrev pub decreases-loop-alloc : goal.decreases-loop-alloc

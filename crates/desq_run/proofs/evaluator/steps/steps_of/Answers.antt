@@ -1,6 +1,6 @@
-use Rattle.std.proofs.Common.{◌≡◌, length, refl, subst, ap, sym, ◌∙◌}
-use Rattle.mine_model.specs.Expression.{Tree, cat, tree_of, with_items, IsTreeBelow}
-use Rattle.mine_model.specs.Narrow.{IsNarrowTree, IsPieceTree}
+use Rattle.std.proofs.Common.{length, subst, ap, ◌∙◌}
+use Rattle.mine_model.specs.Expression.{tree_of, with_items, IsTreeBelow}
+use Rattle.mine_model.specs.Narrow.{IsNarrowTree}
 use Rattle.desq_run.proofs.StepLemmas.{tree_under, tree_under_more, meaning_of_steps, piece_from_narrow}
 use Rattle.desq_run.proofs.evaluator.steps.steps_of.Goals as goal
 
@@ -8,7 +8,7 @@ pub loop-rest-init : goal.loop-rest-init
 loop-rest-init c = record {
   narrow = c.requires.narrow;
   below = c.requires.numbered;
-  whole = ap (tree_under (with_items c.args.items.now (tree_of c.args.expression.now))) c.new-steps.ensures.items
+  whole = ap (tree_under (with_items c.args.items.now (tree_of c.args.expression.now))) c.new-steps.ensures.items;
 }
 
 pub step_of-requires-clause-piece : goal.step_of-requires-clause-piece
@@ -25,7 +25,7 @@ pub loop-rest-preserved : goal.loop-rest-preserved
 loop-rest-preserved c = record {
   narrow = rw c.deref-rest.ensures (subst (λ e. IsNarrowTree (tree_of e)) c.in-Cat.is c.loop-rest.invariant.narrow).0;
   below = rw c.deref-rest.ensures (subst (λ e. IsTreeBelow (length c.args.items.now) (tree_of e)) c.in-Cat.is c.loop-rest.invariant.below).0;
-  whole = rw (c.in_ok-push.ensures.items, c.deref-rest.ensures) (tree_under_more c.args.items.now _ _ (tree_of c.in-Cat.left.value) (tree_of c.in-Cat.right.value) _ _ (ap tree_of c.in-Cat.is) (c.step_of.ensures ∙ ap (λ e. with_items c.args.items.now (tree_of e)) c.deref.ensures) c.loop-rest.invariant.whole)
+  whole = rw (c.in_ok-push.ensures.items, c.deref-rest.ensures) (tree_under_more c.args.items.now _ _ (tree_of c.in-Cat.left.value) (tree_of c.in-Cat.right.value) _ _ (ap tree_of c.in-Cat.is) (c.step_of.ensures ∙ ap (λ e. with_items c.args.items.now (tree_of e)) c.deref.ensures) c.loop-rest.invariant.whole);
 }
 
 pub step_of-requires-2 : goal.step_of-requires-2

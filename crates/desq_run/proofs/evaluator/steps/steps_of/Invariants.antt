@@ -8,5 +8,5 @@ abbrev pub invariant-loop-rest : goal.invariant-loop-rest
 invariant-loop-rest l = record {
   narrow : IsNarrowTree (tree_of l.rest);
   below : IsTreeBelow (length l.items) (tree_of l.rest);
-  whole : tree_under (with_items l.items (tree_of l.rest)) l.steps.items ≡ with_items l.items (tree_of l.expression)
+  whole : tree_under (with_items l.items (tree_of l.rest)) l.steps.items ≡ with_items l.items (tree_of l.expression);
 }

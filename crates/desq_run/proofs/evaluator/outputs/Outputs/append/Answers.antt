@@ -1,6 +1,5 @@
-use Rattle.std.proofs.Common.{◌≡◌, ◌∙◌, ◌<◌, length, sym, subst, IfOk, Some, None}
+use Rattle.std.proofs.Common.{◌≡◌, ◌∙◌, ◌<◌, length, sym, Some, None}
 use Rattle.std.specs.HashMap.{get}
-use Rattle.desq_run.specs.OutputIds.{Extends}
 use Rattle.desq_run.specs.OutputTrie.{outputs_of, pair_eq}
 use Rattle.desq_run.proofs.OutputLemmas.{Added, added, appended_found}
 use Rattle.desq_run.proofs.evaluator.outputs.Outputs.append.Goals as goal

@@ -1,6 +1,5 @@
-use Rattle.std.proofs.Common.{◌≡◌, length, arith, ap, sym, subst}
+use Rattle.std.proofs.Common.{arith}
 use Rattle.std.specs.HashMap.{get}
-use Rattle.desq_run.specs.OutputIds.{AreDistinct}
 use Rattle.desq_run.specs.OutputTrie.{pair_eq}
 use Rattle.desq_run.proofs.OutputLemmas.{length_outputs, outputs_empty, distinct_of_trie}
 use Rattle.desq_run.proofs.evaluator.outputs.Outputs.len.Goals as goal

@@ -1,7 +1,7 @@
-use Rattle.std.proofs.Common.{◌≡◌, ◌<◌, length, arith, ap, sym}
+use Rattle.std.proofs.Common.{◌≡◌, ◌<◌, length, arith}
 use Rattle.std.specs.HashMap.{get}
 use Rattle.desq_run.specs.OutputTrie.{outputs_of, pair_eq}
-use Rattle.desq_run.proofs.OutputLemmas.{IsOnTheWay, way_begins, way_goes_on, way_ends}
+use Rattle.desq_run.proofs.OutputLemmas.{way_begins, way_goes_on, way_ends}
 use Rattle.desq_run.proofs.evaluator.outputs.Outputs.pattern.Goals as goal
 
 pub loop-rest-init : goal.loop-rest-init
