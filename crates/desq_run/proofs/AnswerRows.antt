@@ -1,5 +1,5 @@
 -- The rows of an answer: their items have names.
-use Rattle.std.proofs.Common.{◌≡◌, ℕ, ◌≤◌, ◌<◌, ◌++◌, ◌↔◌, List, [], ◌∷◌, length, take, drop, get_or, refl, sym, subst, arith, IsPermutation}
+use Rattle.std.proofs.Common.{◌≡◌, ℕ, ◌≤◌, ◌<◌, ◌++◌, ◌↔◌, List, [], length, take, drop, get_or, sym, subst, arith, IsPermutation}
 use Rattle.std.specs.List.{AllByRecursion, All, Contains}
 use Rattle.std.proofs.lemmas.List.Elements.{All-from_recursion, Contains-get_or}
 use Rattle.std.proofs.lemmas.List.{drop_all, take_all, append-nil}
@@ -22,7 +22,7 @@ IsFrequent-items names d row none least named frequent =
     let (sequence, is_pattern, items) = Counts-some (λ s. IsPatternOf d.rows d.expression s row.pattern) (AreItemsOf names) d.sequences row.support frequent.exact some named in
     let HasName : Item → Type 0 = λ item. item.0 < length names in
     let up : (v t : Item) → IsAncestor d.rows v t → HasName t → HasName v
-        = λ v t above has. subst HasName (IsAncestor-none v t (subst (λ w. IsAncestor w v t) none above)) has in
+    = λ v t above has. subst HasName (IsAncestor-none v t (subst (λ w. IsAncestor w v t) none above)) has in
     All-from_recursion HasName row.pattern (Generates-items d.rows HasName up d.expression _ sequence row.pattern is_pattern.1 items)
 
 -- so have those of all rows that are exactly the frequent ones
@@ -37,8 +37,8 @@ renamed d e row p q r s frequent = record {
   not_empty = frequent.not_empty;
   exact = subst (λ w. HasSupport w e.expression e.sequences row.pattern row.support) p
       (subst (λ w. HasSupport d.rows w e.sequences row.pattern row.support) q
-          (subst (λ w. HasSupport d.rows d.expression w row.pattern row.support) r frequent.exact));
-  enough = subst (λ w. w ≤ row.support) s frequent.enough
+      (subst (λ w. HasSupport d.rows d.expression w row.pattern row.support) r frequent.exact));
+  enough = subst (λ w. w ≤ row.support) s frequent.enough;
 }
 
 -- the same rows in order are the answer
@@ -46,9 +46,10 @@ pub ordered_rows : (d e : Data) (rows ordered : List Row) → d.rows ≡ e.rows 
     → ((row : Row) → Contains rows row ↔ IsFrequent d row) → IsPermutation rows ordered → Rises e.names ordered → IsAnswer e ordered
 ordered_rows d e rows ordered p q r s exact same rises = record {
   ordered = rises;
-  frequent = λ row.
-      ( (λ inside. renamed d e row p q r s ((exact row).0 (Contains-permutation ordered rows row (IsPermutation-sym rows ordered same) inside)))
-      , (λ frequent. Contains-permutation rows ordered row same ((exact row).1 (renamed e d row (sym p) (sym q) (sym r) (sym s) frequent))) )
+  frequent = λ row. (
+    (λ inside. renamed d e row p q r s ((exact row).0 (Contains-permutation ordered rows row (IsPermutation-sym rows ordered same) inside))),
+    (λ frequent. Contains-permutation rows ordered row same ((exact row).1 (renamed e d row (sym p) (sym q) (sym r) (sym s) frequent))),
+  );
 }
 
 -- what a slice of all elements wrote back is the whole

@@ -1,5 +1,5 @@
 -- Numbers of names, as names come behind the old ones.
-use Rattle.std.proofs.Common.{◌≡◌, ℕ, zero, suc, ◌+◌, ◌≤◌, ◌<◌, ◌++◌, ◌⊎◌, inl, inr, List, [], ◌∷◌, length, get_or, map, Option, Some, None, slice_get, refl, sym, ap, ◌∙◌, subst, arith, take, length-append, append_assoc}
+use Rattle.std.proofs.Common.{◌≡◌, ℕ, ◌+◌, ◌≤◌, ◌<◌, ◌++◌, inl, inr, List, [], ◌∷◌, length, get_or, map, Some, slice_get, refl, sym, ap, ◌∙◌, subst, arith, take, length-append, append_assoc}
 use Rattle.std.proofs.lemmas.List.{append-nil, map-append, get_or_append_left, get_or-map, length-map, take_more}
 use Rattle.std.proofs.lemmas.List.Elements.{Contains-append_left, Contains-append_right}
 use Rattle.std.proofs.lemmas.Option.{slice_get_within, get_or_from_slice_get}
@@ -29,7 +29,7 @@ AreItemsOf-push names (first ∷ items) item (first_below, all) below = (first_b
 pub HaveNames-append : (names more : List (List ℕ)) (items : List Item) (texts : List (List ℕ)) → HaveNames names items texts → HaveNames (names ++ more) items texts
 HaveNames-append names more items texts have = record {
   named = AreItemsOf-append names more items have.named;
-  spelled = map_name_of-append names more items have.named ∙ have.spelled
+  spelled = map_name_of-append names more items have.named ∙ have.spelled;
 }
 
 -- the number of a name is that of an item with it
@@ -42,7 +42,7 @@ HaveNames-push names items item texts text have is =
     let (below, called) = has_name names item text is in
     record {
       named = AreItemsOf-push names items item have.named below;
-      spelled = rw map-append (cc (have.spelled, called))
+      spelled = rw map-append (cc (have.spelled, called));
     }
 
 -- ---- names that were added
@@ -69,7 +69,7 @@ AreAdded-interned old names new texts text before interned among =
       added = before.added ++ added;
       behind = is ∙ ap (λ w. w ++ added) before.behind ∙ append_assoc old before.added added;
       among = AllByRecursion-append (λ name. Contains texts name) before.added added before.among
-          (AllByRecursion-imply (λ name. name ≡ text) (λ name. Contains texts name) added (λ name e. subst (Contains texts) (sym e) among) same)
+          (AllByRecursion-imply (λ name. name ≡ text) (λ name. Contains texts name) added (λ name e. subst (Contains texts) (sym e) among) same);
     }
 
 -- what was added is among more texts
@@ -78,7 +78,7 @@ AreAdded-chain old names new some all before after inside = record {
   added = before.added ++ after.added;
   behind = after.behind ∙ ap (λ w. w ++ after.added) before.behind ∙ append_assoc old before.added after.added;
   among = AllByRecursion-append (λ name. Contains all name) before.added after.added before.among
-      (AllByRecursion-imply (λ name. Contains some name) (λ name. Contains all name) after.added inside after.among)
+      (AllByRecursion-imply (λ name. Contains some name) (λ name. Contains all name) after.added inside after.among);
 }
 
 -- ---- many sequences
@@ -91,14 +91,14 @@ maps-append names more (items ∷ sequences) (here, all) = rw (map_name_of-appen
 pub HaveLines-append : (names more : List (List ℕ)) (sequences : List (List Item)) (lines : List (List (List ℕ))) → HaveLines names sequences lines → HaveLines (names ++ more) sequences lines
 HaveLines-append names more sequences lines have = record {
   named = AllByRecursion-imply (AreItemsOf names) (AreItemsOf (names ++ more)) sequences (λ items. AreItemsOf-append names more items) have.named;
-  spelled = maps-append names more sequences have.named ∙ have.spelled
+  spelled = maps-append names more sequences have.named ∙ have.spelled;
 }
 
 pub HaveLines-push : (names : List (List ℕ)) (sequences : List (List Item)) (items : List Item) (lines : List (List (List ℕ))) (texts : List (List ℕ))
     → HaveLines names sequences lines → HaveNames names items texts → HaveLines names (sequences ++ items ∷ []) (lines ++ texts ∷ [])
 HaveLines-push names sequences items lines texts have one = record {
   named = AllByRecursion-append (AreItemsOf names) sequences (items ∷ []) have.named (one.named, tt);
-  spelled = rw map-append (cc (have.spelled, one.spelled))
+  spelled = rw map-append (cc (have.spelled, one.spelled));
 }
 
 -- ---- one more field, one more line

@@ -1,13 +1,13 @@
 -- Lines and fields of a text, from its front.
-use Rattle.std.proofs.Common.{◌≡◌, ◌≢◌, ℕ, zero, suc, ◌+◌, ◌-◌, ◌≤◌, ◌<◌, ◌++◌, ◌==◌, not, Bool, true, false, cond, List, [], ◌∷◌, length, take, drop, get_or, filter, refl, sym, ap, ◌∙◌, arith, length-drop, length-take, true≢false}
+use Rattle.std.proofs.Common.{◌≡◌, ℕ, ◌+◌, ◌-◌, ◌≤◌, ◌<◌, ◌++◌, ◌==◌, not, Bool, true, false, cond, List, [], ◌∷◌, length, take, drop, filter, refl, sym, ap, ◌∙◌, arith, length-drop, length-take, true≢false}
 use borrow.Author.Tests.{eqb-true}
 use Rattle.std.proofs.lemmas.List.{drop-drop, take_all}
 use Rattle.std.proofs.Math.Numerals.{one-add}
-use Rattle.std.specs.List.{AllByRecursion, prefix_len, take_while}
+use Rattle.std.specs.List.{prefix_len, take_while}
 use Rattle.std.proofs.lemmas.List.{take-append-drop}
-use Rattle.std.proofs.lemmas.List.Sums.{prefix_len_stops, prefix_len-le-length}
+use Rattle.std.proofs.lemmas.List.Sums.{prefix_len-le-length}
 use Rattle.std.proofs.lemmas.List.Folds.{length-prefix_len}
-use Rattle.mine_model.specs.Text.{is_name_byte, onto_first, pieces_by_feed, pieces_by_blank, fields_of, is_empty}
+use Rattle.mine_model.specs.Text.{is_name_byte, pieces_by_feed, pieces_by_blank, fields_of, is_empty}
 use Rattle.mine_model.specs.Tokens.{Each, BeginsOtherwise}
 
 front_by : (p : ℕ → Bool) (x : ℕ) (xs : List ℕ) (t : Bool) → p x ≡ t → Each p true (take (prefix_len p xs) xs) → Each p true (take (cond t (1 + prefix_len p xs) 0) (x ∷ xs))

@@ -1,14 +1,12 @@
 -- From the names of an expression and the names of a file to what is refused and what is answered.
-use Rattle.std.proofs.Common.{◌≡◌, ◌≢◌, ℕ, ◌≤◌, ◌<◌, ◌++◌, ◌⊎◌, inl, inr, List, [], ◌∷◌, length, get_or, map, refl, sym, ap, ◌∙◌, subst, arith}
+use Rattle.std.proofs.Common.{◌≡◌, ℕ, inl, inr, List, [], ◌∷◌, map, refl, sym, ap, ◌∙◌, subst}
 use Rattle.std.specs.List.{AllByRecursion, Contains, flat_map}
-use Rattle.std.proofs.lemmas.List.{map-append}
 use Rattle.std.proofs.lemmas.List.Elements.{Contains-append_cases, Contains-get_or}
 use Rattle.mine_model.specs.declared.item.Item.{Item}
 use Rattle.mine_model.specs.declared.row.Row.{Row}
 use Rattle.mine_model.specs.Text.{fields_of, lines_of, pieces_by_feed}
 use Rattle.mine_model.specs.Expression.{tree_of, with_items}
-use Rattle.mine_model.specs.Grammar.{uses_of}
-use Rattle.mine_model.specs.Answer.{Data, IsAnswer, name_of}
+use Rattle.mine_model.specs.Answer.{IsAnswer, name_of}
 use Rattle.mine_model.specs.AnswerText.{text_of}
 use Rattle.mine_model.proofs.AnswerLemmas.{AllByRecursion-contained, Contains-cases, Contains-none}
 use Rattle.item_names.specs.Names.{AreDistinct}
@@ -18,9 +16,8 @@ use Rattle.patex_parser.specs.Narrow.{IsNarrow}
 use Rattle.patex_parser.specs.Parsing.{use_view, uses_view}
 use Rattle.desq_run.specs.Words.{Command}
 use Rattle.desq_run.specs.Plain.{IsPlain, all_fields}
-use Rattle.desq_run.specs.Input.{IsDataOf}
 use Rattle.desq_run.specs.Database.{AreItemsOf, HaveNames, HaveLines, AreAdded}
-use Rattle.desq_run.specs.Outcome.{names_in, IsKnown, HasUnknown, IsNotBuilt, IsAccepted, IsAnswerText}
+use Rattle.desq_run.specs.Outcome.{names_in, HasUnknown}
 use Rattle.desq_run.specs.Attempt.{Accepts, Refuses}
 use Rattle.desq_run.specs.Parsed.{IsParsedFrom}
 use Rattle.desq_run.proofs.PlainLemmas.{lines_of-plain}
@@ -42,7 +39,7 @@ names_read command parsed read narrow = ap (map (λ u. u.name)) (read.only narro
 name_held : (names : List (List ℕ)) (items : List Item) (text : List ℕ) → AreItemsOf names items → Contains (map (name_of names) items) text → Contains names text
 name_held names [] text named inside = absurd (Contains-none text inside)
 name_held names (item ∷ items) text named inside = elim (Contains-cases (name_of names item) (map (name_of names) items) text inside) [
-    inl same ↦ subst (Contains names) (sym same) (Contains-get_or names item.0 [] named.0)
+  | inl same ↦ subst (Contains names) (sym same) (Contains-get_or names item.0 [] named.0)
   | inr later ↦ name_held names items text named.1 later
 ]
 
@@ -51,7 +48,7 @@ field_of_held : (names : List (List ℕ)) (sequences : List (List Item)) (text :
 field_of_held names [] text named inside = absurd (Contains-none text inside)
 field_of_held names (items ∷ sequences) text named inside =
     elim (Contains-append_cases (map (name_of names) items) (flat_map (λ w. w) (map (λ sequence. map (name_of names) sequence) sequences)) text inside) [
-        inl here ↦ name_held names items text named.0 here
+      | inl here ↦ name_held names items text named.0 here
       | inr later ↦ field_of_held names sequences text named.1 later
     ]
 
@@ -68,7 +65,7 @@ pieces_are bytes plain = lines_of-plain bytes plain.unmarked plain.clean
 field_held : (bytes : List ℕ) (names : List (List ℕ)) (sequences : List (List Item)) (text : List ℕ) → IsNumbered bytes names sequences → Contains (all_fields bytes) text → Contains names text
 field_held bytes names sequences text n inside =
     let all : all_fields bytes ≡ flat_map (λ w. w) (map (λ sequence. map (name_of names) sequence) sequences)
-        = ap (flat_map fields_of) (pieces_are bytes n.plain) ∙ flat_map-map fields_of (pieces_by_feed bytes) ∙ ap (flat_map (λ w. w)) (sym n.lines.spelled) in
+    = ap (flat_map fields_of) (pieces_are bytes n.plain) ∙ flat_map-map fields_of (pieces_by_feed bytes) ∙ ap (flat_map (λ w. w)) (sym n.lines.spelled) in
     field_of_held names sequences text n.lines.named (subst (λ w. Contains w text) all inside)
 
 -- a name with a number is a field of the file
@@ -76,27 +73,32 @@ held_field : (bytes : List ℕ) (names : List (List ℕ)) (sequences : List (Lis
 held_field bytes names sequences text n inside =
     let among : AllByRecursion (λ name. Contains (flat_map fields_of (pieces_by_feed bytes)) name) names = subst (AllByRecursion (λ name. Contains (flat_map fields_of (pieces_by_feed bytes)) name)) (sym n.added.behind) n.added.among in
     subst (λ w. Contains (flat_map fields_of w) text) (sym (pieces_are bytes n.plain))
-        (AllByRecursion-contained (λ name. Contains (flat_map fields_of (pieces_by_feed bytes)) name) names text among inside)
+    (AllByRecursion-contained (λ name. Contains (flat_map fields_of (pieces_by_feed bytes)) name) names text among inside)
 
 -- a name with no number is unknown
 pub unknown_refuses : (command : Command) (parsed : Parsed) (bytes : List ℕ) (names : List (List ℕ)) (sequences : List (List Item)) (name : List ℕ)
     → IsParsedFrom command parsed → IsNumbered bytes names sequences → Contains (read_names parsed) name → (Contains names name → ⊥) → Refuses command bytes
 unknown_refuses command parsed bytes names sequences name read n among unknown = record {
-  not_built = inr (inr (read.narrow, name, subst (λ w. Contains w name) (sym (names_read command parsed read read.narrow)) among
-      , (λ inside. unknown (field_held bytes names sequences name n inside))));
+  not_built = inr (inr (
+    read.narrow,
+    name,
+    subst (λ w. Contains w name) (sym (names_read command parsed read read.narrow)) among,
+    (λ inside. unknown (field_held bytes names sequences name n inside)),
+  ));
   refused = λ accepted.
       let (narrow, known) = accepted.1 in
       let inside : Contains (names_in narrow) name = subst (λ w. Contains w name) (sym (names_read command parsed read narrow)) among in
-      unknown (field_held bytes names sequences name n (AllByRecursion-contained (λ w. Contains (all_fields bytes) w) (names_in narrow) name known inside))
+      unknown (field_held bytes names sequences name n (AllByRecursion-contained (λ w. Contains (all_fields bytes) w) (names_in narrow) name known inside));
 }
 
 -- names with numbers are known
 names_known : (bytes : List ℕ) (names : List (List ℕ)) (sequences : List (List Item)) (items : List Item) → IsNumbered bytes names sequences → AreItemsOf names items
     → AllByRecursion (λ name. Contains (all_fields bytes) name) (map (name_of names) items)
 names_known bytes names sequences [] n named = tt
-names_known bytes names sequences (item ∷ items) n named =
-    ( held_field bytes names sequences (name_of names item) n (Contains-get_or names item.0 [] named.0)
-    , names_known bytes names sequences items n named.1 )
+names_known bytes names sequences (item ∷ items) n named = (
+  held_field bytes names sequences (name_of names item) n (Contains-get_or names item.0 [] named.0),
+  names_known bytes names sequences items n named.1,
+)
 
 unknown_is_known : (command : Command) (parsed : Parsed) (bytes : List ℕ) → IsParsedFrom command parsed → AllByRecursion (λ name. Contains (all_fields bytes) name) (read_names parsed) → HasUnknown command.expression bytes → ⊥
 unknown_is_known command parsed bytes read known (narrow, name, among, unknown) =
@@ -108,13 +110,13 @@ pub known_accepts : (command : Command) (parsed : Parsed) (bytes : List ℕ) (na
     → (text : List ℕ) → text ≡ text_of names answer → Accepts command bytes text
 known_accepts command parsed bytes names sequences items answer read n have is_answer text is_text =
     let known : AllByRecursion (λ name. Contains (all_fields bytes) name) (read_names parsed)
-        = subst (AllByRecursion (λ name. Contains (all_fields bytes) name)) have.spelled (names_known bytes names sequences items n have.named) in
+    = subst (AllByRecursion (λ name. Contains (all_fields bytes) name)) have.spelled (names_known bytes names sequences items n have.named) in
     record {
       accepted = (n.plain, (read.narrow, subst (AllByRecursion (λ name. Contains (all_fields bytes) name)) (sym (names_read command parsed read read.narrow)) known));
       built = λ refused. elim refused [
-          inl wide ↦ wide read.narrow
+        | inl wide ↦ wide read.narrow
         | inr rest ↦ elim rest [
-            inl rough ↦ rough n.plain
+          | inl rough ↦ rough n.plain
           | inr unknown ↦ unknown_is_known command parsed bytes read known unknown
         ]
       ];
@@ -132,10 +134,10 @@ known_accepts command parsed bytes names sequences items answer read n have is_a
           items = items;
           known = have.named;
           named = have.spelled ∙ sym (names_viewed parsed.uses.items);
-          expression = refl
+          expression = refl;
         };
         answer = answer;
         is_answer = is_answer;
-        is_text = is_text
-      }
+        is_text = is_text;
+      };
     }

@@ -1,8 +1,8 @@
 -- The lines of a file with no byte order mark and no bad byte.
-use Rattle.std.proofs.Common.{◌≡◌, ℕ, ◌≤◌, ◌++◌, ◌==◌, ◌↔◌, Bool, true, false, not, List, [], ◌∷◌, map, nat_eq, refl, sym, ap, ◌∙◌, subst, true≢false}
-use Rattle.std.specs.List.{AllByRecursion, flat_map, starts_with}
+use Rattle.std.proofs.Common.{◌≡◌, ℕ, ◌++◌, ◌==◌, Bool, true, false, List, [], ◌∷◌, map, nat_eq, refl, ap, ◌∙◌, subst, true≢false}
+use Rattle.std.specs.List.{AllByRecursion, starts_with}
 use borrow.Author.Tests.{eqb-true}
-use Rattle.mine_model.specs.Text.{byte_order_mark, is_bad_byte, pieces_by_feed, onto_first, without_return, without_mark, lines_of, fields_of}
+use Rattle.mine_model.specs.Text.{byte_order_mark, is_bad_byte, pieces_by_feed, onto_first, without_return, without_mark, lines_of}
 use Rattle.mine_model.specs.Tokens.{Each}
 
 is_no_return : (b : ℕ) (t : Bool) → (b == 13) ≡ t → is_bad_byte b ≡ false → (b == 13) ≡ false

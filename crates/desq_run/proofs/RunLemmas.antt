@@ -1,5 +1,5 @@
 -- From what a run answered to its status.
-use Rattle.std.proofs.Common.{◌≡◌, ◌≢◌, ℕ, ◌<◌, ◌++◌, ◌⊎◌, ◌↔◌, inl, inr, List, [], ◌∷◌, length, take, Option, Some, None, IfSome, Result, Ok, Err, refl, sym, ap, ◌∙◌, subst, arith}
+use Rattle.std.proofs.Common.{◌≡◌, ◌≢◌, ℕ, ◌<◌, ◌++◌, ◌⊎◌, ◌↔◌, inl, inr, List, length, take, Option, Some, None, IfSome, Result, Ok, Err, refl, sym, ap, ◌∙◌, subst, arith}
 use Rattle.mine_model.specs.declared.fault.Fault.{Fault}
 use Rattle.mine_model.specs.declared.fault.Fault.TheVariants.{Usage, NotBuilt, Read, Write, NoMemory}
 use Rattle.mine_model.specs.declared.fault.Which.TheVariants.{Hierarchy, Sequences}
@@ -7,7 +7,7 @@ use Rattle.mine_model.specs.Grammar.{value_of_digits}
 use Rattle.patex_parser.specs.Narrow.{IsNarrow}
 use Rattle.desq_run.specs.Words.{Command, IsCommand, IsUsage}
 use Rattle.desq_run.specs.Outcome.{IsNotBuilt, IsAccepted, IsAnswerText}
-use Rattle.desq_run.specs.Attempt.{Accepts, Refuses, Attempts}
+use Rattle.desq_run.specs.Attempt.{Attempts}
 use Rattle.desq_run.specs.Status.{status_of}
 use Rattle.desq_run.proofs.Told.{IfSome-follows}
 
@@ -47,7 +47,7 @@ module _ (words : List (List ℕ)) (holds : List ℕ → Option (List ℕ)) (Rea
 
   pub run_done : (r : Result (Unit {0}) Fault) → Attempts words holds ReadFaulty WriteFaulty before after r → status_of r ≡ 0
       → (command : Command) × IsCommand words command × IsNarrow command.expression × IfSome (holds command.file)
-          (λ bytes. IsAccepted command bytes × (text : List ℕ) × IsAnswerText command bytes text × IfSome before (λ b. after ≡ Some (b ++ text)))
+      (λ bytes. IsAccepted command bytes × (text : List ℕ) × IsAnswerText command bytes text × IfSome before (λ b. after ≡ Some (b ++ text)))
   run_done (Ok done) (c, is, narrow, told) e = (c, is, narrow, IfSome-follows _ _ (holds c.file) (λ bytes t. (t.1.accepted, t.0, t.1.is_text, t.2)) told)
   run_done (Err Usage) a e = absurd (omega arith)
   run_done (Err NotBuilt) a e = absurd (omega arith)
@@ -68,14 +68,14 @@ module _ (words : List (List ℕ)) (holds : List ℕ → Option (List ℕ)) (Rea
       → (command : Command) → IsCommand words command → IfSome (holds command.file) (λ bytes. IsNotBuilt command bytes → (status_of r ≡ 3) ⊎ (status_of r ≡ 7) ⊎ ReadFaulty)
   run_refuses (Ok done) (c, is, narrow, told) d also =
       subst (λ w. IfSome (holds w.file) (λ bytes. IsNotBuilt w bytes → (status_of (Ok done) ≡ 3) ⊎ (status_of (Ok done) ≡ 7) ⊎ ReadFaulty)) (IsCommand-unique words c d is also)
-          (IfSome-follows _ _ (holds c.file) (λ bytes t refused. absurd (t.1.built refused)) told)
+      (IfSome-follows _ _ (holds c.file) (λ bytes t refused. absurd (t.1.built refused)) told)
   run_refuses (Err Usage) (usage, same) d also = absurd (usage d also)
   run_refuses (Err NotBuilt) a d also = always (holds d.file) (λ bytes refused. inl refl)
   run_refuses (Err (Read Sequences)) (c, is, narrow, faulty, same) d also = always (holds d.file) (λ bytes refused. inr (inr faulty))
   run_refuses (Err (Read Hierarchy)) a d also = absurd a
   run_refuses (Err Write) (c, is, narrow, faulty, told) d also =
       subst (λ w. IfSome (holds w.file) (λ bytes. IsNotBuilt w bytes → (status_of (Err Write) ≡ 3) ⊎ (status_of (Err Write) ≡ 7) ⊎ ReadFaulty)) (IsCommand-unique words c d is also)
-          (IfSome-follows _ _ (holds c.file) (λ bytes t refused. absurd (t.1.built refused)) told)
+      (IfSome-follows _ _ (holds c.file) (λ bytes t refused. absurd (t.1.built refused)) told)
   run_refuses (Err NoMemory) a d also = always (holds d.file) (λ bytes refused. inr (inl refl))
 
   pub run_complete : (r : Result (Unit {0}) Fault) → Attempts words holds ReadFaulty WriteFaulty before after r
@@ -84,7 +84,7 @@ module _ (words : List (List ℕ)) (holds : List ℕ → Option (List ℕ)) (Rea
   run_complete (Err Usage) (usage, same) d also = absurd (usage d also)
   run_complete (Err NotBuilt) (c, is, told, same) d also =
       subst (λ w. IfSome (holds w.file) (λ bytes. IsAccepted w bytes → (ReadFaulty → ⊥) → (WriteFaulty → ⊥) → (status_of (Err NotBuilt) ≡ 0) ⊎ (status_of (Err NotBuilt) ≡ 7))) (IsCommand-unique words c d is also)
-          (IfSome-follows _ _ (holds c.file) (λ bytes t accepted reads writes. absurd (t.refused accepted)) told)
+      (IfSome-follows _ _ (holds c.file) (λ bytes t accepted reads writes. absurd (t.refused accepted)) told)
   run_complete (Err (Read Sequences)) (c, is, narrow, faulty, same) d also = always (holds d.file) (λ bytes accepted reads writes. absurd (reads faulty))
   run_complete (Err (Read Hierarchy)) a d also = absurd a
   run_complete (Err Write) (c, is, narrow, faulty, told) d also = always (holds d.file) (λ bytes accepted reads writes. absurd (writes faulty))
@@ -109,8 +109,8 @@ module _ (words : List (List ℕ)) (holds : List ℕ → Option (List ℕ)) (Rea
 
   pub run_cut : (r : Result (Unit {0}) Fault) → Attempts words holds ReadFaulty WriteFaulty before after r → status_of r ≡ 6
       → (command : Command) × IsCommand words command × IfSome (holds command.file)
-          (λ bytes. IsAccepted command bytes × (text : List ℕ) × IsAnswerText command bytes text
-              × IfSome before (λ b. (n : ℕ) × (n < length text) × (after ≡ Some (b ++ take n text))))
+      (λ bytes. IsAccepted command bytes × (text : List ℕ) × IsAnswerText command bytes text
+      × IfSome before (λ b. (n : ℕ) × (n < length text) × (after ≡ Some (b ++ take n text))))
   run_cut (Err Write) (c, is, narrow, faulty, told) e = (c, is, IfSome-follows _ _ (holds c.file) (λ bytes t. (t.1.accepted, t.0, t.1.is_text, t.2)) told)
   run_cut (Ok done) a e = absurd (omega arith)
   run_cut (Err Usage) a e = absurd (omega arith)

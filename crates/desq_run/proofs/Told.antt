@@ -1,5 +1,5 @@
 -- Lemmas on what an object of the outside tells.
-use Rattle.std.proofs.Common.{◌≡◌, ℕ, ◌+◌, ◌++◌, Result, Ok, Err, IfOk, OnOk, OnErr, Option, Some, None, IfSome, ◌<◌, ◌↔◌, List, [], take, drop, length, refl, sym, ap, ◌∙◌, append_assoc, length-append, arith}
+use Rattle.std.proofs.Common.{◌≡◌, ℕ, ◌++◌, Result, Ok, Err, IfOk, OnOk, OnErr, Option, Some, None, IfSome, ◌<◌, ◌↔◌, List, [], take, drop, length, refl, sym, ap, ◌∙◌, append_assoc, length-append, arith}
 use Rattle.std.proofs.lemmas.List.{take-append-drop, append-nil}
 use Rattle.desq_run.specs.Status.{IsPrefix}
 

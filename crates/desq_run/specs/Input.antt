@@ -1,11 +1,10 @@
 -- The data of one run, as its command and its file say them.
-use Rattle.std.specs.Prelude.{◌≡◌, ℕ, ◌<◌, List, [], map, length, Contains}
+use Rattle.std.specs.Prelude.{◌≡◌, ℕ, ◌<◌, List, [], map, length}
 use Rattle.std.specs.List.{AllByRecursion}
 use Rattle.mine_model.specs.declared.item.Item.{Item}
 use Rattle.mine_model.specs.Text.{lines_of, fields_of}
 use Rattle.mine_model.specs.Expression.{Tree, with_items}
-use Rattle.mine_model.specs.Tokens.{Placed, AreTokens}
-use Rattle.mine_model.specs.Grammar.{Use, uses_of, ReadsAs}
+use Rattle.mine_model.specs.Grammar.{Use}
 use Rattle.mine_model.specs.Answer.{Data, name_of}
 use Rattle.patex_parser.specs.Parsing.{IsReadingOf}
 use Rattle.item_names.specs.Names.{AreDistinct}

@@ -1,8 +1,8 @@
 -- The outcome of a run on one command and one file: what is refused, and the text of the answer.
-use Rattle.std.specs.Prelude.{◌≡◌, ℕ, ◌⊎◌, List, [], map, Contains}
+use Rattle.std.specs.Prelude.{◌≡◌, ℕ, ◌⊎◌, List, map, Contains}
 use Rattle.std.specs.List.{AllByRecursion}
 use Rattle.mine_model.specs.declared.row.Row.{Row}
-use Rattle.mine_model.specs.Grammar.{Use, uses_of}
+use Rattle.mine_model.specs.Grammar.{uses_of}
 use Rattle.mine_model.specs.Answer.{Data, IsAnswer}
 use Rattle.mine_model.specs.AnswerText.{text_of}
 use Rattle.patex_parser.specs.Narrow.{IsNarrow}

@@ -1,5 +1,5 @@
 -- An expression that was read from a command.
-use Rattle.std.specs.Prelude.{◌≡◌, List, vec_len}
+use Rattle.std.specs.Prelude.{◌≡◌, vec_len}
 use Rattle.mine_model.specs.Expression.{tree_of, IsTreeBelow}
 use Rattle.mine_model.specs.Narrow.{IsNarrowTree}
 use Rattle.mine_model.specs.Grammar.{uses_of}

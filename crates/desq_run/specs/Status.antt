@@ -2,8 +2,6 @@
 use Rattle.std.specs.Prelude.{◌≡◌, ℕ, ◌==◌, if◌then◌else◌, ◌++◌, ◌∷◌, List, [], codes, Result, Ok, Err}
 use Rattle.mine_model.specs.declared.fault.Fault.{Fault}
 use Rattle.mine_model.specs.declared.fault.Fault.TheVariants.{Usage, NotBuilt, Read, Write, NoMemory}
-use Rattle.mine_model.specs.declared.fault.Which.{Which}
-use Rattle.mine_model.specs.declared.fault.Which.TheVariants.{Hierarchy, Sequences}
 
 -- the status of a fault
 abbrev pub fault_status : Fault → ℕ

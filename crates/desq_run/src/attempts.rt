@@ -17,7 +17,11 @@ use std::alloc::Global;
 use text_ports::{Files, Sink};
 
 /// The text of the answer to a command. Its expression is read before its file is opened.
-fn mine_file<F: Files>(alloc: Global, command: &CommandLine<'_>, files: &mut F) -> Result<Vec<u8>, Fault>
+fn mine_file<F: Files>(
+    alloc: Global,
+    command: &CommandLine<'_>,
+    files: &mut F,
+) -> Result<Vec<u8>, Fault>
     requires may { IsTrue (F.may files.old command.now.file.now) }
     requires support { 1 ≤ command.now.support }
     ensures mines { MinesFile (λ text. text.items) (command_said command.now) (F.holds files.old command.now.file.now) (Rose (F.faults files.old) (F.faults files.new)) result }

@@ -17,3 +17,6 @@ mod words;
 mod writing;
 
 pub use running::run;
+
+#[cfg(test)]
+mod tests;

@@ -39,11 +39,11 @@ fn text_of_answer(
     requires support { 1 ≤ support }
     requires named { AllByRecursion (AreItemsOf names.now) (map (λ s. s.items) sequences.now) }
     ensures { IfOk result (λ text. (answer : List Row) × IsAnswer (record {
-        names = names.now;
-        rows = [];
-        sequences = map (λ s. s.items) sequences.now;
-        expression = with_items items.now (tree_of expression.now);
-        threshold = support
+      names = names.now;
+      rows = [];
+      sequences = map (λ s. s.items) sequences.now;
+      expression = with_items items.now (tree_of expression.now);
+      threshold = support;
     }) answer × (text.items ≡ text_of names.now answer)) }
 {
     let mut rows = frequent_rows(alloc, expression, items, sequences, support)?;

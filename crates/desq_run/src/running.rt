@@ -34,7 +34,7 @@ pub fn run<F: Files, O: Sink, E: Sink, G: Gate>(
     // Done: nothing is refused, and out gained exactly the text of the answer.
     ensures done { result ≡ 0 → (command : Command) × IsCommand (map string_bytes words.now) command × IsNarrow command.expression
         × IfSome (F.holds files.old command.file) (λ bytes. IsAccepted command bytes × (text : List ℕ) × IsAnswerText command bytes text
-            × IfSome (O.written out.old) (λ before. O.written out.new ≡ Some (before ++ text))) }
+        × IfSome (O.written out.old) (λ before. O.written out.new ≡ Some (before ++ text))) }
 
     // Usage: exactly where the words say no command.
     ensures usage { (result ≡ 2) ↔ IsUsage (map string_bytes words.now) }
@@ -52,7 +52,7 @@ pub fn run<F: Files, O: Sink, E: Sink, G: Gate>(
     ensures write_fault { result ≡ 6 → Rose (O.faults out.old) (O.faults out.new) }
     ensures cut { result ≡ 6 → (command : Command) × IsCommand (map string_bytes words.now) command
         × IfSome (F.holds files.old command.file) (λ bytes. IsAccepted command bytes × (text : List ℕ) × IsAnswerText command bytes text
-            × IfSome (O.written out.old) (λ before. (n : ℕ) × (n < length text) × (O.written out.new ≡ Some (before ++ take n text)))) }
+        × IfSome (O.written out.old) (λ before. (n : ℕ) × (n < length text) × (O.written out.new ≡ Some (before ++ take n text)))) }
     ensures nothing { result ≢ 0 → result ≢ 6 → O.written out.new ≡ O.written out.old }
 
     // Complete: where nothing is refused and no fault was counted, the answer is written, unless memory ran out.

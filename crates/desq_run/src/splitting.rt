@@ -22,14 +22,18 @@ fn line_length(text: &[u8]) -> usize
 fn blank_length(text: &[u8]) -> usize
     ensures { result ≡ length (take_while (λ byte. not (is_name_byte byte)) text.now) }
 {
-    text.iter().take_while(|byte| !may_stand_in_name(**byte)).count()
+    text.iter()
+        .take_while(|byte| !may_stand_in_name(**byte))
+        .count()
 }
 
 /// How many bytes of a name the text begins with.
 fn field_length(text: &[u8]) -> usize
     ensures { result ≡ length (take_while is_name_byte text.now) }
 {
-    text.iter().take_while(|byte| may_stand_in_name(**byte)).count()
+    text.iter()
+        .take_while(|byte| may_stand_in_name(**byte))
+        .count()
 }
 
 /// The first line of the text, and what stands behind its line feed. None where no line is left.

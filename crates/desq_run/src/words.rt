@@ -62,7 +62,12 @@ fn begins_with_dash(word: &str) -> bool
 }
 
 /// The command that four words say. None where they say none.
-fn read_four<'a>(option: &str, digits: &str, expression: &'a str, file: &'a str) -> Option<CommandLine<'a>>
+fn read_four<'a>(
+    option: &str,
+    digits: &str,
+    expression: &'a str,
+    file: &'a str,
+) -> Option<CommandLine<'a>>
     ensures { MatchOption result
         (IsUsage (option.now ∷ digits.now ∷ expression.now ∷ file.now ∷ []))
         (λ command. IsCommand (option.now ∷ digits.now ∷ expression.now ∷ file.now ∷ []) (command_said command)) }

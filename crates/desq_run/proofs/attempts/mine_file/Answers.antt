@@ -1,5 +1,3 @@
-use Rattle.std.proofs.Common.{◌≡◌, ℕ, List, sym, subst}
-use Rattle.desq_run.specs.Commands.{command_said}
 use Rattle.desq_run.proofs.attempts.mine_file.Goals as goal
 
 pub mine_bytes-requires-clause-read : goal.mine_bytes-requires-clause-read

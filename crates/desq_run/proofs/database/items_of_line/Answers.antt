@@ -1,4 +1,4 @@
-use Rattle.std.proofs.Common.{◌≡◌, ℕ, ◌≤◌, ◌<◌, ◌+◌, ◌++◌, List, [], ◌∷◌, length, arith, sym, ap, ◌∙◌, append_assoc}
+use Rattle.std.proofs.Common.{◌≡◌, ℕ, ◌++◌, List, [], ◌∷◌, arith, sym, ap, ◌∙◌, append_assoc}
 use Rattle.mine_model.specs.Text.{fields_of}
 use Rattle.desq_run.proofs.DatabaseLemmas.{HaveNames-interned, AreAdded-interned, Contains-middle, length-interned}
 use Rattle.desq_run.proofs.database.items_of_line.Goals as goal
@@ -15,12 +15,13 @@ loop-field-preserved c =
     let longer = length-interned c.loop-field.names c.number_of.new.names text interned in
     let room = c.loop-field.invariant.few in
     record {
-      read =
-          ( read ++ text ∷ []
-          , so_far ∙ sym (append_assoc read (text ∷ []) later)
-          , rw c.in_ok-push.ensures.items (HaveNames-interned c.loop-field.names c.number_of.new.names c.loop-field.items.items c.in_ok-number_of.field-0 read text have interned number));
+      read = (
+        read ++ text ∷ [],
+        so_far ∙ sym (append_assoc read (text ∷ []) later),
+        rw c.in_ok-push.ensures.items (HaveNames-interned c.loop-field.names c.number_of.new.names c.loop-field.items.items c.in_ok-number_of.field-0 read text have interned number),
+      );
       added = AreAdded-interned c.args.names.now c.loop-field.names c.number_of.new.names (fields_of c.args.line.now) text c.loop-field.invariant.added interned
           (Contains-middle read later (fields_of c.args.line.now) text so_far);
       few = let a = cut.1 in let b = cut.2 in omega (arith, longer, room, a, b);
-      distinct = λ before. c.number_of.ensures.distinct
+      distinct = λ before. c.number_of.ensures.distinct;
     }

@@ -9,7 +9,7 @@ invariant-loop-field l = record {
   read : (texts : List (List ℕ)) × (fields_of l.line ≡ texts ++ fields_of l.rest) × HaveNames l.names l.items.items texts;
   added : AreAdded l.initial.names l.names (fields_of l.line);
   few : length l.names + length l.rest ≤ length l.initial.names + length l.line;
-  distinct : AreDistinct l.initial.names → AreDistinct l.names
+  distinct : AreDistinct l.initial.names → AreDistinct l.names;
 }
 
 abbrev pub decreases-loop-field : goal.decreases-loop-field

@@ -11,7 +11,7 @@ invariant-loop-line l = record {
       × HaveLines l.names (map (λ sequence. sequence.items) l.sequences.items) lines;
   added : AreAdded [] l.names (flat_map fields_of (pieces_by_feed l.bytes));
   few : length l.names + length l.rest ≤ length l.bytes;
-  distinct : AreDistinct l.names
+  distinct : AreDistinct l.names;
 }
 
 abbrev pub decreases-loop-line : goal.decreases-loop-line

@@ -1,4 +1,4 @@
-use Rattle.std.proofs.Common.{◌≡◌, ℕ, List, map, take}
+use Rattle.std.proofs.Common.{map, take}
 use Rattle.desq_run.specs.Database.{HaveNames}
 use Rattle.desq_run.proofs.known.items_of_uses.Given as goal
 

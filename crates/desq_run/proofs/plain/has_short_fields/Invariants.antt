@@ -1,4 +1,4 @@
-use Rattle.std.proofs.Common.{ℕ, ◌≤◌, ◌↔◌, List, length}
+use Rattle.std.proofs.Common.{◌≤◌, ◌↔◌, length}
 use Rattle.std.specs.List.{AllByRecursion}
 use Rattle.mine_model.specs.Text.{fields_of}
 use Rattle.desq_run.proofs.plain.has_short_fields.Given as goal

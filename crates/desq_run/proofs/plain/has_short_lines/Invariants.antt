@@ -1,4 +1,4 @@
-use Rattle.std.proofs.Common.{ℕ, ◌≤◌, ◌↔◌, List, length}
+use Rattle.std.proofs.Common.{◌≤◌, ◌↔◌, length}
 use Rattle.std.specs.List.{AllByRecursion, flat_map}
 use Rattle.mine_model.specs.Text.{fields_of, pieces_by_feed}
 use Rattle.desq_run.proofs.plain.has_short_lines.Given as goal

@@ -1,4 +1,4 @@
-use Rattle.std.proofs.Common.{◌≡◌, ℕ, ◌+◌, ◌-◌, ◌<◌, ◌≤◌, List, [], ◌∷◌, length, take, drop, arith, length-drop, length-take, sym, refl, ap, ◌∙◌}
+use Rattle.std.proofs.Common.{◌≡◌, ℕ, ◌<◌, ◌≤◌, List, [], length, drop, arith, length-drop, length-take, ap, ◌∙◌}
 use Rattle.desq_run.proofs.FieldLemmas.{tail_is, tail_none, tail_some, cut_blanks, cut_field, cut_some}
 use Rattle.mine_model.specs.Text.{fields_of, is_name_byte}
 use Rattle.std.specs.List.{take_while}
@@ -26,7 +26,8 @@ returns c =
     let count = length-prefix_len is_name_byte (drop n line) in
     let within : e ≤ length (drop n line) = omega (arith, bound, count, ends) in
     let size = length-drop n line in
-    rw (tail_is n line, tail_is e (drop n line))
-        (blanks ∙ field
-        , let a = length-take e (drop n line) in let b = length-drop e (drop n line) in omega (arith, a, b, size, within)
-        , let a = length-take e (drop n line) in omega (arith, a, within, some))
+    rw (tail_is n line, tail_is e (drop n line)) (
+      blanks ∙ field,
+      let a = length-take e (drop n line) in let b = length-drop e (drop n line) in omega (arith, a, b, size, within),
+      let a = length-take e (drop n line) in omega (arith, a, within, some),
+    )

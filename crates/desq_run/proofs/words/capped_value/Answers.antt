@@ -1,4 +1,4 @@
-use Rattle.std.proofs.Common.{◌≡◌, ℕ, ◌≤◌, ◌<◌, ◌+◌, ◌-◌, ◌*◌, List, take, get_or, length, arith}
+use Rattle.std.proofs.Common.{◌≡◌, ◌<◌, take, length, arith}
 use Rattle.mine_model.specs.Grammar.{value_of_digits}
 use Rattle.mine_model.proofs.DigitLemmas.{value_of_digits-take_more}
 use Rattle.desq_run.proofs.words.capped_value.Goals as goal
@@ -9,7 +9,7 @@ loop-digit-preserved c =
     let inside : c.loop-digit.digit-index < length c.args.digits.now = omega arith in
     let more = value_of_digits-take_more c.args.digits.now c.loop-digit.digit-index inside in
     elim c.if-value-le-MOST_SUPPORT.branch [
-        then-value-le-MOST_SUPPORT w ↦
+      | then-value-le-MOST_SUPPORT w ↦
           let small : value_of_digits (take c.loop-digit.digit-index c.args.digits.now) ≡ c.loop-digit.value = c.loop-digit.invariant.value w.if-value-le-MOST_SUPPORT.true in
           record { value = λ h. omega (arith, more, small); above = λ h. omega (arith, more, small) }
       | else-value-le-MOST_SUPPORT w ↦

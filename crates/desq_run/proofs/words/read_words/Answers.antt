@@ -1,6 +1,4 @@
-use Rattle.std.proofs.Common.{◌≡◌, ℕ, ◌≤◌, ◌<◌, List, [], ◌∷◌, length, get_or, refl, sym, ap, subst, arith, map, string_bytes, Global, MatchOption}
-use Rattle.desq_run.specs.Words.{IsUsage, IsCommand}
-use Rattle.desq_run.specs.Commands.{command_said}
+use Rattle.std.proofs.Common.{◌≡◌, ◌≤◌, ◌<◌, List, [], ◌∷◌, length, get_or, arith, map, string_bytes, Global}
 use Rattle.desq_run.proofs.words.read_words.Goals as goal
 
 -- a list of four elements, by its elements
@@ -16,8 +14,8 @@ four_elements (w ∷ x ∷ y ∷ z ∷ v ∷ xs) a b c d least most p q r s = ab
 pub returns-in-len4 : goal.returns-in-len4
 returns-in-len4 c =
     let words = four_elements c.args.words.now c.option-item.result c.digits-item.result c.expression-item.result c.file-item.result
-            c.in-len4.len_at_least c.in-len4.len_below c.option-item.is c.digits-item.is c.expression-item.is c.file-item.is in
+    c.in-len4.len_at_least c.in-len4.len_below c.option-item.is c.digits-item.is c.expression-item.is c.file-item.is in
     let texts : map (string_bytes {Z = Global}) c.args.words.now
-            ≡ c.as_str.result.now ∷ c.as_str-in-len4.result.now ∷ c.as_str-in-len4-2.result.now ∷ c.as_str-in-len4-3.result.now ∷ []
-        = rw words (cc (c.as_str.ensures.value, c.as_str-in-len4.ensures.value, c.as_str-in-len4-2.ensures.value, c.as_str-in-len4-3.ensures.value)) in
+    ≡ c.as_str.result.now ∷ c.as_str-in-len4.result.now ∷ c.as_str-in-len4-2.result.now ∷ c.as_str-in-len4-3.result.now ∷ []
+    = rw words (cc (c.as_str.ensures.value, c.as_str-in-len4.ensures.value, c.as_str-in-len4-2.ensures.value, c.as_str-in-len4-3.ensures.value)) in
     rw texts c.read_four.ensures

@@ -1,4 +1,4 @@
-use Rattle.std.proofs.Common.{◌≡◌, ℕ, ◌≤◌, ◌<◌, ◌+◌, ◌-◌, List, take, drop, length, arith, ◌++◌}
+use Rattle.std.proofs.Common.{ℕ, ◌≤◌, ◌+◌, ◌-◌, List, take, drop, length, arith}
 use Rattle.desq_run.proofs.Told.{told_then}
 use Rattle.desq_run.proofs.Pieces.{piece_within, piece_joins}
 use Rattle.desq_run.proofs.writing.write_all.Goals as goal
@@ -16,5 +16,5 @@ loop-at-preserved g c =
       within = omega (arith, within, end_within);
       written = told_then _ _ _ (take at text) (take n (take (end - at) (drop at text))) _ c.loop-at.invariant.written c.in_ok-at.ensures.appends
           (piece_joins text at end n (omega (arith, within)));
-      rising = let more = c.write.ensures.never_falls in omega (arith, more)
+      rising = let more = c.write.ensures.never_falls in omega (arith, more);
     }

@@ -1,11 +1,11 @@
-use Rattle.std.proofs.Common.{◌≡◌, ℕ, ◌≤◌, ◌-◌, ◌++◌, Some, IfSome, List, take, length}
+use Rattle.std.proofs.Common.{◌≡◌, ◌≤◌, ◌-◌, ◌++◌, Some, IfSome, take, length}
 use Rattle.desq_run.proofs.writing.write_all.Given as goal
 
 abbrev pub invariant-loop-at : goal.invariant-loop-at
 invariant-loop-at g l = record {
   within : l.at ≤ length l.text;
   written : IfSome (g.S.Sink.written l.initial.sink) (λ before. g.S.Sink.written l.sink ≡ Some (before ++ take l.at l.text));
-  rising : g.S.Sink.faults l.initial.sink ≤ g.S.Sink.faults l.sink
+  rising : g.S.Sink.faults l.initial.sink ≤ g.S.Sink.faults l.sink;
 }
 
 abbrev pub decreases-loop-at : goal.decreases-loop-at
