@@ -19,7 +19,8 @@ pub(crate) fn write_all<S: Sink>(sink: &mut S, text: &[u8]) -> Result<(), Failed
     let mut at = 0;
     while at < text.len() {
         let end = at + (text.len() - at).min(PIECE);
-        at += sink.write(&text[at..end])?;
+        let count = sink.write(&text[at..end])?;
+        at += count;
     }
     Ok(())
 }

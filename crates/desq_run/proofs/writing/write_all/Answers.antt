@@ -8,13 +8,13 @@ loop-at-preserved g c =
     let text : List ℕ = c.args.text.now in
     let at : ℕ = c.loop-at.at in
     let end : ℕ = c.loop-at.at + c.min.result in
-    let n : ℕ = c.in_ok-at.field-0 in
+    let n : ℕ = c.in_ok-count.count in
     let least = c.min.ensures in
     let end_within : end ≤ length text = omega (arith, least) in
-    let within : at + n ≤ end = piece_within text at end n end_within (omega arith) c.in_ok-at.ensures.fits in
+    let within : at + n ≤ end = piece_within text at end n end_within (omega arith) c.in_ok-count.ensures.fits in
     record {
       within = omega (arith, within, end_within);
-      written = told_then _ _ _ (take at text) (take n (take (end - at) (drop at text))) _ c.loop-at.invariant.written c.in_ok-at.ensures.appends
+      written = told_then _ _ _ (take at text) (take n (take (end - at) (drop at text))) _ c.loop-at.invariant.written c.in_ok-count.ensures.appends
           (piece_joins text at end n (omega (arith, within)));
       rising = let more = c.write.ensures.never_falls in omega (arith, more);
     }
