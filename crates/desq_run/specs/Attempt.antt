@@ -25,8 +25,9 @@ Mines bytes_of command bytes (Err NotBuilt) = Refuses command bytes
 Mines bytes_of command bytes (Err NoMemory) = Unit {0}
 Mines bytes_of command bytes (Err _) = ⊥
 
--- what mining a file answers, of which these bytes may be told, where a fault of reading may have come
-abbrev pub MinesFile : {T : Type 0} → (T → List ℕ) → Command → Option (List ℕ) → Type 0 → Result T Fault → Type 0
+-- what mining a file answers, whose bytes may be told, where a fault of reading may have come
+abbrev pub MinesFile :
+    {T : Type 0} → (T → List ℕ) → Command → Option (List ℕ) → Type 0 → Result T Fault → Type 0
 MinesFile bytes_of command told Faulty (Ok text) = IsNarrow command.expression × IfSome told (λ bytes. Accepts command bytes (bytes_of text))
 MinesFile bytes_of command told Faulty (Err NotBuilt) = IfSome told (λ bytes. Refuses command bytes)
 MinesFile bytes_of command told Faulty (Err (Read Sequences)) = IsNarrow command.expression × Faulty

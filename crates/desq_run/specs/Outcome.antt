@@ -16,15 +16,17 @@ names_in narrow = map (λ u. u.name) (uses_of narrow.tokens)
 
 -- the expression is narrow, and each of its names stands in the file
 abbrev pub IsKnown : List ℕ → List ℕ → Type 0
-IsKnown expression bytes = (narrow : IsNarrow expression) × AllByRecursion (λ name. Contains (all_fields bytes) name) (names_in narrow)
+IsKnown expression bytes =
+    (narrow : IsNarrow expression) × AllByRecursion (λ name. Contains (all_fields bytes) name) (names_in narrow)
 
 -- the expression is narrow, and one of its names stands nowhere in the file
 abbrev pub HasUnknown : List ℕ → List ℕ → Type 0
 HasUnknown expression bytes =
-    (narrow : IsNarrow expression) × (name : List ℕ) × Contains (names_in narrow) name × (Contains (all_fields bytes) name → ⊥)
+    (narrow : IsNarrow expression) × (name : List ℕ) × Contains (names_in narrow) name
+    × (Contains (all_fields bytes) name → ⊥)
 
--- The form of the expression or of the file is not built yet: the expression is not narrow, or the file is not plain,
--- or a name of the expression stands nowhere in it.
+-- The form of the expression or of the file is not built yet: the expression is not narrow, or the file is
+-- not plain, or a name of the expression stands nowhere in it.
 abbrev pub IsNotBuilt : Command → List ℕ → Type 0
 IsNotBuilt command bytes =
     (IsNarrow command.expression → ⊥)

@@ -24,7 +24,8 @@ fn mine_file<F: Files>(
 ) -> Result<Vec<u8>, Fault>
     requires may { IsTrue (F.may files.old command.now.file.now) }
     requires support { 1 ≤ command.now.support }
-    ensures mines { MinesFile (λ text. text.items) (command_said command.now) (F.holds files.old command.now.file.now) (Rose (F.faults files.old) (F.faults files.new)) result }
+    ensures mines { MinesFile (λ text. text.items) (command_said command.now)
+        (F.holds files.old command.now.file.now) (Rose (F.faults files.old) (F.faults files.new)) result }
     ensures same_files { F.holds files.new ≡ F.holds files.old }
     ensures never_falls { F.faults files.old ≤ F.faults files.new }
 {
@@ -50,7 +51,8 @@ pub(crate) fn attempt<F: Files, O: Sink>(
     out: &mut O,
 ) -> Result<(), Fault>
     requires { (file : List ℕ) → Names (map string_bytes words.now) file → IsTrue (F.may files.old file) }
-    ensures attempts { Attempts (map string_bytes words.now) (F.holds files.old) (Rose (F.faults files.old) (F.faults files.new)) (Rose (O.faults out.old) (O.faults out.new))
+    ensures attempts { Attempts (map string_bytes words.now) (F.holds files.old)
+        (Rose (F.faults files.old) (F.faults files.new)) (Rose (O.faults out.old) (O.faults out.new))
         (O.written out.old) (O.written out.new) result }
     ensures same_files { F.holds files.new ≡ F.holds files.old }
     ensures files_never_fall { F.faults files.old ≤ F.faults files.new }

@@ -50,7 +50,8 @@ pub(crate) fn sequences_of(
 ) -> Result<Vec<Vec<Item>>, NoMemory>
     requires empty { names.old ≡ [] }
     requires few { length bytes.now ≤ 65536 }
-    ensures sequences { IfOk result (λ v. HaveLines names.new (map (λ sequence. sequence.items) v.items) (map fields_of (pieces_by_feed bytes.now))) }
+    ensures sequences { IfOk result (λ v. HaveLines names.new (map (λ sequence. sequence.items) v.items)
+        (map fields_of (pieces_by_feed bytes.now))) }
     ensures only { OnOk result (AreAdded [] names.new (flat_map fields_of (pieces_by_feed bytes.now))) }
     ensures distinct { OnOk result (AreDistinct names.new) }
 {

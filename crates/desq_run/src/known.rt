@@ -14,7 +14,8 @@ pub(crate) fn items_of_uses(
     uses: &[NameUse],
     names: &Names,
 ) -> Result<Option<Vec<Item>>, NoMemory>
-    ensures known { IfOk result (λ found. IfSome found (λ items. HaveNames names.now items.items (map (λ u. u.name) uses.now))) }
+    ensures known { IfOk result (λ found. IfSome found (λ items.
+        HaveNames names.now items.items (map (λ u. u.name) uses.now))) }
     ensures unknown { IfOk result (λ found. IfNone found
         ((name : List ℕ) × Contains (map (λ u. u.name) uses.now) name × (Contains names.now name → ⊥))) }
 {

@@ -22,7 +22,7 @@ pub(crate) fn status(outcome: &Result<(), Fault>) -> u8
     }
 }
 
-/// The message of a status, with its line feed. Of the files only that of the sequences can fail so far.
+/// The message of a status, with its line feed. Only the file of the sequences can fail so far.
 fn message(status: u8) -> &'static [u8]
     ensures { result.now ≡ message_of status }
 {
@@ -36,9 +36,10 @@ fn message(status: u8) -> &'static [u8]
     }
 }
 
-/// Writes the message of a status. A fault of the sink leaves the first bytes of it, and is told to nobody.
+/// Writes the message of a status. A fault of the sink leaves its first bytes, and is told to nobody.
 pub(crate) fn report<E: Sink>(err: &mut E, status: u8)
-    ensures { IfSome (E.written err.old) (λ before. (gained : List ℕ) × (E.written err.new ≡ Some (before ++ gained)) × IsPrefix gained (message_of status)
+    ensures { IfSome (E.written err.old) (λ before. (gained : List ℕ)
+        × (E.written err.new ≡ Some (before ++ gained)) × IsPrefix gained (message_of status)
         × ((Rose (E.faults err.old) (E.faults err.new) → ⊥) → gained ≡ message_of status)) }
 {
     let _ = write_all(err, message(status));

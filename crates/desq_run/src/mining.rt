@@ -51,8 +51,8 @@ fn text_of_answer(
     answer_text(alloc, rows.as_slice(), names)
 }
 
-/// The text of the answer to a command on the bytes of its file, where its expression was read. `NotBuilt` where the file is
-/// not plain, or a name of the expression stands nowhere in it.
+/// The text of the answer to a command on the bytes of its file, where its expression was read.
+/// `NotBuilt` where the file is not plain, or a name of the expression stands nowhere in it.
 pub(crate) fn mine_bytes(
     alloc: Global,
     command: &CommandLine<'_>,

@@ -44,7 +44,8 @@ fn has_short_fields(line: &[u8]) -> bool
 
 /// Whether each field of the lines is short enough.
 fn has_short_lines(bytes: &[u8]) -> bool
-    ensures { IsTrue result ↔ AllByRecursion (λ field. length field ≤ 255) (flat_map fields_of (pieces_by_feed bytes.now)) }
+    ensures { IsTrue result
+        ↔ AllByRecursion (λ field. length field ≤ 255) (flat_map fields_of (pieces_by_feed bytes.now)) }
 {
     let mut rest = bytes;
     while let Some((line, behind)) = next_line(rest) {

@@ -53,7 +53,8 @@ pub(crate) fn read_file<F: Files>(
     requires limit { limit < 2 ^ 32 }
     ensures whole { IfOk result (λ v. IfSome (F.holds files.old name.now) (λ bytes. v.items ≡ bytes)) }
     ensures few { IfOk result (λ v. vec_len v ≤ limit) }
-    ensures too_large { IsErrOf result ReadFault.TooLarge → IfSome (F.holds files.old name.now) (λ bytes. limit < length bytes) }
+    ensures too_large { IsErrOf result ReadFault.TooLarge
+        → IfSome (F.holds files.old name.now) (λ bytes. limit < length bytes) }
     ensures failed { IsErrOf result ReadFault.Failed → Rose (F.faults files.old) (F.faults files.new) }
     ensures same_files { F.holds files.new ≡ F.holds files.old }
     ensures never_falls { F.faults files.old ≤ F.faults files.new }

@@ -39,7 +39,9 @@ fn field_length(text: &[u8]) -> usize
 /// The first line of the text, and what stands behind its line feed. None where no line is left.
 pub(crate) fn next_line(text: &[u8]) -> Option<(&[u8], &[u8])>
     ensures { MatchOption result (pieces_by_feed text.now ≡ [])
-        (λ cut. (pieces_by_feed text.now ≡ cut.0.now ∷ pieces_by_feed cut.1.now) × (length cut.0.now + length cut.1.now ≤ length text.now) × (length cut.1.now < length text.now)) }
+        (λ cut. (pieces_by_feed text.now ≡ cut.0.now ∷ pieces_by_feed cut.1.now)
+        × (length cut.0.now + length cut.1.now ≤ length text.now)
+        × (length cut.1.now < length text.now)) }
 {
     if text.is_empty() {
         return None;
@@ -55,7 +57,9 @@ pub(crate) fn next_line(text: &[u8]) -> Option<(&[u8], &[u8])>
 /// The first field of the line, and what stands behind it. None where no field is left.
 pub(crate) fn next_field(line: &[u8]) -> Option<(&[u8], &[u8])>
     ensures { MatchOption result (fields_of line.now ≡ [])
-        (λ cut. (fields_of line.now ≡ cut.0.now ∷ fields_of cut.1.now) × (length cut.0.now + length cut.1.now ≤ length line.now) × (0 < length cut.0.now)) }
+        (λ cut. (fields_of line.now ≡ cut.0.now ∷ fields_of cut.1.now)
+        × (length cut.0.now + length cut.1.now ≤ length line.now)
+        × (0 < length cut.0.now)) }
 {
     let rest = &line[blank_length(line)..];
     if rest.is_empty() {

@@ -18,7 +18,8 @@ struct Ran {
     err: Vec<u8>,
 }
 
-/// How the files and the sinks fail: which calls of the files, of out and of err, and how many bytes a call takes at most.
+/// How the files and the sinks fail: which calls of the files, of out and of err, and how many bytes a
+/// call takes at most.
 #[derive(Clone, Copy)]
 struct Faults<'a> {
     files: &'a [u64],

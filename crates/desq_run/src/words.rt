@@ -70,7 +70,8 @@ fn read_four<'a>(
 ) -> Option<CommandLine<'a>>
     ensures { MatchOption result
         (IsUsage (option.now ∷ digits.now ∷ expression.now ∷ file.now ∷ []))
-        (λ command. IsCommand (option.now ∷ digits.now ∷ expression.now ∷ file.now ∷ []) (command_said command)) }
+        (λ command. IsCommand (option.now ∷ digits.now ∷ expression.now ∷ file.now ∷ [])
+        (command_said command)) }
 {
     if option != "--support" {
         return None;
@@ -90,7 +91,8 @@ fn read_four<'a>(
 
 /// The command that the words say. None where they say none.
 pub(crate) fn read_words(words: &[String]) -> Option<CommandLine<'_>>
-    ensures { MatchOption result (IsUsage (map string_bytes words.now)) (λ command. IsCommand (map string_bytes words.now) (command_said command)) }
+    ensures { MatchOption result (IsUsage (map string_bytes words.now))
+        (λ command. IsCommand (map string_bytes words.now) (command_said command)) }
 {
     match words {
         [option, digits, expression, file] => read_four(

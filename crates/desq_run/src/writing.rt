@@ -8,11 +8,13 @@ use text_ports::{Failed, Sink};
 /// The most bytes that are handed to the sink at once.
 const PIECE: usize = 65_536;
 
-/// Writes the whole text, in order, as many bytes at a time as the sink takes. After a failure the sink has taken
-/// the first bytes of it, and not all.
+/// Writes the whole text, in order, as many bytes at a time as the sink takes. After a failure the sink
+/// has taken the first bytes of it, and not all.
 pub(crate) fn write_all<S: Sink>(sink: &mut S, text: &[u8]) -> Result<(), Failed>
-    ensures written { OnOk result (IfSome (S.written sink.old) (λ before. S.written sink.new ≡ Some (before ++ text.now))) }
-    ensures cut { OnErr result (IfSome (S.written sink.old) (λ before. (n : ℕ) × (n < length text.now) × (S.written sink.new ≡ Some (before ++ take n text.now)))) }
+    ensures written { OnOk result (IfSome (S.written sink.old) (λ before.
+        S.written sink.new ≡ Some (before ++ text.now))) }
+    ensures cut { OnErr result (IfSome (S.written sink.old) (λ before. (n : ℕ) × (n < length text.now)
+        × (S.written sink.new ≡ Some (before ++ take n text.now)))) }
     ensures failed { OnErr result (Rose (S.faults sink.old) (S.faults sink.new)) }
     ensures never_falls { S.faults sink.old ≤ S.faults sink.new }
 {
