@@ -196,14 +196,17 @@ fn faults_end_as_stated(rt: HostRuntime) -> Result<(), Fail> {
     assert_eq!(rt; ran.status, 6);
     assert_eq!(rt; ran.out.as_slice(), b"2\ta b".as_slice());
     assert_eq!(rt; ran.err.as_slice(), b"desq: write fault\n".as_slice());
-    let unheard = Faults {
-        err: &[2],
-        cut: 9,
-        ..NO_FAULTS
-    };
-    let ran = run_on(rt.alloc(), &["--help"], LINES, unheard)?;
-    assert_eq!(rt; ran.status, 2);
-    assert_eq!(rt; ran.err.as_slice(), b"desq: usa".as_slice());
+    for (call, heard) in [(1, ""), (2, "desq: usa")] {
+        let fails = [call];
+        let faults = Faults {
+            err: &fails,
+            cut: 9,
+            ..NO_FAULTS
+        };
+        let ran = run_on(rt.alloc(), &["--help"], LINES, faults)?;
+        assert_eq!(rt; ran.status, 2, "call {call}");
+        assert_eq!(rt; ran.err.as_slice(), heard.as_bytes(), "call {call}");
+    }
     Ok(())
 }
 
