@@ -187,6 +187,13 @@ fn faults_end_as_stated(rt: HostRuntime) -> Result<(), Fail> {
         assert_eq!(rt; ran.out.len(), 0, "call {call}");
         assert_eq!(rt; ran.err.as_slice(), READ_FAULT.as_bytes(), "call {call}");
     }
+    // An answer of this size is written by one call.
+    let whole = Faults {
+        out: &[2],
+        ..NO_FAULTS
+    };
+    let ran = run_on(rt.alloc(), &ROW, LINES, whole)?;
+    assert_eq!(rt; ran.status, 0);
     let second = Faults {
         out: &[2],
         cut: 5,
@@ -235,6 +242,24 @@ fn limits_stand_where_stated(rt: HostRuntime) -> Result<(), Fail> {
         let words = ["--support", "1", expression.as_str(), "f"];
         let ran = run_on(rt.alloc(), &words, b"a\n", NO_FAULTS)?;
         assert_eq!(rt; ran.status, status, "{pieces} pieces");
+    }
+    let zeros = repeated(rt.alloc(), "0", 400)?;
+    for (last, status) in [("1", 0), ("", 2)] {
+        let support = format!(in rt.alloc(); "{zeros}{last}")?;
+        let words = ["--support", support.as_str(), "(a)", "f"];
+        let ran = run_on(rt.alloc(), &words, b"a\n", NO_FAULTS)?;
+        assert_eq!(rt; ran.status, status, "400 zeros and {last:?}");
+    }
+    let nines = repeated(rt.alloc(), "9", 400)?;
+    let words = ["--support", nines.as_str(), "(a)", "f"];
+    let ran = run_on(rt.alloc(), &words, b"a\n", NO_FAULTS)?;
+    assert_eq!(rt; ran.status, 2);
+    for (bytes, status) in [(4_096, 0), (4_097, 3)] {
+        let blanks = repeated(rt.alloc(), " ", bytes - 1)?;
+        let expression = format!(in rt.alloc(); "a{blanks}")?;
+        let words = ["--support", "1", expression.as_str(), "f"];
+        let ran = run_on(rt.alloc(), &words, b"a\n", NO_FAULTS)?;
+        assert_eq!(rt; ran.status, status, "an expression of {bytes} bytes");
     }
     for (bytes, status) in [(65_536, 0), (65_537, 3)] {
         let blanks = repeated(rt.alloc(), "\n", bytes - 2)?;
