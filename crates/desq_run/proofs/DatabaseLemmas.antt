@@ -6,6 +6,7 @@ use Rattle.std.proofs.lemmas.Option.{slice_get_within, get_or_from_slice_get}
 use Rattle.std.specs.List.{AllByRecursion, Contains, flat_map}
 use Rattle.mine_model.specs.declared.item.Item.{Item}
 use Rattle.mine_model.specs.Answer.{name_of}
+use Rattle.mine_model.proofs.GenerationLemmas.{of_both}
 use Rattle.item_names.specs.Names.{IsInterned}
 use Rattle.desq_run.specs.Database.{AreItemsOf, HaveNames, HaveLines, AreAdded}
 
@@ -54,10 +55,6 @@ grows old new text (inr (fresh, behind)) = (text ∷ [], behind, omega arith, (r
 pub AreAdded-none : (old texts : List (List ℕ)) → AreAdded old old texts
 AreAdded-none old texts = record { added = []; behind = sym (append-nil old); among = tt }
 
-pub AllByRecursion-append : {X : Type 0} (P : X → Type 0) (xs ys : List X) → AllByRecursion P xs → AllByRecursion P ys → AllByRecursion P (xs ++ ys)
-AllByRecursion-append P [] ys p q = q
-AllByRecursion-append P (x ∷ xs) ys (here, p) q = (here, AllByRecursion-append P xs ys p q)
-
 pub AllByRecursion-imply : {X : Type 0} (P Q : X → Type 0) (xs : List X) → ((x : X) → P x → Q x) → AllByRecursion P xs → AllByRecursion Q xs
 AllByRecursion-imply P Q [] f p = tt
 AllByRecursion-imply P Q (x ∷ xs) f (here, p) = (f x here, AllByRecursion-imply P Q xs f p)
@@ -68,7 +65,7 @@ AreAdded-interned old names new texts text before interned among =
     record {
       added = before.added ++ added;
       behind = is ∙ ap (λ w. w ++ added) before.behind ∙ append_assoc old before.added added;
-      among = AllByRecursion-append (λ name. Contains texts name) before.added added before.among
+      among = of_both (λ name. Contains texts name) before.added added before.among
           (AllByRecursion-imply (λ name. name ≡ text) (λ name. Contains texts name) added (λ name e. subst (Contains texts) (sym e) among) same);
     }
 
@@ -77,7 +74,7 @@ pub AreAdded-chain : (old names new some all : List (List ℕ)) → AreAdded old
 AreAdded-chain old names new some all before after inside = record {
   added = before.added ++ after.added;
   behind = after.behind ∙ ap (λ w. w ++ after.added) before.behind ∙ append_assoc old before.added after.added;
-  among = AllByRecursion-append (λ name. Contains all name) before.added after.added before.among
+  among = of_both (λ name. Contains all name) before.added after.added before.among
       (AllByRecursion-imply (λ name. Contains some name) (λ name. Contains all name) after.added inside after.among);
 }
 
@@ -97,7 +94,7 @@ HaveLines-append names more sequences lines have = record {
 pub HaveLines-push : (names : List (List ℕ)) (sequences : List (List Item)) (items : List Item) (lines : List (List (List ℕ))) (texts : List (List ℕ))
     → HaveLines names sequences lines → HaveNames names items texts → HaveLines names (sequences ++ items ∷ []) (lines ++ texts ∷ [])
 HaveLines-push names sequences items lines texts have one = record {
-  named = AllByRecursion-append (AreItemsOf names) sequences (items ∷ []) have.named (one.named, tt);
+  named = of_both (AreItemsOf names) sequences (items ∷ []) have.named (one.named, tt);
   spelled = rw map-append (cc (have.spelled, one.spelled));
 }
 

@@ -37,8 +37,8 @@ one_more step items after row n item b r below at next opens so_far place t unde
   | inr apart ↦ get_set_other row n place r apart ∙ so_far place t (omega (arith, apart, under)) here taken is_open
 ]
 
-pub one_begins : (step : Step) (items : List Item) (after row : List Bool) → OneSoFar step items after row 0
-one_begins step items after row place t under here taken is_open = absurd (omega (arith, under))
+pub one_begins : (step : Step) (items : List Item) (after before : List Bool) → OneSoFar step items after before 0
+one_begins step items after before place t under here taken is_open = absurd (omega (arith, under))
 
 pub one_ends : (step : Step) (items : List Item) (after row : List Bool) (n : ℕ) → step.starred ≡ false → length items ≤ n → OneSoFar step items after row n → IsOpenBefore step items after row
 one_ends step items after row n single all so_far = record {
@@ -97,11 +97,11 @@ only : (row : Vec Bool Global) (k : ℕ) (other : Vec Bool Global) → slice_get
 only row zero other at = same_Some row other at
 only row (suc k) other at = absurd (none-some other at)
 
-pub open_rows_begin : (steps : List Step) (items : List Item) (row : Vec Bool Global) → length row.items ≡ length items + 1 → slice_get row.items (length items) ≡ Some true → AreOpenRows steps items (row ∷ [])
-open_rows_begin steps items row width last = record {
-  width = λ k other at. (let same = only row k other at in subst (λ (v : Vec Bool Global). length v.items ≡ length items + 1) same width);
-  last = λ other at. subst (λ (v : Vec Bool Global). slice_get v.items (length items) ≡ Some true) (only row 0 other at) last;
-  before = λ k step other next at here there. absurd (omega (arith, slice_get_within (row ∷ []) (k + 1) next there));
+pub open_rows_begin : (steps : List Step) (items : List Item) (first : Vec Bool Global) → length first.items ≡ length items + 1 → slice_get first.items (length items) ≡ Some true → AreOpenRows steps items (first ∷ [])
+open_rows_begin steps items first width last = record {
+  width = λ k other at. (let same = only first k other at in subst (λ (v : Vec Bool Global). length v.items ≡ length items + 1) same width);
+  last = λ other at. subst (λ (v : Vec Bool Global). slice_get v.items (length items) ≡ Some true) (only first 0 other at) last;
+  before = λ k step other next at here there. absurd (omega (arith, slice_get_within (first ∷ []) (k + 1) next there));
 }
 
 pub open_rows_more : (steps : List Step) (items : List Item) (rows : List (Vec Bool Global)) (row next : Vec Bool Global) (step : Step) (k : ℕ) → length rows ≡ k + 1 → slice_get steps k ≡ Some step → slice_get rows k ≡ Some row → length next.items ≡ length items + 1 → IsOpenBefore step items row.items next.items → AreOpenRows steps items rows → AreOpenRows steps items (rows ++ next ∷ [])

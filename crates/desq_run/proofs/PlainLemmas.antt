@@ -1,5 +1,5 @@
 -- The lines of a file with no byte order mark and no bad byte.
-use Rattle.std.proofs.Common.{◌≡◌, ℕ, ◌++◌, ◌==◌, Bool, true, false, List, [], ◌∷◌, map, nat_eq, refl, ap, ◌∙◌, subst, true≢false}
+use Rattle.std.proofs.Common.{◌≡◌, ℕ, ◌==◌, Bool, true, false, List, [], ◌∷◌, map, nat_eq, refl, ap, ◌∙◌, subst, true≢false}
 use Rattle.std.specs.List.{AllByRecursion, starts_with}
 use borrow.Author.Tests.{eqb-true}
 use Rattle.mine_model.specs.Text.{byte_order_mark, is_bad_byte, pieces_by_feed, onto_first, without_return, without_mark, lines_of}
@@ -37,12 +37,3 @@ pub lines_of-plain : (bytes : List ℕ) → starts_with nat_eq bytes byte_order_
 lines_of-plain bytes unmarked each =
     let same : without_mark bytes ≡ bytes = rw unmarked refl in
     ap (λ w. map without_return (pieces_by_feed w)) same ∙ all_same (pieces_by_feed bytes) (pieces_clean bytes each)
-
--- P holds of each element of two lists in a row exactly where it holds of each of both
-pub AllByRecursion-front : {X : Type 0} (P : X → Type 0) (xs ys : List X) → AllByRecursion P (xs ++ ys) → AllByRecursion P xs
-AllByRecursion-front P [] ys all = tt
-AllByRecursion-front P (x ∷ xs) ys all = (all.0, AllByRecursion-front P xs ys all.1)
-
-pub AllByRecursion-back : {X : Type 0} (P : X → Type 0) (xs ys : List X) → AllByRecursion P (xs ++ ys) → AllByRecursion P ys
-AllByRecursion-back P [] ys all = all
-AllByRecursion-back P (x ∷ xs) ys all = AllByRecursion-back P xs ys all.1

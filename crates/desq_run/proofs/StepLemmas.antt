@@ -3,8 +3,8 @@ use Rattle.std.proofs.Common.{◌≡◌, Bool, true, false, ◌⊎◌, Option, S
 use Rattle.std.specs.List.{AllByRecursion, flat_map}
 use Rattle.std.proofs.lemmas.List.{append-nil, same_from_push}
 use Rattle.std.proofs.lemmas.Grind.{flat_map-append}
+use Rattle.mine_model.proofs.GenerationLemmas.{of_both, front_of_both, back_of_both, IsAncestor-none}
 use Rattle.mine_model.specs.declared.item.Item.{Item}
-use Rattle.mine_model.specs.Hierarchy.{IsWalk, IsAncestor}
 use Rattle.mine_model.specs.Expression.{Tree, cat, rep, tree_of, with_items}
 use Rattle.mine_model.specs.declared.expression.Expr.{Expr}
 use Rattle.mine_model.specs.declared.expression.Expr.TheVariants.{Leaf as ItemLeaf, Cat, Cat', Alt', Rep', Cap'}
@@ -14,24 +14,15 @@ use Rattle.mine_model.specs.Generation.{Generates, Turn}
 use Rattle.desq_run.specs.declared.evaluator.steps.Step.{Step}
 use Rattle.desq_run.specs.StepMeaning.{IsTaken, written_at, item_tree, captured_tree, step_tree, Reaches}
 
--- with no rows a walk stays where it is
-walk_same : (steps : List Item) (from to : Item) → IsWalk [] from steps to → from ≡ to
-walk_same [] from to walk = walk
-walk_same (next ∷ steps) from to walk = absurd (omega (arith, walk.0.1))
-
--- with no rows an item has itself alone above it
-pub same_from_ancestor : (w t : Item) → IsAncestor [] w t → t ≡ w
-same_from_ancestor w t above = walk_same above.0 t w above.1
-
 -- an input and an output of one item
 abbrev pub IsOne : Option Item → Bool → List Item → List Item → Type 0
 IsOne matched captured input output = (t : Item) × (input ≡ t ∷ []) × IsTaken matched t × (output ≡ written_at captured t)
 
 pub one_from_generates : (captured : Bool) (matched : Option Item) (input output : List Item) → Generates [] (captured_tree captured (item_tree matched)) false input output → IsOne matched captured input output
 one_from_generates false None input output h = (h.0, h.1, tt, h.3)
-one_from_generates false (Some w) input output h = (h.0, h.1, same_from_ancestor w h.0 h.2, h.3)
+one_from_generates false (Some w) input output h = (h.0, h.1, IsAncestor-none w h.0 h.2, h.3)
 one_from_generates true None input output h = (h.0, h.1, tt, h.3.2 ∙ ap (λ (v : Item). v ∷ []) h.3.1)
-one_from_generates true (Some w) input output h = (h.0, h.1, same_from_ancestor w h.0 h.2, h.3.2 ∙ ap (λ (v : Item). v ∷ []) h.3.1)
+one_from_generates true (Some w) input output h = (h.0, h.1, IsAncestor-none w h.0 h.2, h.3.2 ∙ ap (λ (v : Item). v ∷ []) h.3.1)
 
 pub generates_one : (captured : Bool) (matched : Option Item) (t : Item) → IsTaken matched t → Generates [] (captured_tree captured (item_tree matched)) false (t ∷ []) (written_at captured t)
 generates_one false None t taken = (t, refl, tt, refl)
@@ -43,14 +34,6 @@ generates_one true (Some w) t taken = (t, refl, ([], taken), (t, refl, refl))
 snoc_view : {X : Type 0} (xs : List X) → (xs ≡ []) ⊎ ((ys : List X) × (y : X) × (xs ≡ ys ++ y ∷ []))
 snoc_view [] = inl refl
 snoc_view {X} (x ∷ xs) = elim (snoc_view xs) [ inl e ↦ inr ([], x, ap (λ (zs : List X). x ∷ zs) e) | inr h ↦ inr (x ∷ h.0, h.1, ap (λ (zs : List X). x ∷ zs) h.2) ]
-
-all_split : {X : Type 0} (P : X → Type 0) (xs : List X) (y : X) → AllByRecursion P (xs ++ y ∷ []) → AllByRecursion P xs × P y
-all_split P [] y h = (tt, h.0)
-all_split P (x ∷ xs) y h = let rest = all_split P xs y h.1 in ((h.0, rest.0), rest.1)
-
-all_join : {X : Type 0} (P : X → Type 0) (xs : List X) (y : X) → AllByRecursion P xs → P y → AllByRecursion P (xs ++ y ∷ [])
-all_join P [] y h p = (p, tt)
-all_join P (x ∷ xs) y h p = (h.0, all_join P xs y h.1 p)
 
 flat_map_last : {X A : Type 0} (f : X → List A) (xs : List X) (y : X) → flat_map f (xs ++ y ∷ []) ≡ flat_map f xs ++ f y
 flat_map_last {X} {A} f xs y = flat_map-append f xs (y ∷ []) ∙ ap (λ (zs : List A). flat_map f xs ++ zs) (append-nil (f y))
@@ -69,15 +52,17 @@ StarParts inner input output =
 star_parts : (inner : Tree) (input output : List Item) (turns before : List Turn) (last : Turn) → turns ≡ before ++ last ∷ [] → input ≡ flat_map (λ (turn : Turn). turn.input) turns → output ≡ flat_map (λ (turn : Turn). turn.output) turns → AllByRecursion (λ (turn : Turn). Generates [] inner false turn.input turn.output) turns → StarParts inner input output
 star_parts inner input output turns before last e inputs outputs each =
     let P : List Turn → Type 0 = λ ts. AllByRecursion (λ (turn : Turn). Generates [] inner false turn.input turn.output) ts in
-    let parts = all_split (λ (turn : Turn). Generates [] inner false turn.input turn.output) before last (subst P e each) in (
+    let all = subst P e each in
+    let earlier = front_of_both (λ (turn : Turn). Generates [] inner false turn.input turn.output) before (last ∷ []) all in
+    let latest = (back_of_both (λ (turn : Turn). Generates [] inner false turn.input turn.output) before (last ∷ []) all).0 in (
       flat_map (λ (turn : Turn). turn.input) before,
       last.input,
       flat_map (λ (turn : Turn). turn.output) before,
       last.output,
       inputs ∙ ap (λ (ts : List Turn). flat_map (λ (turn : Turn). turn.input) ts) e ∙ flat_map_last (λ (turn : Turn). turn.input) before last,
       outputs ∙ ap (λ (ts : List Turn). flat_map (λ (turn : Turn). turn.output) ts) e ∙ flat_map_last (λ (turn : Turn). turn.output) before last,
-      (before, omega arith, tt, refl, refl, parts.0),
-      parts.1,
+      (before, omega arith, tt, refl, refl, earlier),
+      latest,
     )
 
 -- a repetition has no turn, or a last one
@@ -93,7 +78,7 @@ star_one_more inner input1 input2 output1 output2 h last =
     let turn : Turn = record { input = input2; output = output2 } in
     let inputs : input1 ++ input2 ≡ flat_map (λ (turn : Turn). turn.input) (h.0 ++ turn ∷ []) = ap (λ (xs : List Item). xs ++ input2) h.3 ∙ sym (flat_map_last (λ (turn : Turn). turn.input) h.0 turn) in
     let outputs : output1 ++ output2 ≡ flat_map (λ (turn : Turn). turn.output) (h.0 ++ turn ∷ []) = ap (λ (xs : List Item). xs ++ output2) h.4 ∙ sym (flat_map_last (λ (turn : Turn). turn.output) h.0 turn) in
-    (h.0 ++ turn ∷ [], omega arith, tt, inputs, outputs, all_join (λ (turn : Turn). Generates [] inner false turn.input turn.output) h.0 turn h.5 last)
+    (h.0 ++ turn ∷ [], omega arith, tt, inputs, outputs, of_both (λ (turn : Turn). Generates [] inner false turn.input turn.output) h.0 (turn ∷ []) h.5 (last, tt))
 
 -- ---- one more step
 
