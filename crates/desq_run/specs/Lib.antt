@@ -1,16 +1,5 @@
-pub mod Words
-pub mod Plain
-pub mod Commands
-pub mod Database
-pub mod RowOrder
-pub mod Input
-pub mod Outcome
-pub mod Attempt
-pub mod Parsed
-pub mod Status
-pub mod CountedIds
-pub mod LivePlaces
-pub mod OutputIds
-pub mod OutputTrie
-pub mod PlaceSets
-pub mod StepMeaning
+-- the words of the promise
+pub mod Ends
+pub mod Reported
+-- what the proofs keep
+pub mod Inputs

@@ -1,46 +1,64 @@
 //! From words to the answer written, or to the fault that ends the run.
 
-ghost use Rattle.std.specs.Prelude.{◌≡◌, ℕ, ◌≤◌, List, IsTrue, map, string_bytes};
+ghost use Rattle.std.specs.Prelude.{◌≡◌, ◌≢◌, ◌≤◌, ◌<◌, ◌++◌, ℕ, List, Some, Err, IsTrue, IfOk, IfErr, OnOk, OnErr, IfSome, All, map, length, take, string_bytes};
 ghost use Rattle.text_ports.specs.Faults.{Rose};
-ghost use Rattle.desq_run.specs.Words.{Names};
-ghost use Rattle.desq_run.specs.Commands.{command_said};
-ghost use Rattle.desq_run.specs.Attempt.{MinesFile, Attempts};
+ghost use Rattle.mine_model.specs.declared.fault.Fault.TheVariants.{Read, Write};
+ghost use Rattle.mine_model.specs.declared.fault.Which.{Which};
+ghost use Rattle.mine_model.specs.Names.{HasName, named_row};
+ghost use Rattle.mine_model.specs.AnswerText.{text_of};
+ghost use Rattle.command_line.specs.Words.{IsCommand, NamesFile, Names as NamesOfFiles};
+ghost use Rattle.command_line.specs.Commands.{command_said};
+ghost use Rattle.desq_run.specs.Ends.{Input, IsInput, IsAccepted, IsAnswerText, Ends};
+ghost use Rattle.desq_run.specs.Inputs.{IsMined};
 
-use super::mining::mine_bytes;
-use super::plain::MOST_BYTES;
-use super::reading::{ReadFault, read_file};
-use super::words::{CommandLine, read_words};
-use super::writing::write_all;
-use mine_model::{Fault, Which};
-use patex_parser::narrow;
+use super::inputs::read_inputs;
+use super::rows::{read_expression, rows_of};
+use command_line::{Command, read_words};
+use item_names::Names;
+use mine_model::{Fault, NoMemory, Row, WriteFault};
+use pattern_writer::write;
 use std::alloc::Global;
 use text_ports::{Files, Sink};
 
-/// The text of the answer to a command. Its expression is read before its file is opened.
-fn mine_file<F: Files>(
-    alloc: Global,
-    command: &CommandLine<'_>,
-    files: &mut F,
-) -> Result<Vec<u8>, Fault>
-    requires may { IsTrue (F.may files.old command.now.file.now) }
+/// How many bytes of the answer are gathered before they are written. Each write but the last has as many.
+const ROOM: usize = 65_536;
+
+/// The rows of the answer in their order, and the names of their items.
+#[derive(Debug, Drop)]
+struct Mined {
+    names: Names,
+    rows: Vec<Row>,
+}
+
+/// Mines as the command says. Its expression is read before a file is opened.
+fn mine<F: Files>(alloc: Global, command: &Command, files: &mut F) -> Result<Mined, Fault>
+    requires may { (file : List ℕ) → NamesFile (command_said command.now) file → IsTrue (F.may files.old file) }
     requires support { 1 ≤ command.now.support }
-    ensures mines { MinesFile (λ text. text.items) (command_said command.now)
-        (F.holds files.old command.now.file.now) (Rose (F.faults files.old) (F.faults files.new)) result }
+    ensures mined { (words : List (List ℕ)) → IsCommand words (command_said command.now)
+        → IfOk result (λ mined. IsMined words (F.holds files.old) (command_said command.now) mined.names mined.rows.items) }
+    ensures named { IfOk result (λ mined. All (λ row. All (HasName mined.names) row.pattern) mined.rows.items) }
+    ensures ends { (words : List (List ℕ)) → IsCommand words (command_said command.now)
+        → IfErr result (λ fault. Ends words (F.holds files.old) (Err fault)) }
+    ensures read_fault { (file : Which) → result ≡ Err (Read file) → Rose (F.faults files.old) (F.faults files.new) }
+    ensures no_write { result ≢ Err Write }
+    ensures same_names { F.may files.new ≡ F.may files.old }
     ensures same_files { F.holds files.new ≡ F.holds files.old }
     ensures never_falls { F.faults files.old ≤ F.faults files.new }
 {
-    let parsed = match narrow(alloc, command.expression.as_bytes())? {
-        Some(parsed) => parsed,
-        None => return Err(Fault::NotBuilt),
-    };
-    match read_file(alloc, files, command.file, MOST_BYTES) {
-        Ok(bytes) => mine_bytes(alloc, command, &parsed, bytes.as_slice()),
-        Err(ReadFault::Failed) => Err(Fault::Read {
-            file: Which::Sequences,
-        }),
-        Err(ReadFault::TooLarge) => Err(Fault::NotBuilt),
-        Err(ReadFault::NoMemory) => Err(Fault::NoMemory),
-    }
+    let parsed = read_expression(alloc, command.expression.as_bytes())?;
+    let inputs = read_inputs(alloc, command, files)?;
+    let rows = rows_of(alloc, &inputs, &parsed, command.support)?;
+    Ok(Mined {
+        names: inputs.names,
+        rows,
+    })
+}
+
+/// Room for the bytes of the answer that wait to be written.
+fn take_room(alloc: Global) -> Result<Vec<u8>, NoMemory>
+    ensures { IfOk result (λ room. length room.items ≡ 65536) }
+{
+    Ok(vec![in alloc; 0u8; ROOM]?)
 }
 
 /// Mines as the words say, and writes the answer.
@@ -50,21 +68,35 @@ pub(crate) fn attempt<F: Files, O: Sink>(
     files: &mut F,
     out: &mut O,
 ) -> Result<(), Fault>
-    requires { (file : List ℕ) → Names (map string_bytes words.now) file → IsTrue (F.may files.old file) }
-    ensures attempts { Attempts (map string_bytes words.now) (F.holds files.old)
-        (Rose (F.faults files.old) (F.faults files.new)) (Rose (O.faults out.old) (O.faults out.new))
-        (O.written out.old) (O.written out.new) result }
+    requires { (file : List ℕ) → NamesOfFiles (map string_bytes words.now) file → IsTrue (F.may files.old file) }
+    ensures ends { Ends (map string_bytes words.now) (F.holds files.old) result }
+    ensures written { OnOk result ((input : Input) → IsInput (map string_bytes words.now) (F.holds files.old) input
+        → (text : List ℕ) × IsAnswerText input text
+        × IfSome (O.written out.old) (λ before. O.written out.new ≡ Some (before ++ text))) }
+    ensures cut { result ≡ Err Write → (input : Input) → IsInput (map string_bytes words.now) (F.holds files.old) input
+        → (text : List ℕ) × IsAnswerText input text
+        × IfSome (O.written out.old) (λ before. (n : ℕ) × (n < length text)
+        × (O.written out.new ≡ Some (before ++ take n text))) }
+    ensures unchanged { OnErr result (result ≢ Err Write → O.written out.new ≡ O.written out.old) }
+    ensures read_fault { (file : Which) → result ≡ Err (Read file) → Rose (F.faults files.old) (F.faults files.new) }
+    ensures write_fault { result ≡ Err Write → Rose (O.faults out.old) (O.faults out.new) }
+    ensures same_names { F.may files.new ≡ F.may files.old }
     ensures same_files { F.holds files.new ≡ F.holds files.old }
-    ensures files_never_fall { F.faults files.old ≤ F.faults files.new }
-    ensures out_never_falls { O.faults out.old ≤ O.faults out.new }
+    ensures never_falls { (F.faults files.old ≤ F.faults files.new) × (O.faults out.old ≤ O.faults out.new) }
 {
-    let command = match read_words(words) {
+    let command = match read_words(alloc, words)? {
         Some(command) => command,
         None => return Err(Fault::Usage),
     };
-    let text = mine_file(alloc, &command, files)?;
-    match write_all(out, text.as_slice()) {
+    let mined = mine(alloc, &command, files)?;
+    let mut room = take_room(alloc)?;
+    match write(
+        mined.rows.as_slice(),
+        &mined.names,
+        out,
+        room.as_mut_slice(),
+    ) {
         Ok(()) => Ok(()),
-        Err(_) => Err(Fault::Write),
+        Err(WriteFault) => Err(Fault::Write),
     }
 }

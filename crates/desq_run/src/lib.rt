@@ -1,21 +1,14 @@
 //! One run of the command: words and files in, the answer or one message out.
 #![tactic(auto)]
 
-mod answer_text;
 mod attempts;
-mod database;
-mod evaluator;
-mod known;
+mod inputs;
+mod laws;
 mod messages;
-mod mining;
-mod order;
-mod plain;
-mod reading;
+mod rows;
 mod running;
-mod splitting;
-mod words;
-mod writing;
 
+pub use laws::{at_most_one_first_refusal, at_most_one_text};
 pub use running::run;
 
 #[cfg(test)]

@@ -1,11 +1,13 @@
 //! The top call.
 
-ghost use Rattle.std.specs.Prelude.{◌≡◌, ◌≢◌, ℕ, ◌<◌, ◌++◌, ◌⊎◌, ◌↔◌, List, Some, IsTrue, IfSome, map, take, length, string_bytes};
+ghost use Rattle.std.specs.Prelude.{◌≡◌, ◌≢◌, ℕ, ◌≤◌, ◌<◌, ◌++◌, ◌⊎◌, List, Some, Result, IsTrue, IfSome, map, take, length, string_bytes};
 ghost use Rattle.text_ports.specs.Faults.{Rose};
-ghost use Rattle.patex_parser.specs.Narrow.{IsNarrow};
-ghost use Rattle.desq_run.specs.Words.{Command, Names, IsCommand, IsUsage};
-ghost use Rattle.desq_run.specs.Outcome.{IsNotBuilt, IsAccepted, IsAnswerText};
-ghost use Rattle.desq_run.specs.Status.{message_of, IsPrefix};
+ghost use Rattle.mine_model.specs.declared.fault.Fault.{Fault};
+ghost use Rattle.mine_model.specs.Refusal.{IsExpressionRefusal};
+ghost use Rattle.mine_model.specs.Status.{fault_status, status_of, message_of};
+ghost use Rattle.command_line.specs.Words.{Command, Names, IsCommand, IsUsage};
+ghost use Rattle.desq_run.specs.Ends.{Input, IsInput, IsFirstRefusal, IsAccepted, IsAnswerText, Ends};
+ghost use Rattle.desq_run.specs.Reported.{IsReported};
 
 use super::attempts::attempt;
 use super::messages;
@@ -13,12 +15,12 @@ use mine_model::Gate;
 use std::alloc::Global;
 use text_ports::{Files, Sink};
 
-/// Runs the command that the words say: reads the file that they name through `files`, writes the
-/// answer to `out` and a message, where there is one, to `err`, and answers the status.
+/// Runs the command that the words say: reads the files that they name through `files`, writes the answer to
+/// `out` and a message, where there is one, to `err`, and answers the status.
 ///
-/// 0 done, 2 the words are no command, 3 the form of the expression or of the file is not built yet, 5 a
-/// fault of reading, 6 a fault of writing, 7 not enough memory. A fault of `err` changes no status. `gate`
-/// is for the engines to come; none is passed so far.
+/// 0 done, 2 the words are no command, 3 something is malformed, 4 a limit is exceeded, 5 a fault of reading, 6 a
+/// fault of writing, 7 not enough memory. A fault of `err` changes no status. `gate` is for the engines to come; none is
+/// passed so far.
 pub fn run<F: Files, O: Sink, E: Sink, G: Gate>(
     alloc: Global,
     words: &[String],
@@ -30,57 +32,54 @@ pub fn run<F: Files, O: Sink, E: Sink, G: Gate>(
     // The files that the words name may be opened. No other is.
     requires { (file : List ℕ) → Names (map string_bytes words.now) file → IsTrue (F.may files.old file) }
 
-    ensures statuses { (result ≡ 0) ⊎ (result ≡ 2) ⊎ (result ≡ 3) ⊎ (result ≡ 5) ⊎ (result ≡ 6)
-        ⊎ (result ≡ 7) }
+    ensures statuses { (result ≡ 0) ⊎ ((2 ≤ result) × (result ≤ 7)) }
+
+    // Every end has its cause, and err gained its message, or after a fault of err the first bytes of it.
+    ensures ends { (outcome : Result (Unit {0}) Fault) × (result ≡ status_of outcome)
+        × Ends (map string_bytes words.now) (F.holds files.old) outcome
+        × IsReported (E.written err.old) (E.written err.new) (Rose (E.faults err.old) (E.faults err.new))
+        (message_of outcome) }
 
     // Done: nothing is refused, and out gained exactly the text of the answer.
-    ensures done { result ≡ 0 → (command : Command)
-        × IsCommand (map string_bytes words.now) command × IsNarrow command.expression
-        × IfSome (F.holds files.old command.file) (λ bytes. IsAccepted command bytes
-        × (text : List ℕ) × IsAnswerText command bytes text
+    ensures done { result ≡ 0 → (input : Input) → IsInput (map string_bytes words.now) (F.holds files.old) input
+        → IsAccepted input × ((text : List ℕ) × IsAnswerText input text
         × IfSome (O.written out.old) (λ before. O.written out.new ≡ Some (before ++ text))) }
 
-    // Usage: exactly where the words say no command.
-    ensures usage { (result ≡ 2) ↔ IsUsage (map string_bytes words.now) }
-
-    // Not built: where the expression is not narrow, whatever the file; else only where the file or a name
-    // is refused, and there unless memory ran out or a fault of reading was counted.
-    ensures not_narrow { (command : Command) → IsCommand (map string_bytes words.now) command
-        → ¬ IsNarrow command.expression → (result ≡ 3) ⊎ (result ≡ 7) }
-    ensures not_built { result ≡ 3 → (command : Command)
-        × IsCommand (map string_bytes words.now) command
-        × IfSome (F.holds files.old command.file) (λ bytes. IsNotBuilt command bytes) }
-    ensures refuses { (command : Command) → IsCommand (map string_bytes words.now) command
-        → IfSome (F.holds files.old command.file) (λ bytes. IsNotBuilt command bytes
-        → (result ≡ 3) ⊎ (result ≡ 7) ⊎ Rose (F.faults files.old) (F.faults files.new)) }
+    // Refusals come exactly where they are the first, unless memory ran out or a fault of reading came before.
+    ensures usage { result ≡ 2 → IsUsage (map string_bytes words.now) }
+    ensures refuses_words { IsUsage (map string_bytes words.now) → (result ≡ 2) ⊎ (result ≡ 7) }
+    ensures refuses_expression { (command : Command) (fault : Fault) → IsCommand (map string_bytes words.now) command
+        → IsExpressionRefusal command.expression fault → (result ≡ fault_status fault) ⊎ (result ≡ 7) }
+    ensures refused { (result ≡ 3) ⊎ (result ≡ 4)
+        → (input : Input) → IsInput (map string_bytes words.now) (F.holds files.old) input
+        → (fault : Fault) × IsFirstRefusal input fault × (fault_status fault ≡ result) }
+    ensures refuses { (input : Input) (fault : Fault)
+        → IsInput (map string_bytes words.now) (F.holds files.old) input → IsFirstRefusal input fault
+        → (result ≡ fault_status fault) ⊎ (result ≡ 7) ⊎ Rose (F.faults files.old) (F.faults files.new) }
 
     // Faults: only where they were counted in this call. After one of writing out gained the first bytes
     // of the answer's text, and not all.
     ensures read_fault { result ≡ 5 → Rose (F.faults files.old) (F.faults files.new) }
     ensures write_fault { result ≡ 6 → Rose (O.faults out.old) (O.faults out.new) }
-    ensures cut { result ≡ 6 → (command : Command) × IsCommand (map string_bytes words.now) command
-        × IfSome (F.holds files.old command.file) (λ bytes. IsAccepted command bytes
-        × (text : List ℕ) × IsAnswerText command bytes text
+    ensures cut { result ≡ 6 → (input : Input) → IsInput (map string_bytes words.now) (F.holds files.old) input
+        → IsAccepted input × ((text : List ℕ) × IsAnswerText input text
         × IfSome (O.written out.old) (λ before. (n : ℕ) × (n < length text)
         × (O.written out.new ≡ Some (before ++ take n text)))) }
     ensures nothing { result ≢ 0 → result ≢ 6 → O.written out.new ≡ O.written out.old }
 
     // Complete: where nothing is refused and no fault was counted, the answer is written, unless memory
     // ran out.
-    ensures complete { (command : Command) → IsCommand (map string_bytes words.now) command
-        → IfSome (F.holds files.old command.file) (λ bytes. IsAccepted command bytes
-        → ¬ Rose (F.faults files.old) (F.faults files.new)
-        → ¬ Rose (O.faults out.old) (O.faults out.new) → (result ≡ 0) ⊎ (result ≡ 7)) }
+    ensures complete { (input : Input) → IsInput (map string_bytes words.now) (F.holds files.old) input
+        → IsAccepted input → ¬ Rose (F.faults files.old) (F.faults files.new)
+        → ¬ Rose (O.faults out.old) (O.faults out.new) → (result ≡ 0) ⊎ (result ≡ 7) }
 
-    // The message of the status, or after a fault of err its first bytes.
-    ensures message { IfSome (E.written err.old) (λ before. (gained : List ℕ)
-        × (E.written err.new ≡ Some (before ++ gained)) × IsPrefix gained (message_of result)
-        × (¬ Rose (E.faults err.old) (E.faults err.new) → gained ≡ message_of result)) }
-
+    ensures same_names { F.may files.new ≡ F.may files.old }
     ensures same_files { F.holds files.new ≡ F.holds files.old }
+    ensures never_falls { (F.faults files.old ≤ F.faults files.new) × (O.faults out.old ≤ O.faults out.new)
+        × (E.faults err.old ≤ E.faults err.new) }
 {
     let outcome = attempt(alloc, words, files, out);
     let status = messages::status(&outcome);
-    messages::report(err, status);
+    messages::report(err, &outcome);
     status
 }

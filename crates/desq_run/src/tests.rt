@@ -4,12 +4,6 @@ use std::alloc::Global;
 use std::test::Fail;
 use text_ports::{MemFile, MemFiles, MemSink};
 
-const USAGE: &str = "desq: usage: desq --support N [options] EXPR [FILE]\n";
-
-const NOT_BUILT: &str = "desq: not built yet\n";
-
-const READ_FAULT: &str = "desq: sequences: read fault\n";
-
 /// What a run left behind.
 #[derive(Drop)]
 struct Ran {
@@ -18,8 +12,8 @@ struct Ran {
     err: Vec<u8>,
 }
 
-/// How the files and the sinks fail: which calls of the files, of out and of err, and how many bytes a
-/// call takes at most.
+/// How the files and the sinks fail: which calls of the files, of out and of err, and how many bytes a call
+/// takes at most.
 #[derive(Clone, Copy)]
 struct Faults<'a> {
     files: &'a [u64],
@@ -35,20 +29,42 @@ const NO_FAULTS: Faults<'static> = Faults {
     cut: 100_000,
 };
 
-fn run_on(alloc: Global, words: &[&str], bytes: &[u8], faults: Faults<'_>) -> Result<Ran, Fail> {
+/// The words, the hierarchy file `h`, the sequence file `f`, and what they leave: the status, out and err.
+#[derive(Clone, Copy)]
+struct Case<'a> {
+    words: &'a [&'a str],
+    hierarchy: &'a str,
+    sequences: &'a str,
+    status: u8,
+    out: &'a str,
+    err: &'a str,
+}
+
+fn file(alloc: Global, name: &str, bytes: &[u8]) -> Result<MemFile, Fail> {
+    Ok(MemFile {
+        name: Vec::from_slice(alloc, name.as_bytes())?,
+        bytes: Vec::from_slice(alloc, bytes)?,
+    })
+}
+
+fn run_on(
+    alloc: Global,
+    words: &[&str],
+    hierarchy: &[u8],
+    sequences: &[u8],
+    faults: Faults<'_>,
+) -> Result<Ran, Fail> {
     let mut owned = Vec::new(alloc);
     for word in words {
         owned.push(String::from_str(alloc, word)?)?;
     }
     let mut held = Vec::new(alloc);
-    held.push(MemFile {
-        name: Vec::from_slice(alloc, b"f")?,
-        bytes: Vec::from_slice(alloc, bytes)?,
-    })?;
+    held.push(file(alloc, "h", hierarchy)?)?;
+    held.push(file(alloc, "f", sequences)?)?;
     let cut = faults.cut.max(1);
     let mut files = MemFiles::new(held, Vec::from_slice(alloc, faults.files)?, cut);
     let mut out = MemSink::new(alloc, 100_000, cut, Vec::from_slice(alloc, faults.out)?)?;
-    let mut err = MemSink::new(alloc, 100, cut, Vec::from_slice(alloc, faults.err)?)?;
+    let mut err = MemSink::new(alloc, 200, cut, Vec::from_slice(alloc, faults.err)?)?;
     let status = run(
         alloc,
         owned.as_slice(),
@@ -64,223 +80,735 @@ fn run_on(alloc: Global, words: &[&str], bytes: &[u8], faults: Faults<'_>) -> Re
     })
 }
 
+/// How many of the cases leave what they should.
+fn count_right(alloc: Global, cases: &[Case<'_>]) -> Result<usize, Fail> {
+    let mut right = 0;
+    for case in cases {
+        let ran = run_on(
+            alloc,
+            case.words,
+            case.hierarchy.as_bytes(),
+            case.sequences.as_bytes(),
+            NO_FAULTS,
+        )?;
+        let is_right = ran.status == case.status
+            && ran.out.as_slice() == case.out.as_bytes()
+            && ran.err.as_slice() == case.err.as_bytes();
+        if is_right && right < usize::MAX {
+            right += 1;
+        }
+    }
+    Ok(right)
+}
+
 #[test]
-fn answers_the_rows(rt: HostRuntime) -> Result<(), Fail> {
-    let rows: [(&[&str], &[u8], u8, &str, &str); 27] = [
-        (
-            &["--support", "2", ".*(a)(b).*", "f"],
-            b"a b\na b\na c\n",
-            0,
-            "2\ta b\n",
-            "",
-        ),
-        (
-            &["--support", "2", ".*(a)(b).*", "f"],
-            b"a b\na b",
-            0,
-            "2\ta b\n",
-            "",
-        ),
-        (
-            &["--support", "3", ".*(a)(b).*", "f"],
-            b"a b\na b\na c\n",
-            0,
-            "",
-            "",
-        ),
-        (&["--support", "1", "(.)", "f"], b"", 0, "", ""),
-        (&["--support", "1", "(.)", "f"], b"\n\n\n", 0, "", ""),
-        (&["--support", "1", ".*", "f"], b"a b\n", 0, "", ""),
-        (
-            &["--support", "1", "(a)*", "f"],
-            b"a a\n",
-            0,
-            "1\ta a\n",
-            "",
-        ),
-        (
-            &["--support", "1", ".*( . ).*", "f"],
-            b"a b\nb\n",
-            0,
-            "2\tb\n1\ta\n",
-            "",
-        ),
-        (
-            &["--support", "1", "(.)*.*", "f"],
-            b"b \t a\n",
-            0,
-            "1\tb\n1\tb a\n",
-            "",
-        ),
-        (
-            &["--support", "00002", "(a)", "f"],
-            b"a\na\n",
-            0,
-            "2\ta\n",
-            "",
-        ),
-        (&["--support", "4294967295", "(a)", "f"], b"a\n", 0, "", ""),
-        (&["--support", "1", "(a)[b]", "f"], b"a\n", 3, "", NOT_BUILT),
-        (&["--support", "1", "", "f"], b"a\n", 3, "", NOT_BUILT),
-        (
-            &["--support", "1", "(a)", "f"],
-            b"\x61\x01\x62",
-            3,
-            "",
-            NOT_BUILT,
-        ),
-        (&["--support", "1", "(a)", "f"], b"a\r\n", 3, "", NOT_BUILT),
-        (
-            &["--support", "1", "(a)", "f"],
-            b"\xEF\xBB\xBFa\n",
-            3,
-            "",
-            NOT_BUILT,
-        ),
-        (&["--support", "1", "(z)", "f"], b"a\n", 3, "", NOT_BUILT),
-        (&[], b"a\n", 2, "", USAGE),
-        (&["--help"], b"a\n", 2, "", USAGE),
-        (&["--support", "0", "(a)", "f"], b"a\n", 2, "", USAGE),
-        (&["--support", "x", "(a)", "f"], b"a\n", 2, "", USAGE),
-        (&["--support", "", "(a)", "f"], b"a\n", 2, "", USAGE),
-        (
-            &["--support", "4294967296", "(a)", "f"],
-            b"a\n",
-            2,
-            "",
-            USAGE,
-        ),
-        (&["--support", "1", "-a", "f"], b"a\n", 2, "", USAGE),
-        (&["--support", "1", "a", "f", "g"], b"a\n", 2, "", USAGE),
-        (&["--support", "1", "(a)", "-f"], b"a\n", 2, "", USAGE),
-        (&["--support", "1", "(a)", "g"], b"a\n", 5, "", READ_FAULT),
+fn answers_the_running_example(rt: HostRuntime) -> Result<(), Fail> {
+    let cases = [
+        Case {
+            words: &[
+                "--support",
+                "2",
+                "--hierarchy",
+                "h",
+                ".*(A)[(.^)|.]*(b).*",
+                "f",
+            ],
+            hierarchy: "a1 A\na2 A\n",
+            sequences: "a1 c d c b\ne e a1 e a1 e b\nc d c b\na2 d b\na1 a1 b\n",
+            status: 0,
+            out: "3\ta1 b\n2\ta1 A b\n2\ta1 a1 b\n",
+            err: "",
+        },
+        Case {
+            words: &[
+                "--support",
+                "3",
+                "--hierarchy",
+                "h",
+                ".*(A)[(.^)|.]*(b).*",
+                "f",
+            ],
+            hierarchy: "a1 A\na2 A\n",
+            sequences: "a1 c d c b\ne e a1 e a1 e b\nc d c b\na2 d b\na1 a1 b\n",
+            status: 0,
+            out: "3\ta1 b\n",
+            err: "",
+        },
+        Case {
+            words: &[
+                "--support",
+                "6",
+                "--hierarchy",
+                "h",
+                ".*(A)[(.^)|.]*(b).*",
+                "f",
+            ],
+            hierarchy: "a1 A\na2 A\n",
+            sequences: "a1 c d c b\ne e a1 e a1 e b\nc d c b\na2 d b\na1 a1 b\n",
+            status: 0,
+            out: "",
+            err: "",
+        },
+        Case {
+            words: &["--support", "1", "--hierarchy", "h", ".*", "f"],
+            hierarchy: "a1 A\na2 A\n",
+            sequences: "a1 c d c b\ne e a1 e a1 e b\nc d c b\na2 d b\na1 a1 b\n",
+            status: 0,
+            out: "",
+            err: "",
+        },
+        Case {
+            words: &["--support", "2", "--hierarchy", "h", "(.^)", "f"],
+            hierarchy: "x P Q\nP R\nQ R\n",
+            sequences: "x\nx\n",
+            status: 0,
+            out: "2\tP\n2\tQ\n2\tR\n2\tx\n",
+            err: "",
+        },
+        Case {
+            words: &["--support", "2", "--hierarchy", "h", "(P^)", "f"],
+            hierarchy: "x P Q\nP R\nQ R\n",
+            sequences: "x\nx\n",
+            status: 0,
+            out: "2\tP\n2\tx\n",
+            err: "",
+        },
+        Case {
+            words: &["--support", "2", "--hierarchy", "h", "(P^=)", "f"],
+            hierarchy: "x P Q\nP R\nQ R\n",
+            sequences: "x\nx\n",
+            status: 0,
+            out: "2\tP\n",
+            err: "",
+        },
+        Case {
+            words: &["--support", "2", "--hierarchy", "h", "(P)", "f"],
+            hierarchy: "x P Q\nP R\nQ R\n",
+            sequences: "x\nx\n",
+            status: 0,
+            out: "2\tx\n",
+            err: "",
+        },
+        Case {
+            words: &["--support", "2", "--hierarchy", "h", "(P=)", "f"],
+            hierarchy: "x P Q\nP R\nQ R\n",
+            sequences: "x\nx\n",
+            status: 0,
+            out: "",
+            err: "",
+        },
+        Case {
+            words: &[
+                "--support",
+                "2",
+                "--hierarchy",
+                "h",
+                ".*ENTITY (VERB+ NOUN+? PREP?) ENTITY.*",
+                "f",
+            ],
+            hierarchy: "Obama ENTITY\nMerkel ENTITY\nHawaii ENTITY\nHamburg ENTITY\nwas VERB\nborn VERB\nin PREP\ncity NOUN\n",
+            sequences: "Obama was born in Hawaii .\nMerkel was born in Hamburg .\n",
+            status: 0,
+            out: "2\twas born in\n",
+            err: "",
+        },
+        Case {
+            words: &["--support", "1", "--hierarchy", "h", "(A).*", "f"],
+            hierarchy: "a1 A\n",
+            sequences: "a1 b\nc b\n",
+            status: 0,
+            out: "1\ta1\n",
+            err: "",
+        },
     ];
-    for (words, bytes, status, out, err) in rows {
-        let ran = run_on(rt.alloc(), words, bytes, NO_FAULTS)?;
-        assert_eq!(rt; ran.status, status, "{words:?}");
-        assert_eq!(rt; ran.out.as_slice(), out.as_bytes(), "{words:?}");
-        assert_eq!(rt; ran.err.as_slice(), err.as_bytes(), "{words:?}");
+    assert_eq!(rt; count_right(rt.alloc(), &cases)?, cases.len());
+    Ok(())
+}
+
+#[test]
+fn answers_expressions(rt: HostRuntime) -> Result<(), Fail> {
+    let cases = [
+        Case {
+            words: &["--support", "1", "(.)", "f"],
+            hierarchy: "",
+            sequences: "",
+            status: 0,
+            out: "",
+            err: "",
+        },
+        Case {
+            words: &["--support", "1", "(.)", "f"],
+            hierarchy: "",
+            sequences: "\n\n\n",
+            status: 0,
+            out: "",
+            err: "",
+        },
+        Case {
+            words: &["--support", "1", "[(a)*]*", "f"],
+            hierarchy: "",
+            sequences: "a a\n",
+            status: 0,
+            out: "1\ta a\n",
+            err: "",
+        },
+        Case {
+            words: &["--support", "1", ".*(a){2}.*", "f"],
+            hierarchy: "",
+            sequences: "a a a\n",
+            status: 0,
+            out: "1\ta a\n",
+            err: "",
+        },
+        Case {
+            words: &["--support", "1", "(a){0}(b)", "f"],
+            hierarchy: "",
+            sequences: "b\na\n",
+            status: 0,
+            out: "1\tb\n",
+            err: "",
+        },
+        Case {
+            words: &["--support", "2", ".*(a)(b).*", "f"],
+            hierarchy: "",
+            sequences: "a b\na b\na c\n",
+            status: 0,
+            out: "2\ta b\n",
+            err: "",
+        },
+        Case {
+            words: &["--support", "2", "(a)[(b)|.]", "f"],
+            hierarchy: "",
+            sequences: "a b\na b\n",
+            status: 0,
+            out: "2\ta\n2\ta b\n",
+            err: "",
+        },
+        Case {
+            words: &["--support", "1", "('it''s')('.')", "f"],
+            hierarchy: "",
+            sequences: "it's .\n",
+            status: 0,
+            out: "1\tit's .\n",
+            err: "",
+        },
+        Case {
+            words: &["--support", "1", "(a)[b]", "f"],
+            hierarchy: "",
+            sequences: "a b\n",
+            status: 0,
+            out: "1\ta\n",
+            err: "",
+        },
+        Case {
+            words: &["--support", "2", "(a)(b)", "f"],
+            hierarchy: "",
+            sequences: "\u{feff}a b\r\na b",
+            status: 0,
+            out: "2\ta b\n",
+            err: "",
+        },
+        Case {
+            words: &["--support", "1", "[a{32}]{32}", "f"],
+            hierarchy: "",
+            sequences: "a\n",
+            status: 0,
+            out: "",
+            err: "",
+        },
+    ];
+    assert_eq!(rt; count_right(rt.alloc(), &cases)?, cases.len());
+    Ok(())
+}
+
+#[test]
+fn answers_what_is_excluded(rt: HostRuntime) -> Result<(), Fail> {
+    let cases = [
+        Case {
+            words: &["--support", "1", "--hierarchy", "h", "(!A).*", "f"],
+            hierarchy: "a1 A\n",
+            sequences: "a1 b\nc b\n",
+            status: 0,
+            out: "1\tc\n",
+            err: "",
+        },
+        Case {
+            words: &["--support", "1", "--hierarchy", "h", "(!A=).*", "f"],
+            hierarchy: "a1 A\n",
+            sequences: "a1 b\nc b\n",
+            status: 0,
+            out: "1\ta1\n1\tc\n",
+            err: "",
+        },
+        Case {
+            words: &["--support", "1", "--hierarchy", "h", "(!a1=).*", "f"],
+            hierarchy: "a1 A\n",
+            sequences: "a1 b\nc b\n",
+            status: 0,
+            out: "1\tc\n",
+            err: "",
+        },
+        Case {
+            words: &["--support", "2", "--hierarchy", "h", ".*(A)!A*(b).*", "f"],
+            hierarchy: "a1 A\na2 A\n",
+            sequences: "a1 c d c b\ne e a1 e a1 e b\nc d c b\na2 d b\na1 a1 b\n",
+            status: 0,
+            out: "3\ta1 b\n",
+            err: "",
+        },
+    ];
+    assert_eq!(rt; count_right(rt.alloc(), &cases)?, cases.len());
+    Ok(())
+}
+
+#[test]
+fn counts_weights(rt: HostRuntime) -> Result<(), Fail> {
+    let cases = [
+        Case {
+            words: &["--weighted", "--support", "4", ".*(a)(b).*", "f"],
+            hierarchy: "",
+            sequences: "3 a b\n2 a c\n1 a b\n",
+            status: 0,
+            out: "4\ta b\n",
+            err: "",
+        },
+        Case {
+            words: &["--weighted", "--support", "5", ".*(a)(b).*", "f"],
+            hierarchy: "",
+            sequences: "3 a b\n2 a c\n1 a b\n",
+            status: 0,
+            out: "",
+            err: "",
+        },
+        Case {
+            words: &["--weighted", "--support", "1", "(a)", "f"],
+            hierarchy: "",
+            sequences: "7\n002 a\n",
+            status: 0,
+            out: "2\ta\n",
+            err: "",
+        },
+        Case {
+            words: &["--weighted", "--support", "1", "(a)", "f"],
+            hierarchy: "",
+            sequences: "0 a\n",
+            status: 3,
+            out: "",
+            err: "desq: sequences: line 1 column 1: bad weight\n",
+        },
+        Case {
+            words: &["--weighted", "--support", "1", "(a)", "f"],
+            hierarchy: " ",
+            sequences: " 1000000001 a\n",
+            status: 3,
+            out: "",
+            err: "desq: sequences: line 1 column 2: bad weight\n",
+        },
+        Case {
+            words: &["--weighted", "--support", "1", "(a)", "f"],
+            hierarchy: "",
+            sequences: "1 a\n\n",
+            status: 3,
+            out: "",
+            err: "desq: sequences: line 2 column 1: bad weight\n",
+        },
+    ];
+    assert_eq!(rt; count_right(rt.alloc(), &cases)?, cases.len());
+    Ok(())
+}
+
+#[test]
+fn refuses_expressions(rt: HostRuntime) -> Result<(), Fail> {
+    let cases = [
+        Case {
+            words: &["--support", "1", "(a", "f"],
+            hierarchy: "",
+            sequences: "a\n",
+            status: 3,
+            out: "",
+            err: "desq: expression: column 3: unexpected\n",
+        },
+        Case {
+            words: &["--support", "1", "a{3,2}", "f"],
+            hierarchy: "",
+            sequences: "a\n",
+            status: 3,
+            out: "",
+            err: "desq: expression: column 2: bad repeat\n",
+        },
+        Case {
+            words: &["--support", "1", ".^=", "f"],
+            hierarchy: "",
+            sequences: "a\n",
+            status: 3,
+            out: "",
+            err: "desq: expression: column 3: unexpected\n",
+        },
+        Case {
+            words: &["--support", "1", "!.", "f"],
+            hierarchy: "",
+            sequences: "a\n",
+            status: 3,
+            out: "",
+            err: "desq: expression: column 2: unexpected\n",
+        },
+        Case {
+            words: &["--support", "1", "!a^", "f"],
+            hierarchy: "",
+            sequences: "a\n",
+            status: 3,
+            out: "",
+            err: "desq: expression: column 3: unexpected\n",
+        },
+        Case {
+            words: &["--support", "1", "(!zz)", "f"],
+            hierarchy: "",
+            sequences: "a\n",
+            status: 3,
+            out: "",
+            err: "desq: expression: column 3: unknown name\n",
+        },
+        Case {
+            words: &["--support", "1", "(zz)", "f"],
+            hierarchy: "",
+            sequences: "a\n",
+            status: 3,
+            out: "",
+            err: "desq: expression: column 2: unknown name\n",
+        },
+        Case {
+            words: &["--support", "1", "a{1025}", "f"],
+            hierarchy: "",
+            sequences: "a\n",
+            status: 4,
+            out: "",
+            err: "desq: expression: column 2: repeat over 1024\n",
+        },
+        Case {
+            words: &["--support", "1", "[a{32}]{33}", "f"],
+            hierarchy: "",
+            sequences: "a\n",
+            status: 4,
+            out: "",
+            err: "desq: expression: 1056 leaves, over 1024\n",
+        },
+        Case {
+            words: &["--support", "1", "", "f"],
+            hierarchy: "",
+            sequences: "a\n",
+            status: 3,
+            out: "",
+            err: "desq: expression: column 1: unexpected\n",
+        },
+        Case {
+            words: &["--support", "1", "('')", "f"],
+            hierarchy: "",
+            sequences: "a\n",
+            status: 3,
+            out: "",
+            err: "desq: expression: column 2: unknown name\n",
+        },
+        Case {
+            words: &["--support", "1", "a,b", "f"],
+            hierarchy: "",
+            sequences: "a\n",
+            status: 3,
+            out: "",
+            err: "desq: expression: column 2: bad token\n",
+        },
+        Case {
+            words: &["--support", "1", "(a)[b]", "f"],
+            hierarchy: "",
+            sequences: "a\n",
+            status: 3,
+            out: "",
+            err: "desq: expression: column 5: unknown name\n",
+        },
+    ];
+    assert_eq!(rt; count_right(rt.alloc(), &cases)?, cases.len());
+    Ok(())
+}
+
+#[test]
+fn refuses_files(rt: HostRuntime) -> Result<(), Fail> {
+    let cases = [
+        Case {
+            words: &["--support", "1", "--hierarchy", "h", "(.)", "f"],
+            hierarchy: "x y\ny z\nz x\n",
+            sequences: "x\n",
+            status: 3,
+            out: "",
+            err: "desq: hierarchy: line 3: cycle\n",
+        },
+        Case {
+            words: &["--support", "1", "--hierarchy", "h", "(.)", "f"],
+            hierarchy: "x x\n",
+            sequences: "x\n",
+            status: 3,
+            out: "",
+            err: "desq: hierarchy: line 1: cycle\n",
+        },
+        Case {
+            words: &["--support", "1", "(.)", "f"],
+            hierarchy: "",
+            sequences: "a\u{1}b\n",
+            status: 3,
+            out: "",
+            err: "desq: sequences: line 1 column 2: bad byte\n",
+        },
+        Case {
+            words: &["--support", "1", "--hierarchy", "h", "(.)", "f"],
+            hierarchy: "a\u{1}b\n",
+            sequences: "a\u{1}\n",
+            status: 3,
+            out: "",
+            err: "desq: hierarchy: line 1 column 2: bad byte\n",
+        },
+        Case {
+            words: &["--support", "1", "--hierarchy", "h", "(zz)", "f"],
+            hierarchy: "a b\n",
+            sequences: "\u{7f}\n",
+            status: 3,
+            out: "",
+            err: "desq: sequences: line 1 column 1: bad byte\n",
+        },
+        Case {
+            words: &["--support", "1", "--hierarchy", "h", "(b^=)", "f"],
+            hierarchy: "a b\n",
+            sequences: "a\n",
+            status: 0,
+            out: "1\tb\n",
+            err: "",
+        },
+    ];
+    assert_eq!(rt; count_right(rt.alloc(), &cases)?, cases.len());
+    Ok(())
+}
+
+#[test]
+fn reads_words_in_any_order(rt: HostRuntime) -> Result<(), Fail> {
+    let cases = [
+        Case {
+            words: &["(a)", "f", "--support", "2"],
+            hierarchy: "",
+            sequences: "a\na\n",
+            status: 0,
+            out: "2\ta\n",
+            err: "",
+        },
+        Case {
+            words: &["--support=2", "(a)", "f"],
+            hierarchy: "",
+            sequences: "a\na\n",
+            status: 0,
+            out: "2\ta\n",
+            err: "",
+        },
+        Case {
+            words: &["--support", "2", "--", "(a)", "f"],
+            hierarchy: "",
+            sequences: "a\na\n",
+            status: 0,
+            out: "2\ta\n",
+            err: "",
+        },
+        Case {
+            words: &[
+                "--support",
+                "000000000000000000000000000000000000000002",
+                "(a)",
+                "f",
+            ],
+            hierarchy: "",
+            sequences: "a\na\n",
+            status: 0,
+            out: "2\ta\n",
+            err: "",
+        },
+        Case {
+            words: &["(a)", "--support", "2", "f"],
+            hierarchy: "",
+            sequences: "a\na\n",
+            status: 0,
+            out: "2\ta\n",
+            err: "",
+        },
+        Case {
+            words: &[],
+            hierarchy: "",
+            sequences: "a\n",
+            status: 2,
+            out: "",
+            err: "desq: usage: desq --support N [options] EXPR [FILE]\n",
+        },
+        Case {
+            words: &["--help"],
+            hierarchy: "",
+            sequences: "a\n",
+            status: 2,
+            out: "",
+            err: "desq: usage: desq --support N [options] EXPR [FILE]\n",
+        },
+        Case {
+            words: &["-h"],
+            hierarchy: "",
+            sequences: "a\n",
+            status: 2,
+            out: "",
+            err: "desq: usage: desq --support N [options] EXPR [FILE]\n",
+        },
+        Case {
+            words: &["--support", "2", "--support", "2", "(a)", "f"],
+            hierarchy: "",
+            sequences: "a\n",
+            status: 2,
+            out: "",
+            err: "desq: usage: desq --support N [options] EXPR [FILE]\n",
+        },
+        Case {
+            words: &["--sup", "2", "(a)", "f"],
+            hierarchy: "",
+            sequences: "a\n",
+            status: 2,
+            out: "",
+            err: "desq: usage: desq --support N [options] EXPR [FILE]\n",
+        },
+        Case {
+            words: &["--support", "2", "(a)"],
+            hierarchy: "",
+            sequences: "a\n",
+            status: 2,
+            out: "",
+            err: "desq: usage: desq --support N [options] EXPR [FILE]\n",
+        },
+        Case {
+            words: &["--support", "2", "(a)", "f", "g"],
+            hierarchy: "",
+            sequences: "a\n",
+            status: 2,
+            out: "",
+            err: "desq: usage: desq --support N [options] EXPR [FILE]\n",
+        },
+        Case {
+            words: &["(a)", "f", "--support"],
+            hierarchy: "",
+            sequences: "a\n",
+            status: 2,
+            out: "",
+            err: "desq: usage: desq --support N [options] EXPR [FILE]\n",
+        },
+        Case {
+            words: &["--support", "-1", "(a)", "f"],
+            hierarchy: "",
+            sequences: "a\n",
+            status: 2,
+            out: "",
+            err: "desq: usage: desq --support N [options] EXPR [FILE]\n",
+        },
+        Case {
+            words: &["--support=", "(a)", "f"],
+            hierarchy: "",
+            sequences: "a\n",
+            status: 2,
+            out: "",
+            err: "desq: usage: desq --support N [options] EXPR [FILE]\n",
+        },
+        Case {
+            words: &["--support", "0", "(a)", "f"],
+            hierarchy: "",
+            sequences: "a\n",
+            status: 2,
+            out: "",
+            err: "desq: usage: desq --support N [options] EXPR [FILE]\n",
+        },
+        Case {
+            words: &["--support", "x", "(a)", "f"],
+            hierarchy: "",
+            sequences: "a\n",
+            status: 2,
+            out: "",
+            err: "desq: usage: desq --support N [options] EXPR [FILE]\n",
+        },
+        Case {
+            words: &["--support", "1000000000000000001", "(a)", "f"],
+            hierarchy: "",
+            sequences: "a\n",
+            status: 2,
+            out: "",
+            err: "desq: usage: desq --support N [options] EXPR [FILE]\n",
+        },
+        Case {
+            words: &["--engine", "count", "--support", "1", "(a)", "f"],
+            hierarchy: "",
+            sequences: "a\n",
+            status: 2,
+            out: "",
+            err: "desq: usage: desq --support N [options] EXPR [FILE]\n",
+        },
+    ];
+    assert_eq!(rt; count_right(rt.alloc(), &cases)?, cases.len());
+    Ok(())
+}
+
+const HIERARCHY: &[u8] = b"a1 A\na2 A\n";
+
+const SEQUENCES: &[u8] = b"a1 c d c b\ne e a1 e a1 e b\nc d c b\na2 d b\na1 a1 b\n";
+
+const WORDS: [&str; 6] = [
+    "--support",
+    "2",
+    "--hierarchy",
+    "h",
+    ".*(A)[(.^)|.]*(b).*",
+    "f",
+];
+
+const ANSWER: &[u8] = b"3\ta1 b\n2\ta1 A b\n2\ta1 a1 b\n";
+
+#[test]
+fn a_read_that_fails_names_its_file(rt: HostRuntime) -> Result<(), Fail> {
+    for call in 1..=20 {
+        let faults = Faults {
+            files: &[call],
+            cut: 4,
+            ..NO_FAULTS
+        };
+        let ran = run_on(rt.alloc(), &WORDS, HIERARCHY, SEQUENCES, faults)?;
+        let message: &[u8] = if call <= 5 {
+            b"desq: hierarchy: read fault\n"
+        } else {
+            b"desq: sequences: read fault\n"
+        };
+        assert_eq!(rt; ran.status, 5);
+        assert_eq!(rt; ran.out.len(), 0);
+        assert_eq!(rt; ran.err.as_slice(), message);
     }
     Ok(())
 }
 
-const ROW: [&str; 4] = ["--support", "2", ".*(a)(b).*", "f"];
-
-const LINES: &[u8] = b"a b\na b\na c\n";
-
 #[test]
-fn faults_end_as_stated(rt: HostRuntime) -> Result<(), Fail> {
-    for cut in 1..8 {
-        let ran = run_on(rt.alloc(), &ROW, LINES, Faults { cut, ..NO_FAULTS })?;
-        assert_eq!(rt; ran.status, 0, "cut {cut}");
-        assert_eq!(rt; ran.out.as_slice(), b"2\ta b\n".as_slice(), "cut {cut}");
-    }
-    for call in [1, 2, 3] {
-        let fails = [call];
+fn a_write_that_fails_leaves_the_first_bytes(rt: HostRuntime) -> Result<(), Fail> {
+    for (before, _) in ANSWER.iter().enumerate() {
         let faults = Faults {
-            files: &fails,
-            cut: 5,
+            out: &[before as u64 + 1],
+            cut: 1,
             ..NO_FAULTS
         };
-        let ran = run_on(rt.alloc(), &ROW, LINES, faults)?;
-        assert_eq!(rt; ran.status, 5, "call {call}");
-        assert_eq!(rt; ran.out.len(), 0, "call {call}");
-        assert_eq!(rt; ran.err.as_slice(), READ_FAULT.as_bytes(), "call {call}");
-    }
-    // An answer of this size is written by one call.
-    let whole = Faults {
-        out: &[2],
-        ..NO_FAULTS
-    };
-    let ran = run_on(rt.alloc(), &ROW, LINES, whole)?;
-    assert_eq!(rt; ran.status, 0);
-    let second = Faults {
-        out: &[2],
-        cut: 5,
-        ..NO_FAULTS
-    };
-    let ran = run_on(rt.alloc(), &ROW, LINES, second)?;
-    assert_eq!(rt; ran.status, 6);
-    assert_eq!(rt; ran.out.as_slice(), b"2\ta b".as_slice());
-    assert_eq!(rt; ran.err.as_slice(), b"desq: write fault\n".as_slice());
-    for (call, heard) in [(1, ""), (2, "desq: usa")] {
-        let fails = [call];
-        let faults = Faults {
-            err: &fails,
-            cut: 9,
-            ..NO_FAULTS
-        };
-        let ran = run_on(rt.alloc(), &["--help"], LINES, faults)?;
-        assert_eq!(rt; ran.status, 2, "call {call}");
-        assert_eq!(rt; ran.err.as_slice(), heard.as_bytes(), "call {call}");
+        let ran = run_on(rt.alloc(), &WORDS, HIERARCHY, SEQUENCES, faults)?;
+        assert_eq!(rt; ran.status, 6);
+        assert_eq!(rt; Some(ran.out.as_slice()), ANSWER.get(..before));
     }
     Ok(())
 }
 
-/// The piece so many times in a row.
-fn repeated(alloc: Global, piece: &str, times: usize) -> Result<String, Fail> {
-    let mut text = String::new(alloc);
-    for _ in 0..times {
-        text.push_str(piece)?;
-    }
-    Ok(text)
-}
-
 #[test]
-fn limits_stand_where_stated(rt: HostRuntime) -> Result<(), Fail> {
-    let thousand = repeated(rt.alloc(), "x a b y\n", 1000)?;
-    let ran = run_on(
-        rt.alloc(),
-        &["--support", "1", ".*(a)(b).*", "f"],
-        thousand.as_bytes(),
-        NO_FAULTS,
-    )?;
-    assert_eq!(rt; ran.status, 0);
-    assert_eq!(rt; ran.out.as_slice(), b"1000\ta b\n".as_slice());
-    for (pieces, status) in [(64, 0), (65, 3)] {
-        let expression = repeated(rt.alloc(), "a*", pieces)?;
-        let words = ["--support", "1", expression.as_str(), "f"];
-        let ran = run_on(rt.alloc(), &words, b"a\n", NO_FAULTS)?;
-        assert_eq!(rt; ran.status, status, "{pieces} pieces");
-    }
-    let zeros = repeated(rt.alloc(), "0", 400)?;
-    for (last, status) in [("1", 0), ("", 2)] {
-        let support = format!(in rt.alloc(); "{zeros}{last}")?;
-        let words = ["--support", support.as_str(), "(a)", "f"];
-        let ran = run_on(rt.alloc(), &words, b"a\n", NO_FAULTS)?;
-        assert_eq!(rt; ran.status, status, "400 zeros and {last:?}");
-    }
-    let nines = repeated(rt.alloc(), "9", 400)?;
-    let words = ["--support", nines.as_str(), "(a)", "f"];
-    let ran = run_on(rt.alloc(), &words, b"a\n", NO_FAULTS)?;
+fn a_fault_of_err_changes_no_status(rt: HostRuntime) -> Result<(), Fail> {
+    let faults = Faults {
+        err: &[1],
+        ..NO_FAULTS
+    };
+    let ran = run_on(rt.alloc(), &[], b"", b"", faults)?;
     assert_eq!(rt; ran.status, 2);
-    for (bytes, status) in [(4_096, 0), (4_097, 3)] {
-        let blanks = repeated(rt.alloc(), " ", bytes - 1)?;
-        let expression = format!(in rt.alloc(); "a{blanks}")?;
-        let words = ["--support", "1", expression.as_str(), "f"];
-        let ran = run_on(rt.alloc(), &words, b"a\n", NO_FAULTS)?;
-        assert_eq!(rt; ran.status, status, "an expression of {bytes} bytes");
-    }
-    for (bytes, status) in [(65_536, 0), (65_537, 3)] {
-        let blanks = repeated(rt.alloc(), "\n", bytes - 2)?;
-        let text = format!(in rt.alloc(); "a{blanks}a")?;
-        let ran = run_on(
-            rt.alloc(),
-            &["--support", "2", "(a)", "f"],
-            text.as_bytes(),
-            NO_FAULTS,
-        )?;
-        assert_eq!(rt; ran.status, status, "{bytes} bytes");
-    }
-    for (bytes, status) in [(255, 0), (256, 3)] {
-        let name = repeated(rt.alloc(), "n", bytes)?;
-        let ran = run_on(
-            rt.alloc(),
-            &["--support", "1", "(.)", "f"],
-            name.as_bytes(),
-            NO_FAULTS,
-        )?;
-        assert_eq!(rt; ran.status, status, "a name of {bytes} bytes");
-    }
+    assert_eq!(rt; ran.err.len(), 0);
     Ok(())
 }

@@ -10,7 +10,7 @@ use Rattle.std.proofs.lemmas.Slice.Eq.{bytes_eq-Decides}
 use Rattle.std.proofs.lemmas.Map.Made.{AllPairs-from_IsDistinct}
 use Rattle.std.proofs.lemmas.Map.Views.{Contains-from_any, list_any-from_Contains}
 use Rattle.indexmap.specs.IndexSet.{insert_key}
-use Rattle.item_names.specs.Names.{AreDistinct}
+use Rattle.mine_model.specs.Names.{AreDistinct}
 
 module _ {K : Type 0} (text : K → List ℕ) where
   list_any-map : (p : List ℕ → Bool) (ks : List K) → list_any (λ k. p (text k)) ks ≡ list_any p (map text ks)

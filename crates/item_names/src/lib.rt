@@ -2,8 +2,9 @@
 #![tactic(auto)]
 
 ghost use Rattle.std.specs.Prelude.{◌≡◌, ◌≤◌, ◌<◌, ◌↔◌, List, [], ◌∷◌, ◌++◌, length, slice_get, Contains, IsOk, IsNone, IfOk, IfSome, OnOk, OnErr};
-ghost use Rattle.mine_model.specs.Answer.{name_of};
-ghost use Rattle.item_names.specs.Names.{AreDistinct, IsInterned};
+ghost use Rattle.mine_model.specs.Limits.{most_items};
+ghost use Rattle.mine_model.specs.Names.{name_of, AreDistinct};
+ghost use Rattle.item_names.specs.Names.{IsInterned};
 
 use indexmap::IndexSet;
 use mine_model::{Item, NamesFault, NoMemory};
@@ -23,14 +24,14 @@ pub struct Names {
 
 impl Model for Names {
     ghost use Rattle.std.specs.Prelude.{List, ℕ, ◌≤◌, map, length};
-    ghost use Rattle.item_names.specs.declared.TheConstants.{MOST_NAMES};
-    ghost use Rattle.item_names.specs.Names.{AreDistinct};
+    ghost use Rattle.mine_model.specs.Limits.{most_items};
+    ghost use Rattle.mine_model.specs.Names.{AreDistinct};
 
     ghost Value = { List (List ℕ) };
 
     ghost view = { λ n. map (λ name. name.items) n.names.keys };
 
-    ghost invariant = { λ n. (length n.names.keys ≤ MOST_NAMES) × AreDistinct (map (λ name. name.items) n.names.keys) };
+    ghost invariant = { λ n. (length n.names.keys ≤ most_items) × AreDistinct (map (λ name. name.items) n.names.keys) };
 }
 
 impl Names {
@@ -50,7 +51,8 @@ impl Names {
         ensures distinct { AreDistinct self.new }
 
         ensures held { Contains self.old name.now → IsOk result }
-        ensures too_many { (result ≡ Err NamesFault.TooMany) ↔ ((length self.old ≡ MOST_NAMES) × ¬ Contains self.old name.now) }
+        ensures too_many { (result ≡ Err NamesFault.TooMany)
+            ↔ ((length self.old ≡ most_items) × ¬ Contains self.old name.now) }
         ensures err { OnErr result (self.new ≡ self.old) }
     {
         let count = self.count();
@@ -69,7 +71,7 @@ impl Names {
     // Gives a new name the next number.
     fn append(&mut self, name: &[u8]) -> Result<Item, NoMemory>
         requires new { ¬ Contains self.old name.now }
-        requires room { length self.old < MOST_NAMES }
+        requires room { length self.old < most_items }
         ensures number { IfOk result (λ item. item.0 ≡ length self.old) }
         ensures names { OnOk result (self.new ≡ self.old ++ name.now ∷ []) }
         ensures distinct { AreDistinct self.new }
@@ -101,7 +103,7 @@ impl Names {
     /// How many names are held. Takes no memory.
     pub fn count(&self) -> u32
         ensures count { result ≡ length self.now }
-        ensures most { result ≤ MOST_NAMES }
+        ensures most { result ≤ most_items }
         ensures distinct { AreDistinct self.now }
     {
         self.names.len() as u32

@@ -1,20 +1,22 @@
 -- Lemmas on counting sequences.
 use Rattle.std.proofs.Common.{◌≡◌, ℕ, ◌+◌, inl, inr, List, [], ◌∷◌, sym, ap, ◌∙◌, ◌≤◌, arith}
 use Rattle.std.specs.List.{AllByRecursion}
-use Rattle.mine_model.specs.declared.item.Item.{Item}
-use Rattle.mine_model.specs.Support.{Counts, weight_of}
+use Rattle.mine_model.specs.Support.{Sequence, Counts}
 
 -- there is at most one count
-pub Counts-unique : (Has : List Item → Type 0) (sequences : List (List Item)) (m n : ℕ) → Counts Has sequences m → Counts Has sequences n → m ≡ n
+pub Counts-unique : {A : Type 0} (Has : List A → Type 0) (sequences : List (Sequence A)) (m n : ℕ)
+    → Counts Has sequences m → Counts Has sequences n → m ≡ n
 Counts-unique Has [] m n p q = p ∙ sym q
-Counts-unique Has (s ∷ sequences) m n (inl p) (inl q) = p.1.1 ∙ ap (λ k. weight_of s + k) (Counts-unique Has sequences p.1.0 q.1.0 p.1.2 q.1.2) ∙ sym q.1.1
+Counts-unique Has (s ∷ sequences) m n (inl p) (inl q) =
+    p.1.1 ∙ ap (λ k. s.weight + k) (Counts-unique Has sequences p.1.0 q.1.0 p.1.2 q.1.2) ∙ sym q.1.1
 Counts-unique Has (s ∷ sequences) m n (inl p) (inr q) = absurd (q.0 p.0)
 Counts-unique Has (s ∷ sequences) m n (inr p) (inl q) = absurd (p.0 q.0)
 Counts-unique Has (s ∷ sequences) m n (inr p) (inr q) = Counts-unique Has sequences m n p.1 q.1
 
 -- where something is counted, a sequence has the property, and also what all of them have
-pub Counts-some : (Has Also : List Item → Type 0) (sequences : List (List Item)) (n : ℕ) → Counts Has sequences n → 1 ≤ n → AllByRecursion Also sequences
-    → (sequence : List Item) × Has sequence × Also sequence
+pub Counts-some : {A : Type 0} (Has Also : List A → Type 0) (sequences : List (Sequence A)) (n : ℕ)
+    → Counts Has sequences n → 1 ≤ n → AllByRecursion (λ s. Also s.items) sequences
+    → (items : List A) × Has items × Also items
 Counts-some Has Also [] n none some all = absurd (omega arith)
-Counts-some Has Also (s ∷ sequences) n (inl p) some all = (s, p.0, all.0)
+Counts-some Has Also (s ∷ sequences) n (inl p) some all = (s.items, p.0, all.0)
 Counts-some Has Also (s ∷ sequences) n (inr p) some all = Counts-some Has Also sequences n p.1 some all.1

@@ -1,22 +1,43 @@
--- Pattern expressions as trees. From the DESQ article; the six item expressions are this program's own.
-use Rattle.std.specs.Prelude.{ℕ, ◌+◌, ◌*◌, ◌<◌, max, Option, Some, None, List}
-use Rattle.std.specs.List.{slice_index_or}
+-- Pattern expressions as trees, over what their leaves name. From the DESQ article; the item expressions are
+-- this program's own.
+use Rattle.std.specs.Prelude.{ℕ, ◌+◌, ◌*◌, max, Option, Some, None, List, [], ◌∷◌, ◌++◌}
 use Rattle.mine_model.specs.declared.item.Item.{Item}
-use Rattle.mine_model.specs.declared.expression.Leaf.{Leaf}
-use Rattle.mine_model.specs.declared.expression.Leaf.TheVariants.{Under, Exact, Climb, Forced, Any, AnyClimb}
+use Rattle.mine_model.specs.declared.expression.Leaf.{Leaf as ItemLeaf}
+use Rattle.mine_model.specs.declared.expression.Leaf.TheVariants.{Under, Exact, Climb, Forced, Any, AnyClimb, Not, NotExact}
 use Rattle.mine_model.specs.declared.expression.Expr.{Expr}
-use Rattle.mine_model.specs.declared.expression.Expr.TheVariants.{Leaf as ItemLeaf, Cat', Alt', Rep', Cap'}
+use Rattle.mine_model.specs.declared.expression.Expr.TheVariants.{Leaf as LeafExpr, Cat', Alt', Rep', Cap'}
+
+-- the item expressions: w, w=, w^, w^=, a dot, a dot and ^, !w, !w=
+pub data Leaf (A : Type 0) : Type 0 where
+  under : A → Leaf A
+  exact : A → Leaf A
+  climb : A → Leaf A
+  forced : A → Leaf A
+  any : Leaf A
+  any_climb : Leaf A
+  not_under : A → Leaf A
+  not_exact : A → Leaf A
 
 -- an expression without where its parts lie in memory
-pub data Tree : Type 0 where
-  leaf : Leaf → Tree
-  cat : Tree → Tree → Tree
-  alt : Tree → Tree → Tree
-  rep : Tree → ℕ → Option ℕ → Tree
-  cap : Tree → Tree
+pub data Tree (A : Type 0) : Type 0 where
+  leaf : Leaf A → Tree A
+  cat : Tree A → Tree A → Tree A
+  alt : Tree A → Tree A → Tree A
+  rep : Tree A → ℕ → Option ℕ → Tree A
+  cap : Tree A → Tree A
 
-abbrev pub tree_of : Expr → Tree
-tree_of (ItemLeaf l) = leaf l
+abbrev pub leaf_of : ItemLeaf → Leaf Item
+leaf_of (Under w) = under w
+leaf_of (Exact w) = exact w
+leaf_of (Climb w) = climb w
+leaf_of (Forced w) = forced w
+leaf_of Any = any
+leaf_of AnyClimb = any_climb
+leaf_of (Not w) = not_under w
+leaf_of (NotExact w) = not_exact w
+
+abbrev pub tree_of : Expr → Tree Item
+tree_of (LeafExpr l) = leaf (leaf_of l)
 tree_of (Cat' p left q right) = cat (tree_of left) (tree_of right)
 tree_of (Alt' p left q right) = alt (tree_of left) (tree_of right)
 tree_of (Rep' p inner least most) = rep (tree_of inner) least most
@@ -28,43 +49,46 @@ unfolded_times least None = max least 1
 unfolded_times least (Some most) = most
 
 -- the number of item expressions once all repetitions are written out
-abbrev pub unfolded_leaves : Tree → ℕ
+abbrev pub unfolded_leaves : {A : Type 0} → Tree A → ℕ
 unfolded_leaves (leaf l) = 1
 unfolded_leaves (cat left right) = unfolded_leaves left + unfolded_leaves right
 unfolded_leaves (alt left right) = unfolded_leaves left + unfolded_leaves right
 unfolded_leaves (rep inner least most) = unfolded_times least most * unfolded_leaves inner
 unfolded_leaves (cap inner) = unfolded_leaves inner
 
--- the leaf with the item of its number in a list
-abbrev pub leaf_with_items : List Item → Leaf → Leaf
-leaf_with_items items (Under w) = Under (slice_index_or items w.0 w)
-leaf_with_items items (Exact w) = Exact (slice_index_or items w.0 w)
-leaf_with_items items (Climb w) = Climb (slice_index_or items w.0 w)
-leaf_with_items items (Forced w) = Forced (slice_index_or items w.0 w)
-leaf_with_items items Any = Any
-leaf_with_items items AnyClimb = AnyClimb
+-- what the leaf names, if it names something
+abbrev pub named_by : {A : Type 0} → Leaf A → List A
+named_by (under w) = w ∷ []
+named_by (exact w) = w ∷ []
+named_by (climb w) = w ∷ []
+named_by (forced w) = w ∷ []
+named_by any = []
+named_by any_climb = []
+named_by (not_under w) = w ∷ []
+named_by (not_exact w) = w ∷ []
 
--- the tree with the k-th item of the list in place of the number k
-abbrev pub with_items : List Item → Tree → Tree
-with_items items (leaf l) = leaf (leaf_with_items items l)
-with_items items (cat left right) = cat (with_items items left) (with_items items right)
-with_items items (alt left right) = alt (with_items items left) (with_items items right)
-with_items items (rep inner least most) = rep (with_items items inner) least most
-with_items items (cap inner) = cap (with_items items inner)
+-- what the leaves name, in the order of the text
+abbrev pub named_in : {A : Type 0} → Tree A → List A
+named_in (leaf l) = named_by l
+named_in (cat left right) = named_in left ++ named_in right
+named_in (alt left right) = named_in left ++ named_in right
+named_in (rep inner least most) = named_in inner
+named_in (cap inner) = named_in inner
 
--- the item of the leaf, if it has one, has a number below n
-abbrev pub IsLeafBelow : ℕ → Leaf → Type 0
-IsLeafBelow n (Under w) = w.0 < n
-IsLeafBelow n (Exact w) = w.0 < n
-IsLeafBelow n (Climb w) = w.0 < n
-IsLeafBelow n (Forced w) = w.0 < n
-IsLeafBelow n Any = Unit {0}
-IsLeafBelow n AnyClimb = Unit {0}
+abbrev pub leaf_by : {A B : Type 0} → (A → B) → Leaf A → Leaf B
+leaf_by f (under w) = under (f w)
+leaf_by f (exact w) = exact (f w)
+leaf_by f (climb w) = climb (f w)
+leaf_by f (forced w) = forced (f w)
+leaf_by f any = any
+leaf_by f any_climb = any_climb
+leaf_by f (not_under w) = not_under (f w)
+leaf_by f (not_exact w) = not_exact (f w)
 
--- each item of the tree has a number below n
-abbrev pub IsTreeBelow : ℕ → Tree → Type 0
-IsTreeBelow n (leaf l) = IsLeafBelow n l
-IsTreeBelow n (cat left right) = IsTreeBelow n left × IsTreeBelow n right
-IsTreeBelow n (alt left right) = IsTreeBelow n left × IsTreeBelow n right
-IsTreeBelow n (rep inner least most) = IsTreeBelow n inner
-IsTreeBelow n (cap inner) = IsTreeBelow n inner
+-- the same tree over other things named
+abbrev pub tree_by : {A B : Type 0} → (A → B) → Tree A → Tree B
+tree_by f (leaf l) = leaf (leaf_by f l)
+tree_by f (cat left right) = cat (tree_by f left) (tree_by f right)
+tree_by f (alt left right) = alt (tree_by f left) (tree_by f right)
+tree_by f (rep inner least most) = rep (tree_by f inner) least most
+tree_by f (cap inner) = cap (tree_by f inner)

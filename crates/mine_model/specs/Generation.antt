@@ -1,60 +1,61 @@
 -- What an expression generates from a sequence. From the DESQ article, the meaning of pattern expressions.
 use Rattle.std.specs.Prelude.{◌≡◌, ◌≢◌, ℕ, ◌≤◌, Bool, true, false, ◌⊎◌, List, [], ◌∷◌, ◌++◌, length, Option, Some, None}
 use Rattle.std.specs.List.{AllByRecursion, flat_map}
-use Rattle.mine_model.specs.declared.item.Item.{Item}
-use Rattle.mine_model.specs.declared.expression.Leaf.{Leaf}
-use Rattle.mine_model.specs.declared.expression.Leaf.TheVariants.{Under, Exact, Climb, Forced, Any, AnyClimb}
 use Rattle.mine_model.specs.Hierarchy.{Link, IsAncestor}
-use Rattle.mine_model.specs.Expression.{Tree, leaf, cat, alt, rep, cap}
+use Rattle.mine_model.specs.Expression.{Leaf, under, exact, climb, forced, any, any_climb, not_under, not_exact, Tree, leaf, cat, alt, rep, cap}
 
 -- the leaf matches t
-abbrev pub Matches : List Link → Leaf → Item → Type 0
-Matches rows (Under w) t = IsAncestor rows w t
-Matches rows (Exact w) t = t ≡ w
-Matches rows (Climb w) t = IsAncestor rows w t
-Matches rows (Forced w) t = IsAncestor rows w t
-Matches rows Any t = Unit {0}
-Matches rows AnyClimb t = Unit {0}
+abbrev pub Matches : {A : Type 0} → List (Link A) → Leaf A → A → Type 0
+Matches links (under w) t = IsAncestor links w t
+Matches links (exact w) t = t ≡ w
+Matches links (climb w) t = IsAncestor links w t
+Matches links (forced w) t = IsAncestor links w t
+Matches links any t = Unit {0}
+Matches links any_climb t = Unit {0}
+Matches links (not_under w) t = IsAncestor links w t → ⊥
+Matches links (not_exact w) t = t ≢ w
 
 -- at t the leaf may write v, inside a capture
-abbrev pub MayWrite : List Link → Leaf → Item → Item → Type 0
-MayWrite rows (Under w) t v = v ≡ t
-MayWrite rows (Exact w) t v = v ≡ w
-MayWrite rows (Climb w) t v = IsAncestor rows v t × IsAncestor rows w v
-MayWrite rows (Forced w) t v = v ≡ w
-MayWrite rows Any t v = v ≡ t
-MayWrite rows AnyClimb t v = IsAncestor rows v t
+abbrev pub MayWrite : {A : Type 0} → List (Link A) → Leaf A → A → A → Type 0
+MayWrite links (under w) t v = v ≡ t
+MayWrite links (exact w) t v = v ≡ w
+MayWrite links (climb w) t v = IsAncestor links v t × IsAncestor links w v
+MayWrite links (forced w) t v = v ≡ w
+MayWrite links any t v = v ≡ t
+MayWrite links any_climb t v = IsAncestor links v t
+MayWrite links (not_under w) t v = v ≡ t
+MayWrite links (not_exact w) t v = v ≡ t
 
 -- what the leaf writes at t: one item inside a capture, nothing outside
-abbrev pub WritesAt : List Link → Leaf → Bool → Item → List Item → Type 0
-WritesAt rows l true t output = (v : Item) × MayWrite rows l t v × (output ≡ v ∷ [])
-WritesAt rows l false t output = output ≡ []
+abbrev pub WritesAt : {A : Type 0} → List (Link A) → Leaf A → Bool → A → List A → Type 0
+WritesAt {A} links l true t output = (v : A) × MayWrite links l t v × (output ≡ v ∷ [])
+WritesAt links l false t output = output ≡ []
 
 -- one turn of a repetition: what it takes of the sequence, and what it writes
-pub record Turn : Type 0 where
-  pub input : List Item
-  pub output : List Item
+pub record Turn (A : Type 0) : Type 0 where
+  pub input : List A
+  pub output : List A
 
 abbrev pub IsAtMost : ℕ → Option ℕ → Type 0
 IsAtMost n None = Unit {0}
 IsAtMost n (Some most) = n ≤ most
 
 -- The tree generates the output from the whole input, inside a capture or outside.
-abbrev pub Generates : List Link → Tree → Bool → List Item → List Item → Type 0
-Generates rows (leaf l) captured input output =
-    (t : Item) × (input ≡ t ∷ []) × Matches rows l t × WritesAt rows l captured t output
-Generates rows (cat left right) captured input output =
-    (input1 : List Item) × (input2 : List Item) × (output1 : List Item) × (output2 : List Item)
+abbrev pub Generates : {A : Type 0} → List (Link A) → Tree A → Bool → List A → List A → Type 0
+Generates {A} links (leaf l) captured input output =
+    (t : A) × (input ≡ t ∷ []) × Matches links l t × WritesAt links l captured t output
+Generates {A} links (cat left right) captured input output =
+    (input1 : List A) × (input2 : List A) × (output1 : List A) × (output2 : List A)
     × (input ≡ input1 ++ input2) × (output ≡ output1 ++ output2)
-    × Generates rows left captured input1 output1 × Generates rows right captured input2 output2
-Generates rows (alt left right) captured input output =
-    Generates rows left captured input output ⊎ Generates rows right captured input output
-Generates rows (rep inner least most) captured input output =
-    (turns : List Turn) × (least ≤ length turns) × IsAtMost (length turns) most
+    × Generates links left captured input1 output1 × Generates links right captured input2 output2
+Generates links (alt left right) captured input output =
+    Generates links left captured input output ⊎ Generates links right captured input output
+Generates {A} links (rep inner least most) captured input output =
+    (turns : List (Turn A)) × (least ≤ length turns) × IsAtMost (length turns) most
     × (input ≡ flat_map (λ turn. turn.input) turns) × (output ≡ flat_map (λ turn. turn.output) turns)
-    × AllByRecursion (λ turn. Generates rows inner captured turn.input turn.output) turns
-Generates rows (cap inner) captured input output = Generates rows inner true input output
+    × AllByRecursion (λ turn. Generates links inner captured turn.input turn.output) turns
+Generates links (cap inner) captured input output = Generates links inner true input output
 
 -- a pattern of the sequence: a non-empty output that the expression generates from it
-abbrev pub IsPatternOf : List Link → Tree → List Item → List Item → Type 0
-IsPatternOf rows expression sequence pattern = (pattern ≢ []) × Generates rows expression false sequence pattern
+abbrev pub IsPatternOf : {A : Type 0} → List (Link A) → Tree A → List A → List A → Type 0
+IsPatternOf links expression sequence pattern = (pattern ≢ []) × Generates links expression false sequence pattern

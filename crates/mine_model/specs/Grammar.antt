@@ -1,48 +1,43 @@
 -- How tokens read as an expression. Concatenation and alternation of the DESQ article; this program's own spelling.
-use Rattle.std.specs.Prelude.{◌≡◌, ℕ, ◌+◌, ◌*◌, ◌-◌, true, ◌⊎◌, ◌≢◌, List, [], ◌∷◌, ◌++◌, map, length, Option, Some, None}
-use Rattle.std.specs.List.{flat_map, fold}
-use Rattle.mine_model.specs.declared.item.Item.{Item}
-use Rattle.mine_model.specs.declared.expression.Leaf.TheVariants.{Under, Exact, Climb, Forced, Any, AnyClimb}
-use Rattle.mine_model.specs.Expression.{Tree, leaf, cat, alt, rep, cap}
-use Rattle.mine_model.specs.Tokens.{Token, name, sign, repeat, open_repeat, Placed, Each, is_free, is_digit}
+use Rattle.std.specs.Prelude.{◌≡◌, ℕ, ◌+◌, ◌*◌, ◌-◌, true, ◌⊎◌, ◌≢◌, List, [], ◌∷◌, ◌++◌, Option, Some, None}
+use Rattle.std.specs.List.{fold}
+use Rattle.mine_model.specs.Bytes.{exclamation_mark, open_round, close_round, asterisk, plus_sign, comma, full_stop, digit_zero, equals_sign, question_mark, open_square, close_square, circumflex, vertical_bar}
+use Rattle.mine_model.specs.Expression.{under, exact, climb, forced, any, any_climb, not_under, not_exact, Tree, leaf, cat, alt, rep, cap}
+use Rattle.mine_model.specs.Tokens.{Token, name, sign, repeat, open_repeat, Placed, AreTokens, Each, is_free, is_digit}
 
 -- a name of an expression where it stands
 pub record Use : Type 0 where
   pub column : ℕ
   pub name : List ℕ
 
-abbrev pub use_of : ℕ → Token → List Use
-use_of at (name text) = record { column = at; name = text } ∷ []
-use_of at (sign b) = []
-use_of at (repeat between) = []
-use_of at (open_repeat behind) = []
+-- the token at the column
+abbrev pub at : ℕ → Token → Placed
+at k token = record { column = k; token = token }
 
--- the names of an expression, in the order of its text
-abbrev pub uses_of : List Placed → List Use
-uses_of tokens = flat_map (λ placed. use_of placed.column placed.token) tokens
-
--- how many names stand in the tokens
-abbrev pub name_count : List Token → ℕ
-name_count tokens = length (flat_map (use_of 0) tokens)
+-- the name where it stands
+abbrev pub named : Use → Placed
+named u = at u.column (name u.name)
 
 -- the value of decimal digits
 abbrev pub value_of_digits : List ℕ → ℕ
-value_of_digits digits = fold (λ value digit. value * 10 + (digit - 48)) 0 digits
+value_of_digits digits = fold (λ value digit. value * 10 + (digit - digit_zero)) 0 digits
+
+-- one or more decimal digits of n
+abbrev pub IsDecimal : List ℕ → ℕ → Type 0
+IsDecimal digits n = Each is_digit true digits × (digits ≢ []) × (value_of_digits digits ≡ n)
 
 -- digits of n, with free bytes round them
 abbrev pub IsPadded : List ℕ → ℕ → Type 0
 IsPadded bytes n =
     (before : List ℕ) × (digits : List ℕ) × (after : List ℕ)
     × (bytes ≡ before ++ digits ++ after)
-    × Each is_free true before × Each is_free true after
-    × Each is_digit true digits × (digits ≢ [])
-    × (value_of_digits digits ≡ n)
+    × Each is_free true before × Each is_free true after × IsDecimal digits n
 
 -- the bounds that stand between the braces of a repeat: n, or n and a comma, or a comma and m, or n, a comma and m
 abbrev pub IsRepeat : List ℕ → ℕ → Option ℕ → Type 0
 IsRepeat between least most =
     (IsPadded between least × (most ≡ Some least))
-    ⊎ ((left right : List ℕ) × (between ≡ left ++ 44 ∷ right)
+    ⊎ ((left right : List ℕ) × (between ≡ left ++ comma ∷ right)
     × ((IsPadded left least × Each is_free true right × (most ≡ None))
     ⊎ (Each is_free true left × (least ≡ 0) × (m : ℕ) × IsPadded right m × (most ≡ Some m))
     ⊎ (IsPadded left least × (m : ℕ) × IsPadded right m × (most ≡ Some m))))
@@ -51,9 +46,9 @@ IsRepeat between least most =
 abbrev pub IsPostfix : Token → ℕ → Option ℕ → Type 0
 IsPostfix (name text) least most = ⊥
 IsPostfix (sign b) least most =
-    ((b ≡ 42) × (least ≡ 0) × (most ≡ None))
-    ⊎ ((b ≡ 43) × (least ≡ 1) × (most ≡ None))
-    ⊎ ((b ≡ 63) × (least ≡ 0) × (most ≡ Some 1))
+    ((b ≡ asterisk) × (least ≡ 0) × (most ≡ None))
+    ⊎ ((b ≡ plus_sign) × (least ≡ 1) × (most ≡ None))
+    ⊎ ((b ≡ question_mark) × (least ≡ 0) × (most ≡ Some 1))
 IsPostfix (repeat between) least most = IsRepeat between least most
 IsPostfix (open_repeat behind) least most = ⊥
 
@@ -65,48 +60,56 @@ pub data Part : Type 0 where
   atom : Part
   item : Part
 
--- the k-th name of the expression as the item of a leaf
-abbrev pub nth_use : ℕ → Item
-nth_use k = record { 0 = k }
-
--- The tokens read as the tree, as this part of the grammar, where k names stand before them.
-pub data Reads : Part → ℕ → List Token → Tree → Type 0 where
-  as_concatenation : {k : ℕ} {tokens : List Token} {tree : Tree}
-      → Reads concatenation k tokens tree → Reads expression k tokens tree
-  alternation : {k : ℕ} {tokens : List Token} {tree : Tree} (before after : List Token) (left right : Tree)
-      → tokens ≡ before ++ sign 124 ∷ after → tree ≡ alt left right
-      → Reads expression k before left → Reads concatenation (k + name_count before) after right → Reads expression k tokens tree
-  as_repetition : {k : ℕ} {tokens : List Token} {tree : Tree}
-      → Reads repetition k tokens tree → Reads concatenation k tokens tree
-  in_a_row : {k : ℕ} {tokens : List Token} {tree : Tree} (before after : List Token) (left right : Tree)
+-- The tokens read as the tree, as this part of the grammar.
+pub data Reads : Part → List Placed → Tree Use → Type 0 where
+  as_concatenation : {tokens : List Placed} {tree : Tree Use}
+      → Reads concatenation tokens tree → Reads expression tokens tree
+  alternation : {tokens : List Placed} {tree : Tree Use} (before : List Placed) (k : ℕ) (after : List Placed)
+      (left right : Tree Use)
+      → tokens ≡ before ++ at k (sign vertical_bar) ∷ after → tree ≡ alt left right
+      → Reads expression before left → Reads concatenation after right → Reads expression tokens tree
+  as_repetition : {tokens : List Placed} {tree : Tree Use}
+      → Reads repetition tokens tree → Reads concatenation tokens tree
+  in_a_row : {tokens : List Placed} {tree : Tree Use} (before after : List Placed) (left right : Tree Use)
       → tokens ≡ before ++ after → tree ≡ cat left right
-      → Reads concatenation k before left → Reads repetition (k + name_count before) after right → Reads concatenation k tokens tree
-  as_atom : {k : ℕ} {tokens : List Token} {tree : Tree}
-      → Reads atom k tokens tree → Reads repetition k tokens tree
-  repeated : {k : ℕ} {tokens : List Token} {tree : Tree} (before : List Token) (postfix : Token) (inner : Tree) (least : ℕ) (most : Option ℕ)
+      → Reads concatenation before left → Reads repetition after right → Reads concatenation tokens tree
+  as_atom : {tokens : List Placed} {tree : Tree Use}
+      → Reads atom tokens tree → Reads repetition tokens tree
+  repeated : {tokens : List Placed} {tree : Tree Use} (before : List Placed) (postfix : Placed) (inner : Tree Use)
+      (least : ℕ) (most : Option ℕ)
       → tokens ≡ before ++ postfix ∷ [] → tree ≡ rep inner least most
-      → Reads repetition k before inner → IsPostfix postfix least most → Reads repetition k tokens tree
-  as_item : {k : ℕ} {tokens : List Token} {tree : Tree}
-      → Reads item k tokens tree → Reads atom k tokens tree
-  capture : {k : ℕ} {tokens : List Token} {tree : Tree} (between : List Token) (inner : Tree)
-      → tokens ≡ sign 40 ∷ between ++ sign 41 ∷ [] → tree ≡ cap inner
-      → Reads expression k between inner → Reads atom k tokens tree
-  group : {k : ℕ} {tokens : List Token} {tree : Tree} (between : List Token)
-      → tokens ≡ sign 91 ∷ between ++ sign 93 ∷ []
-      → Reads expression k between tree → Reads atom k tokens tree
-  under : {k : ℕ} {tokens : List Token} {tree : Tree} (text : List ℕ)
-      → tokens ≡ name text ∷ [] → tree ≡ leaf (Under (nth_use k)) → Reads item k tokens tree
-  exact : {k : ℕ} {tokens : List Token} {tree : Tree} (text : List ℕ)
-      → tokens ≡ name text ∷ sign 61 ∷ [] → tree ≡ leaf (Exact (nth_use k)) → Reads item k tokens tree
-  climb : {k : ℕ} {tokens : List Token} {tree : Tree} (text : List ℕ)
-      → tokens ≡ name text ∷ sign 94 ∷ [] → tree ≡ leaf (Climb (nth_use k)) → Reads item k tokens tree
-  forced : {k : ℕ} {tokens : List Token} {tree : Tree} (text : List ℕ)
-      → tokens ≡ name text ∷ sign 94 ∷ sign 61 ∷ [] → tree ≡ leaf (Forced (nth_use k)) → Reads item k tokens tree
-  any : {k : ℕ} {tokens : List Token} {tree : Tree}
-      → tokens ≡ sign 46 ∷ [] → tree ≡ leaf Any → Reads item k tokens tree
-  any_climb : {k : ℕ} {tokens : List Token} {tree : Tree}
-      → tokens ≡ sign 46 ∷ sign 94 ∷ [] → tree ≡ leaf AnyClimb → Reads item k tokens tree
+      → Reads repetition before inner → IsPostfix postfix.token least most → Reads repetition tokens tree
+  as_item : {tokens : List Placed} {tree : Tree Use}
+      → Reads item tokens tree → Reads atom tokens tree
+  capture : {tokens : List Placed} {tree : Tree Use} (j : ℕ) (between : List Placed) (k : ℕ) (inner : Tree Use)
+      → tokens ≡ at j (sign open_round) ∷ between ++ at k (sign close_round) ∷ [] → tree ≡ cap inner
+      → Reads expression between inner → Reads atom tokens tree
+  group : {tokens : List Placed} {tree : Tree Use} (j : ℕ) (between : List Placed) (k : ℕ)
+      → tokens ≡ at j (sign open_square) ∷ between ++ at k (sign close_square) ∷ []
+      → Reads expression between tree → Reads atom tokens tree
+  as_under : {tokens : List Placed} {tree : Tree Use} (u : Use)
+      → tokens ≡ named u ∷ [] → tree ≡ leaf (under u) → Reads item tokens tree
+  as_exact : {tokens : List Placed} {tree : Tree Use} (u : Use) (k : ℕ)
+      → tokens ≡ named u ∷ at k (sign equals_sign) ∷ [] → tree ≡ leaf (exact u) → Reads item tokens tree
+  as_climb : {tokens : List Placed} {tree : Tree Use} (u : Use) (k : ℕ)
+      → tokens ≡ named u ∷ at k (sign circumflex) ∷ [] → tree ≡ leaf (climb u) → Reads item tokens tree
+  as_forced : {tokens : List Placed} {tree : Tree Use} (u : Use) (j k : ℕ)
+      → tokens ≡ named u ∷ at j (sign circumflex) ∷ at k (sign equals_sign) ∷ [] → tree ≡ leaf (forced u)
+      → Reads item tokens tree
+  as_any : {tokens : List Placed} {tree : Tree Use} (j : ℕ)
+      → tokens ≡ at j (sign full_stop) ∷ [] → tree ≡ leaf any → Reads item tokens tree
+  as_any_climb : {tokens : List Placed} {tree : Tree Use} (j k : ℕ)
+      → tokens ≡ at j (sign full_stop) ∷ at k (sign circumflex) ∷ [] → tree ≡ leaf any_climb → Reads item tokens tree
+  as_not_under : {tokens : List Placed} {tree : Tree Use} (j : ℕ) (u : Use)
+      → tokens ≡ at j (sign exclamation_mark) ∷ named u ∷ [] → tree ≡ leaf (not_under u) → Reads item tokens tree
+  as_not_exact : {tokens : List Placed} {tree : Tree Use} (j : ℕ) (u : Use) (k : ℕ)
+      → tokens ≡ at j (sign exclamation_mark) ∷ named u ∷ at k (sign equals_sign) ∷ [] → tree ≡ leaf (not_exact u)
+      → Reads item tokens tree
 
--- the tokens read as an expression
-abbrev pub ReadsAs : List Placed → Tree → Type 0
-ReadsAs tokens tree = Reads expression 0 (map (λ placed. placed.token) tokens) tree
+-- some continuation of the tokens reads as an expression
+abbrev pub Begins : List Placed → Type 0
+Begins tokens = (more : List Placed) × (tree : Tree Use) × Reads expression (tokens ++ more) tree
+
+-- the text reads as this tree
+abbrev pub ReadsAs : List ℕ → Tree Use → Type 0
+ReadsAs text tree = (tokens : List Placed) × AreTokens text tokens × Reads expression tokens tree

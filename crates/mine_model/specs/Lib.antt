@@ -1,3 +1,6 @@
+-- the words of the promise
+pub mod Bytes
+pub mod Limits
 pub mod Hierarchy
 pub mod Text
 pub mod Expression
@@ -7,5 +10,18 @@ pub mod Generation
 pub mod Support
 pub mod Answer
 pub mod AnswerText
-pub mod Narrow
+pub mod First
+pub mod Refusal
+pub mod Status
+-- what crates share
+pub mod Names
+pub mod Ancestry
 pub mod Labels
+pub mod Database
+pub mod Cover
+pub mod Faults
+pub mod PatexFaults
+-- what the proofs keep
+pub mod Machine
+pub mod Holding
+pub mod Bounds

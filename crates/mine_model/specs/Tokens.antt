@@ -1,32 +1,35 @@
 -- The tokens of the text of an expression. This program's own spelling.
-use Rattle.std.specs.Prelude.{◌≡◌, ℕ, ◌+◌, ◌==◌, if◌then◌else◌, ◌&&◌, ◌||◌, nat_le, Bool, true, false, IsTrue, ◌⊎◌, ◌≢◌, List, [], ◌∷◌, ◌++◌, length}
+use Rattle.std.specs.Prelude.{◌≡◌, ℕ, ◌+◌, ◌==◌, ◌||◌, ◌&&◌, nat_le, Bool, true, false, if◌then◌else◌, IsTrue, ◌⊎◌, ◌≢◌, List, [], ◌∷◌, ◌++◌, length}
 use Rattle.std.specs.List.{AllByRecursion, flat_map}
+use Rattle.mine_model.specs.Bytes.{tab, line_feed, carriage_return, space, exclamation_mark, number_sign, percent_sign, ampersand, quote, open_round, close_round, asterisk, plus_sign, dash, full_stop, slash, digit_zero, digit_nine, colon, equals_sign, question_mark, at_sign, capital_a, capital_z, open_square, close_square, circumflex, underscore, small_a, small_z, open_brace, vertical_bar, close_brace, beyond_ascii}
 
 -- what stands free between tokens, and in the braces of a repeat round its numbers
 abbrev pub is_free : ℕ → Bool
-is_free b = (b == 32) || (b == 9) || (b == 10) || (b == 13)
+is_free b = (b == space) || (b == tab) || (b == line_feed) || (b == carriage_return)
 
 abbrev pub is_digit : ℕ → Bool
-is_digit b = nat_le 48 b && nat_le b 57
+is_digit b = nat_le digit_zero b && nat_le b digit_nine
 
--- a byte of a bare name: letters, digits, _ - @ / : # % & and every byte from 128
+-- a byte of a bare name: letters, digits, _ - @ / : # % & and every byte beyond ASCII
 abbrev pub is_bare_byte : ℕ → Bool
 is_bare_byte b =
-    (nat_le 97 b && nat_le b 122) || (nat_le 65 b && nat_le b 90) || is_digit b
-    || (b == 95) || (b == 45) || (b == 64) || (b == 47) || (b == 58) || (b == 35) || (b == 37) || (b == 38)
-    || nat_le 128 b
+    (nat_le small_a b && nat_le b small_z) || (nat_le capital_a b && nat_le b capital_z) || is_digit b
+    || (b == underscore) || (b == dash) || (b == at_sign) || (b == slash) || (b == colon)
+    || (b == number_sign) || (b == percent_sign) || (b == ampersand)
+    || nat_le beyond_ascii b
 
--- the signs, the postfix signs of one byte among them: = ^ . ( ) [ ] | * + ?
+-- the signs, the postfix signs of one byte among them: ! = ^ . ( ) [ ] | * + ?
 abbrev pub is_sign : ℕ → Bool
 is_sign b =
-    (b == 61) || (b == 94) || (b == 46) || (b == 40) || (b == 41) || (b == 91) || (b == 93) || (b == 124)
-    || (b == 42) || (b == 43) || (b == 63)
+    (b == exclamation_mark) || (b == equals_sign) || (b == circumflex) || (b == full_stop)
+    || (b == open_round) || (b == close_round) || (b == open_square) || (b == close_square)
+    || (b == vertical_bar) || (b == asterisk) || (b == plus_sign) || (b == question_mark)
 
 abbrev pub is_quote : ℕ → Bool
-is_quote b = b == 39
+is_quote b = b == quote
 
 abbrev pub is_closing_brace : ℕ → Bool
-is_closing_brace b = b == 125
+is_closing_brace b = b == close_brace
 
 pub data Token : Type 0 where
   name : List ℕ → Token  -- a bare or a quoted name
@@ -51,26 +54,43 @@ BeginsOtherwise test (b ∷ bytes) = test b ≡ false
 abbrev pub Spells : List ℕ → Token → List ℕ → Type 0
 Spells bytes (name text) following =
     ((bytes ≡ text) × (text ≢ []) × Each is_bare_byte true text × BeginsOtherwise is_bare_byte following)
-    ⊎ ((bytes ≡ 39 ∷ doubled text ++ 39 ∷ []) × BeginsOtherwise is_quote following)
+    ⊎ ((bytes ≡ quote ∷ doubled text ++ quote ∷ []) × BeginsOtherwise is_quote following)
 Spells bytes (sign b) following = (bytes ≡ b ∷ []) × IsTrue (is_sign b)
-Spells bytes (repeat between) following = (bytes ≡ 123 ∷ between ++ 125 ∷ []) × Each is_closing_brace false between
-Spells bytes (open_repeat behind) following = (bytes ≡ 123 ∷ behind) × Each is_closing_brace false behind × (following ≡ [])
+Spells bytes (repeat between) following =
+    (bytes ≡ open_brace ∷ between ++ close_brace ∷ []) × Each is_closing_brace false between
+Spells bytes (open_repeat behind) following =
+    (bytes ≡ open_brace ∷ behind) × Each is_closing_brace false behind × (following ≡ [])
 
 -- a token where it stands: column counts its first byte, from 1
 pub record Placed : Type 0 where
   pub column : ℕ
   pub token : Token
 
--- from this column on the text is these tokens, with free bytes before, between and after them
-abbrev pub AreTokensFrom : ℕ → List ℕ → List Placed → Type 0
-AreTokensFrom column text [] = Each is_free true text
-AreTokensFrom column text (first ∷ others) =
+-- From this column on the text is these tokens, with free bytes before each of them and behind the last, and
+-- then, from a column on, a rest, before which no byte is free.
+abbrev pub AreTokensBefore : ℕ → List ℕ → List Placed → ℕ → List ℕ → Type 0
+AreTokensBefore column text [] at rest =
+    (free : List ℕ) × (text ≡ free ++ rest) × Each is_free true free
+    × (at ≡ column + length free) × BeginsOtherwise is_free rest
+AreTokensBefore column text (first ∷ others) at rest =
     (free : List ℕ) × (bytes : List ℕ) × (following : List ℕ)
     × (text ≡ free ++ bytes ++ following)
     × Each is_free true free
     × (first.column ≡ column + length free)
     × Spells bytes first.token following
-    × AreTokensFrom (column + length free + length bytes) following others
+    × AreTokensBefore (column + length free + length bytes) following others at rest
 
+-- the text is these tokens
 abbrev pub AreTokens : List ℕ → List Placed → Type 0
-AreTokens text tokens = AreTokensFrom 1 text tokens
+AreTokens text tokens = (end : ℕ) × AreTokensBefore 1 text tokens end []
+
+-- a token begins here
+abbrev pub BeginsToken : List ℕ → Type 0
+BeginsToken text =
+    (bytes : List ℕ) × (token : Token) × (following : List ℕ) × (text ≡ bytes ++ following) × Spells bytes token following
+
+-- up to this column the text is tokens, and no token begins there: a byte that begins none, or a quote that is not closed
+abbrev pub IsBadToken : List ℕ → ℕ → Type 0
+IsBadToken text column =
+    (tokens : List Placed) × (rest : List ℕ) × AreTokensBefore 1 text tokens column rest
+    × (rest ≢ []) × (BeginsToken rest → ⊥)

@@ -15,6 +15,10 @@ pub enum Leaf {
     Any,
     /// `.^`: matches any item, and writes it or something above it.
     AnyClimb,
+    /// `!w`: matches what is neither w nor below it, and writes the item matched.
+    Not(Item),
+    /// `!w=`: matches all items but w, and writes the item matched.
+    NotExact(Item),
 }
 
 /// A pattern expression.

@@ -1,19 +1,47 @@
 //! Laws over the definitions. Each is the contract of a function that does nothing.
 
 ghost use Rattle.std.specs.Prelude.{◌≡◌, ℕ, List};
-ghost use Rattle.mine_model.specs.declared.item.Item.{Item};
-ghost use Rattle.mine_model.specs.declared.row.Row.{Row};
-ghost use Rattle.mine_model.specs.Answer.{Data, IsAnswer};
+ghost use Rattle.mine_model.specs.Answer.{Data, NamedRow, IsAnswer};
 ghost use Rattle.mine_model.specs.Support.{HasSupport};
+ghost use Rattle.mine_model.specs.Expression.{Tree};
+ghost use Rattle.mine_model.specs.Tokens.{Placed, AreTokens};
+ghost use Rattle.mine_model.specs.Grammar.{Part, Use, Reads, ReadsAs};
+ghost use Rattle.mine_model.specs.Refusal.{IsExpressionRefusal};
+ghost use Rattle.mine_model.specs.declared.fault.Fault.{Fault};
 
 /// There is at most one answer.
 pub fn at_most_one_answer()
-    ensures { (data_of_run : Data) (first second : List Row) → IsAnswer data_of_run first → IsAnswer data_of_run second → first ≡ second }
+    ensures { (data_of_run : Data (List ℕ)) (first second : List NamedRow)
+        → IsAnswer data_of_run first → IsAnswer data_of_run second → first ≡ second }
 {}
 
 /// A pattern has at most one support.
 pub fn at_most_one_support()
-    ensures { (data_of_run : Data) (pattern : List Item) (m n : ℕ) →
-        HasSupport data_of_run.rows data_of_run.expression data_of_run.sequences pattern m →
-        HasSupport data_of_run.rows data_of_run.expression data_of_run.sequences pattern n → m ≡ n }
+    ensures { (data_of_run : Data (List ℕ)) (pattern : List (List ℕ)) (m n : ℕ)
+        → HasSupport data_of_run.links data_of_run.expression data_of_run.sequences pattern m
+        → HasSupport data_of_run.links data_of_run.expression data_of_run.sequences pattern n → m ≡ n }
+{}
+
+/// Tokens read as at most one tree.
+pub fn at_most_one_tree()
+    ensures { (part : Part) (tokens : List Placed) (first second : Tree Use)
+        → Reads part tokens first → Reads part tokens second → first ≡ second }
+{}
+
+/// A text is at most one list of tokens.
+pub fn at_most_one_list_of_tokens()
+    ensures { (text : List ℕ) (first second : List Placed)
+        → AreTokens text first → AreTokens text second → first ≡ second }
+{}
+
+/// A text reads as at most one tree.
+pub fn at_most_one_reading()
+    ensures { (text : List ℕ) (first second : Tree Use)
+        → ReadsAs text first → ReadsAs text second → first ≡ second }
+{}
+
+/// An expression has at most one first refusal.
+pub fn at_most_one_expression_refusal()
+    ensures { (text : List ℕ) (first second : Fault)
+        → IsExpressionRefusal text first → IsExpressionRefusal text second → first ≡ second }
 {}

@@ -2,20 +2,39 @@
 //! every contract of the workspace cites. `docs/DEFINITIONS.md` leads through them.
 #![tactic(auto)]
 
+mod cover_laws;
+mod database;
 mod expression;
 mod fault;
 mod gate;
+mod hierarchy;
+mod hierarchy_fault;
 mod item;
+mod label;
 mod laws;
 mod memory;
 mod names_fault;
+mod patex_fault;
 mod row;
+mod sequence_fault;
+mod write_fault;
 
+pub use cover_laws::{at_most_one_cover, cover_is_the_tree, short_tree_has_a_cover};
+pub use database::Db;
 pub use expression::{Expr, Leaf};
 pub use fault::{Fault, Which};
 pub use gate::{Gate, OpenGate};
+pub use hierarchy::Hierarchy;
+pub use hierarchy_fault::{CloseFault, HierarchyFault};
 pub use item::{Item, Name, Pattern};
-pub use laws::{at_most_one_answer, at_most_one_support};
+pub use label::{Grown, Label};
+pub use laws::{
+    at_most_one_answer, at_most_one_expression_refusal, at_most_one_list_of_tokens,
+    at_most_one_reading, at_most_one_support, at_most_one_tree,
+};
 pub use memory::NoMemory;
 pub use names_fault::NamesFault;
+pub use patex_fault::PatexFault;
 pub use row::Row;
+pub use sequence_fault::SequenceFault;
+pub use write_fault::WriteFault;

@@ -3,10 +3,11 @@ use Rattle.std.proofs.Common.{◌≡◌, ◌≢◌, ℕ, suc, ◌+◌, ◌-◌, 
 use Rattle.std.proofs.lemmas.Bool.{lt-ltb, le-ltb}
 use mathlib.Core.Logic.{dite}
 use native.Mathlib.Decide.{dec_le, ℕ_discrete}
-use Rattle.node_pool.specs.Reaches.{Deque, share}
+use Rattle.node_pool.specs.Deques.{Deque}
+use Rattle.node_pool.specs.Ways.{share}
 use Rattle.std.proofs.lemmas.Option.{slice_get_within}
 use Rattle.crossbeam_deque.specs.Handles.{worker_view, worker_deque}
-use Rattle.node_pool.specs.declared.reach.Reach.{Reach}
+use Rattle.node_pool.specs.declared.way.Way.{Way}
 use Rattle.node_pool.specs.Rule.{hand}
 use Rattle.node_pool.specs.Opening.{kept, Owner, AreFresh, AreRows}
 use Rattle.std.specs.declared.vec.Vec.{Vec}
@@ -54,59 +55,59 @@ kept_some seats k few within = dite (dec_le (suc k) seats)
     (λ no. let after : seats < suc k = lt_of_not-le no in let from : seats ≤ k = omega arith in let b = kept_from seats k from in omega arith)
 
 module _ {T G : Type 0} where
-  pub fresh_snoc : (home : Option G) (owners : List (Owner T G)) (o : Owner T G) → AreFresh home 0 owners → worker_view o ≡ hand 64 [] [] home → AreFresh home 0 (owners ++ o ∷ [])
-  fresh_snoc home owners o old new = everywhere_snoc (λ k (o : Owner T G). worker_view o ≡ hand (kept 0 k) [] [] home) owners o old (new ∙ ap (λ n. hand n [] [] home) (sym (kept_none (length owners))))
+  pub fresh_snoc : (known_ground : Option G) (owners : List (Owner T G)) (o : Owner T G) → AreFresh known_ground 0 owners → worker_view o ≡ hand 64 [] [] known_ground → AreFresh known_ground 0 (owners ++ o ∷ [])
+  fresh_snoc known_ground owners o old new = everywhere_snoc (λ k (o : Owner T G). worker_view o ≡ hand (kept 0 k) [] [] known_ground) owners o old (new ∙ ap (λ n. hand n [] [] known_ground) (sym (kept_none (length owners))))
 
   -- the owners below k gave the seat of this number its part
   abbrev pub Partly : Option G → ℕ → ℕ → List (Owner T G) → Type 0
-  Partly home number k owners = Everywhere (λ j (o : Owner T G). (j < k → worker_view o ≡ hand (kept (number + 1) j) [] [] home) × (k ≤ j → worker_view o ≡ hand (kept number j) [] [] home)) owners
+  Partly known_ground number k owners = Everywhere (λ j (o : Owner T G). (j < k → worker_view o ≡ hand (kept (number + 1) j) [] [] known_ground) × (k ≤ j → worker_view o ≡ hand (kept number j) [] [] known_ground)) owners
 
-  pub partly_none : (home : Option G) (number : ℕ) (owners : List (Owner T G)) → AreFresh home number owners → Partly home number 0 owners
-  partly_none home number owners all j o e = ((λ no. absurd (omega arith)), λ _. all j o e)
+  pub partly_none : (known_ground : Option G) (number : ℕ) (owners : List (Owner T G)) → AreFresh known_ground number owners → Partly known_ground number 0 owners
+  partly_none known_ground number owners all j o e = ((λ no. absurd (omega arith)), λ _. all j o e)
 
-  pub partly_all : (home : Option G) (number k : ℕ) (owners : List (Owner T G)) → length owners ≤ k → Partly home number k owners → AreFresh home (number + 1) owners
-  partly_all home number k owners end all j o e = let within = slice_get_within owners j o e in (all j o e).0 (omega arith)
+  pub partly_all : (known_ground : Option G) (number k : ℕ) (owners : List (Owner T G)) → length owners ≤ k → Partly known_ground number k owners → AreFresh known_ground (number + 1) owners
+  partly_all known_ground number k owners end all j o e = let within = slice_get_within owners j o e in (all j o e).0 (omega arith)
 
-  pub partly_next : (home : Option G) (number k : ℕ) (owners : List (Owner T G)) (o p : Owner T G) → number < 64 → slice_get owners k ≡ Some o → Partly home number k owners
-      → worker_view p ≡ hand ((worker_view o).parts - share number k) (worker_view o).given (worker_view o).got (worker_view o).home → Partly home number (k + 1) (set owners k p)
-  partly_next home number k owners o p few at all new =
-      let was : worker_view o ≡ hand (kept number k) [] [] home = (all k o at).1 (omega arith) in
-      let is : worker_view p ≡ hand (kept number k - share number k) [] [] home = new ∙ ap (λ v. hand (v.parts - share number k) v.given v.got v.home) was in
+  pub partly_next : (known_ground : Option G) (number k : ℕ) (owners : List (Owner T G)) (o p : Owner T G) → number < 64 → slice_get owners k ≡ Some o → Partly known_ground number k owners
+      → worker_view p ≡ hand ((worker_view o).parts - share number k) (worker_view o).given (worker_view o).got (worker_view o).known_ground → Partly known_ground number (k + 1) (set owners k p)
+  partly_next known_ground number k owners o p few at all new =
+      let was : worker_view o ≡ hand (kept number k) [] [] known_ground = (all k o at).1 (omega arith) in
+      let is : worker_view p ≡ hand (kept number k - share number k) [] [] known_ground = new ∙ ap (λ v. hand (v.parts - share number k) v.given v.got v.known_ground) was in
       everywhere_set
-      (λ j (o : Owner T G). (j < k → worker_view o ≡ hand (kept (number + 1) j) [] [] home) × (k ≤ j → worker_view o ≡ hand (kept number j) [] [] home))
-      (λ j (o : Owner T G). (j < k + 1 → worker_view o ≡ hand (kept (number + 1) j) [] [] home) × (k + 1 ≤ j → worker_view o ≡ hand (kept number j) [] [] home))
+      (λ j (o : Owner T G). (j < k → worker_view o ≡ hand (kept (number + 1) j) [] [] known_ground) × (k ≤ j → worker_view o ≡ hand (kept number j) [] [] known_ground))
+      (λ j (o : Owner T G). (j < k + 1 → worker_view o ≡ hand (kept (number + 1) j) [] [] known_ground) × (k + 1 ≤ j → worker_view o ≡ hand (kept number j) [] [] known_ground))
       owners k p all
-      ((λ _. is ∙ ap (λ n. hand n [] [] home) (sym (kept_next number k few))), λ no. absurd (omega arith))
+      ((λ _. is ∙ ap (λ n. hand n [] [] known_ground) (sym (kept_next number k few))), λ no. absurd (omega arith))
       (λ j u other old. ((λ below. old.0 (omega arith)), λ from. old.1 (omega arith)))
 
-  pub partly_room : (home : Option G) (number k : ℕ) (owners : List (Owner T G)) (o : Owner T G) → number < 64 → length owners ≤ 64 → slice_get owners k ≡ Some o → Partly home number k owners → share number k < (worker_view o).parts
-  partly_room home number k owners o few size at all =
+  pub partly_room : (known_ground : Option G) (number k : ℕ) (owners : List (Owner T G)) (o : Owner T G) → number < 64 → length owners ≤ 64 → slice_get owners k ≡ Some o → Partly known_ground number k owners → share number k < (worker_view o).parts
+  partly_room known_ground number k owners o few size at all =
       let within = slice_get_within owners k o at in
       let is : (worker_view o).parts ≡ kept number k = ap (λ v. v.parts) ((all k o at).1 (omega arith)) in
       let room = kept_room number k few (omega arith) in omega arith
 
-  pub partly_home : (home : Option G) (number k : ℕ) (owners : List (Owner T G)) (o : Owner T G) → slice_get owners k ≡ Some o → Partly home number k owners → (worker_view o).home ≡ home
-  partly_home home number k owners o at all = ap (λ v. v.home) ((all k o at).1 (omega arith))
+  pub partly_ground : (known_ground : Option G) (number k : ℕ) (owners : List (Owner T G)) (o : Owner T G) → slice_get owners k ≡ Some o → Partly known_ground number k owners → (worker_view o).known_ground ≡ known_ground
+  partly_ground known_ground number k owners o at all = ap (λ v. v.known_ground) ((all k o at).1 (omega arith))
 
   -- the deques stay
   pub same_deques : (k : ℕ) (owners : List (Owner T G)) (o p : Owner T G) → slice_get owners k ≡ Some o → worker_deque p ≡ worker_deque o → map (λ (w : Owner T G). worker_deque w) (set owners k p) ≡ map (λ (w : Owner T G). worker_deque w) owners
   same_deques k owners o p at same = map_kept (λ (w : Owner T G). worker_deque w) owners k o p at same
 
   -- the ground that the first of these deques has
-  abbrev pub first_home : List (Owner T G) → Option G
-  first_home [] = None
-  first_home (o ∷ os) = (worker_view o).home
+  abbrev pub first_ground : List (Owner T G) → Option G
+  first_ground [] = None
+  first_ground (o ∷ os) = (worker_view o).known_ground
 
-  pub first_fresh : (home : Option G) (seats : ℕ) (owners : List (Owner T G)) → AreFresh home seats owners → AreFresh (first_home owners) seats owners
-  first_fresh home seats [] all k o e = absurd (cc)
-  first_fresh home seats (x ∷ xs) all k o e = subst (λ (h : Option G). AreFresh h seats (x ∷ xs)) (sym (ap (λ v. v.home) (all 0 x refl))) all k o e
+  pub first_fresh : (known_ground : Option G) (seats : ℕ) (owners : List (Owner T G)) → AreFresh known_ground seats owners → AreFresh (first_ground owners) seats owners
+  first_fresh known_ground seats [] all k o e = absurd (cc)
+  first_fresh known_ground seats (x ∷ xs) all k o e = subst (λ (h : Option G). AreFresh h seats (x ∷ xs)) (sym (ap (λ v. v.known_ground) (all 0 x refl))) all k o e
 
-  pub first_home_is : (home : Option G) (seats : ℕ) (owners : List (Owner T G)) → 0 < length owners → AreFresh home seats owners → first_home owners ≡ home
-  first_home_is home seats [] some all = absurd (omega arith)
-  first_home_is home seats (x ∷ xs) some all = ap (λ v. v.home) (all 0 x refl)
+  pub first_ground_is : (known_ground : Option G) (seats : ℕ) (owners : List (Owner T G)) → 0 < length owners → AreFresh known_ground seats owners → first_ground owners ≡ known_ground
+  first_ground_is known_ground seats [] some all = absurd (omega arith)
+  first_ground_is known_ground seats (x ∷ xs) some all = ap (λ v. v.known_ground) (all 0 x refl)
 
   pub fresh_for : (h i : Option G) (n m : ℕ) (owners : List (Owner T G)) → h ≡ i → n ≡ m → AreFresh h n owners → AreFresh i m owners
   fresh_for h i n m owners e f all = subst (λ (p : Option G × ℕ). AreFresh p.0 p.1 owners) (λ j. (e j, f j)) all
 
-  pub rows_for : (h i : Option G) (d e : List Deque) (n m : ℕ) (rows : List (Vec (Reach T G) Global)) → h ≡ i → d ≡ e → n ≡ m → AreRows h d n rows → AreRows i e m rows
+  pub rows_for : (h i : Option G) (d e : List Deque) (n m : ℕ) (rows : List (Vec (Way T G) Global)) → h ≡ i → d ≡ e → n ≡ m → AreRows h d n rows → AreRows i e m rows
   rows_for h i d e n m rows p q r all = subst (λ (t : Option G × List Deque × ℕ). AreRows t.0 t.1 t.2 rows) (λ j. (p j, q j, r j)) all

@@ -2,8 +2,9 @@
 use Rattle.std.proofs.Common.{◌≡◌, List, Option, Result, Ok, Err, IfOk, All, ◌∙◌, get_or, length}
 use Rattle.std.proofs.lemmas.Option.{slice_get-get_or}
 use Rattle.node_pool.specs.declared.seat.Seat.{Seat}
-use Rattle.node_pool.specs.Reaches.{Deque}
-use Rattle.node_pool.specs.Pool.{home_of, IsFresh, IsWholePool, AreSeats}
+use Rattle.node_pool.specs.Deques.{Deque}
+use Rattle.node_pool.specs.Pool.{seat_ground, IsFresh, IsWholePool}
+use Rattle.node_pool.specs.Opening.{AreSeats}
 
 -- what follows of the value in an Ok
 pub ok_then : {X E : Type 0} (r : Result X E) (P Q : X → Type 0) → ((x : X) → P x → Q x) → IfOk r P → IfOk r Q
@@ -14,12 +15,12 @@ pub ok_both : {X E : Type 0} (r : Result X E) (P Q : X → Type 0) → IfOk r P 
 ok_both (Ok x) P Q p q = (p, q)
 ok_both (Err e) P Q p q = p
 
-module _ {T G : Type 0} (home : Option G) (deques : List Deque) (seats : List (Seat T G)) where
-  pub whole_pool : length deques ≡ length seats → AreSeats home deques seats → IsWholePool seats
-  whole_pool size all = (deques, home, size, λ k s e. let a = all k s e in (a.0, a.1, a.2))
+module _ {T G : Type 0} (known_ground : Option G) (deques : List Deque) (seats : List (Seat T G)) where
+  pub whole_pool : length deques ≡ length seats → AreSeats known_ground deques seats → IsWholePool seats
+  whole_pool size all = (deques, known_ground, size, λ k s e. let a = all k s e in (a.0, a.1, a.2))
 
-  pub all_fresh : AreSeats home deques seats → All IsFresh seats
+  pub all_fresh : AreSeats known_ground deques seats → All IsFresh seats
   all_fresh all k d within = (all k (get_or seats k d) (slice_get-get_or seats k d within)).3
 
-  pub all_home : (h : Option G) → home ≡ h → AreSeats home deques seats → All (λ s. home_of s ≡ h) seats
-  all_home h is all k d within = (all k (get_or seats k d) (slice_get-get_or seats k d within)).2 ∙ is
+  pub all_ground : (h : Option G) → known_ground ≡ h → AreSeats known_ground deques seats → All (λ s. seat_ground s ≡ h) seats
+  all_ground h is all k d within = (all k (get_or seats k d) (slice_get-get_or seats k d within)).2 ∙ is

@@ -1,6 +1,9 @@
+-- the words of the promise
+pub mod Deques
+pub mod Pool
+-- what the proofs keep
 pub mod Rule
-pub mod Reaches
+pub mod Ways
 pub mod Opening
 pub mod Closing
-pub mod Pool
 pub mod Trial

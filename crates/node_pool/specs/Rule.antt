@@ -1,29 +1,63 @@
 -- The rule of one deque: what its owner put is what its passes took or stole and what it holds.
-use Rattle.std.specs.Prelude.{◌≡◌, ℕ, ◌+◌, ◌<◌, ◌≤◌, List, [], ◌++◌, Option, Some, All, length, map, sum_by}
+use Rattle.std.specs.Prelude.{◌≡◌, ℕ, ◌+◌, ◌-◌, ◌<◌, ◌≤◌, Option, Some}
+use Rattle.std.specs.Prelude.{List, [], ◌++◌, All, length, map, sum_by}
 use Rattle.node_pool.specs.declared.rule.Hand.{Hand}
 use mathlib.Core.Option.{some}
 use lib.ListN.{get_elem?}
 
 abbrev pub hand : {G : Type 0} → ℕ → List (List ℕ) → List (List ℕ) → Option G → Hand G
-hand parts given got home = record { parts = parts; given = given; got = got; home = home }
+hand parts given got known_ground =
+    record { parts = parts; given = given; got = got; known_ground = known_ground }
 
--- A pass with some part of the deque knows its ground. A pass with no part has put and taken nothing
+-- nothing was put or taken with the pass
+abbrev pub fresh_hand : {G : Type 0} → ℕ → Option G → Hand G
+fresh_hand parts known_ground = hand parts [] [] known_ground
+
+-- the pass gave up so many parts
+abbrev pub without_parts : {G : Type 0} → Hand G → ℕ → Hand G
+without_parts v parts = hand (v.parts - parts) v.given v.got v.known_ground
+
+-- these labels were got with the pass, too
+abbrev pub with_labels : {G : Type 0} → Hand G → List (List ℕ) → Hand G
+with_labels v labels = hand v.parts v.given (v.got ++ labels) v.known_ground
+
+-- the pass took another back, with what was got by it
+abbrev pub with_back : {G : Type 0} → Hand G → Hand G → Hand G
+with_back v w = hand (v.parts + w.parts) v.given (v.got ++ w.got) v.known_ground
+
+-- a pass with some part of the deque knows its ground; a pass with no part has put and taken nothing
 abbrev pub Fits : {G : Type 0} → Option G → Hand G → Type 0
-Fits home v = (0 < v.parts → v.home ≡ home) × (v.parts ≡ 0 → (v.given ≡ []) × (v.got ≡ []))
+Fits known_ground v =
+    (0 < v.parts → v.known_ground ≡ known_ground) × (v.parts ≡ 0 → (v.given ≡ []) × (v.got ≡ []))
 
--- There is one ground, which each task has. The parts are 64 in all, and however labels are weighed,
+-- what the labels of the tasks weigh
+abbrev pub task_weight : {T : Type 0} → (T → List ℕ) → (List ℕ → ℕ) → List T → ℕ
+task_weight label weight tasks = sum_by (λ t. weight (label t)) tasks
+
+-- each task has this ground
+abbrev pub HaveGround : {T G : Type 0} → (T → G) → Option G → List T → Type 0
+HaveGround ground_of known_ground tasks = All (λ t. Some (ground_of t) ≡ known_ground) tasks
+
 -- what the passes put weighs as much as what they took and what the deque holds
-abbrev pub Balanced : {T G : Type 0} → (T → List ℕ) → (T → G) → List T → List (Hand G) → Type 0
-Balanced {T} {G} label belongs tasks views =
-    (home : Option G)
-    × (sum_by (λ v. v.parts) views ≡ 64)
-    × ((weight : List ℕ → ℕ) → sum_by (λ v. sum_by weight v.given) views ≡ sum_by (λ v. sum_by weight v.got) views + sum_by (λ t. weight (label t)) tasks)
-    × ((port : ℕ) (v : Hand G) → get_elem? views port ≡ some v → Fits home v)
-    × All (λ t. Some (belongs t) ≡ home) tasks
+abbrev pub Weighs : {T G : Type 0} → (T → List ℕ) → List T → List (Hand G) → (List ℕ → ℕ) → Type 0
+Weighs label tasks views weight =
+    sum_by (λ v. sum_by weight v.given) views
+    ≡ sum_by (λ v. sum_by weight v.got) views + task_weight label weight tasks
 
--- the tasks came out of the deque: they have its ground, and where the pass has all parts, no more were taken than were put
+-- there is one ground, which each task has; the parts are 64 in all; and the deque is in balance, however
+-- labels are weighed
+abbrev pub Balanced : {T G : Type 0} → (T → List ℕ) → (T → G) → List T → List (Hand G) → Type 0
+Balanced {T} {G} label ground_of tasks views =
+    (known_ground : Option G)
+    × (sum_by (λ v. v.parts) views ≡ 64)
+    × ((weight : List ℕ → ℕ) → Weighs label tasks views weight)
+    × ((port : ℕ) (v : Hand G) → get_elem? views port ≡ some v → Fits known_ground v)
+    × HaveGround ground_of known_ground tasks
+
+-- the tasks came out of the deque: they have its ground, and where the pass has all parts, no more were taken
+-- than were put
 abbrev pub Got : {T G : Type 0} → (T → List ℕ) → (T → G) → Hand G → List T → Hand G → Type 0
-Got label belongs v tasks w =
-    (w ≡ hand v.parts v.given (v.got ++ map label tasks) v.home)
-    × All (λ t. Some (belongs t) ≡ v.home) tasks
+Got label ground_of v tasks w =
+    (w ≡ with_labels v (map label tasks))
+    × HaveGround ground_of v.known_ground tasks
     × (v.parts ≡ 64 → length w.got ≤ length w.given)

@@ -3,13 +3,13 @@
 
 mod closing;
 mod play;
-mod reach;
 mod rule;
 mod seat;
 mod setup;
 mod task;
 #[cfg(test)]
 mod tests;
+mod way;
 
 pub use closing::finish;
 pub use seat::Seat;

@@ -17,21 +17,21 @@ pub struct Hand<G> {
     /// The labels that were taken or stolen with it.
     pub got: LinkedList<LinkedList<u64>>,
     /// The ground of the deque's tasks, once it is known.
-    pub home: Option<G>,
+    pub known_ground: Option<G>,
 }
 
 /// What was put into a deque is what was taken out of it and what it holds.
 pub struct Balance;
 
 impl<T: Task> Protocol<T, Hand<T::Ground>> for Balance {
-    ghost use Rattle.std.specs.Prelude.{[], None};
-    ghost use Rattle.node_pool.specs.Rule.{Balanced, hand};
+    ghost use Rattle.std.specs.Prelude.{None};
+    ghost use Rattle.node_pool.specs.Rule.{Balanced, fresh_hand};
 
     ghost holds = { Balanced T.label_of T.ground_of };
 
-    ghost first = { hand 64 [] [] None };
+    ghost first = { fresh_hand 64 None };
 
-    ghost guest = { hand 0 [] [] None };
+    ghost guest = { fresh_hand 0 None };
 }
 
 /// A deque's end for its owner.
@@ -45,11 +45,11 @@ pub type Right<T> = Pass<T, Hand<<T as Task>::Ground>>;
 
 /// A ground for the proofs alone. A call at `Brand` picks it.
 pub trait Grounded<G> {
-    ghost base: { Option G };
+    ghost known_ground: { Option G };
 }
 
 impl<G> Grounded<G> for Brand {
-    ghost base = { None };
+    ghost known_ground = { None };
 }
 
 /// The first split, which fixes the ground of a deque that holds nothing.
@@ -58,48 +58,46 @@ pub struct Founds<K> {
 }
 
 impl<G, K: Grounded<G>> Split<Hand<G>> for Founds<K> {
-    ghost use Rattle.std.specs.Prelude.{[], None};
-    ghost use Rattle.node_pool.specs.Rule.{hand};
+    ghost use Rattle.std.specs.Prelude.{None};
+    ghost use Rattle.node_pool.specs.Rule.{hand, fresh_hand};
 
-    ghost left = { λ v. hand v.parts v.given v.got K.base };
+    ghost left = { λ v. hand v.parts v.given v.got K.known_ground };
 
-    ghost right = { λ v. hand 0 [] [] None };
+    ghost right = { λ v. fresh_hand 0 None };
 }
 
 /// A pass with no part.
 pub struct Spares;
 
 impl<G> Split<Hand<G>> for Spares {
-    ghost use Rattle.std.specs.Prelude.{[]};
-    ghost use Rattle.node_pool.specs.Rule.{hand};
+    ghost use Rattle.node_pool.specs.Rule.{fresh_hand};
 
     ghost left = { λ v. v };
 
-    ghost right = { λ v. hand 0 [] [] v.home };
+    ghost right = { λ v. fresh_hand 0 v.known_ground };
 }
 
 /// A pass with one part.
 pub struct Lends;
 
 impl<G> Split<Hand<G>> for Lends {
-    ghost use Rattle.std.specs.Prelude.{[], ◌-◌};
-    ghost use Rattle.node_pool.specs.Rule.{hand};
+    ghost use Rattle.node_pool.specs.Rule.{fresh_hand, without_parts};
 
-    ghost left = { λ v. hand (v.parts - 1) v.given v.got v.home };
+    ghost left = { λ v. without_parts v 1 };
 
-    ghost right = { λ v. hand 1 [] [] v.home };
+    ghost right = { λ v. fresh_hand 1 v.known_ground };
 }
 
 /// Takes back a pass with what was taken with it.
 pub struct Returns;
 
 impl<G> Join<Hand<G>> for Returns {
-    ghost use Rattle.std.specs.Prelude.{[], None, ◌+◌, ◌++◌};
-    ghost use Rattle.node_pool.specs.Rule.{hand};
+    ghost use Rattle.std.specs.Prelude.{None};
+    ghost use Rattle.node_pool.specs.Rule.{fresh_hand, with_back};
 
-    ghost both = { λ v w. hand (v.parts + w.parts) v.given (v.got ++ w.got) v.home };
+    ghost both = { with_back };
 
-    ghost spent = { hand 0 [] [] None };
+    ghost spent = { fresh_hand 0 None };
 }
 
 /// A task was put.
@@ -109,7 +107,7 @@ impl<T: Task> Outcome<T, Hand<T::Ground>> for Puts {
     ghost use Rattle.std.specs.Prelude.{◌≡◌, ◌++◌, map};
     ghost use Rattle.node_pool.specs.Rule.{hand};
 
-    ghost then = { λ v xs w. w ≡ hand v.parts (v.given ++ map T.label_of xs) v.got v.home };
+    ghost then = { λ v xs w. w ≡ hand v.parts (v.given ++ map T.label_of xs) v.got v.known_ground };
 }
 
 /// A task was stolen.
@@ -121,7 +119,8 @@ impl<T: Task> Outcome<T, Hand<T::Ground>> for Steals {
     ghost then = { Got T.label_of T.ground_of };
 }
 
-/// The owner took a task. Who has all parts learns that what was put is what was taken where the deque is empty.
+/// The owner took a task. Who has all parts learns that what was put is what was taken where the deque is
+/// empty.
 pub struct Takes;
 
 impl<T: Task> Outcome<T, Hand<T::Ground>> for Takes {

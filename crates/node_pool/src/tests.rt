@@ -1,5 +1,6 @@
-ghost use Rattle.std.specs.Prelude.{◌≡◌, ◌≢◌, ◌<◌, ◌≤◌, ℕ, [], ◌∷◌, All, IfOk, Some, length, slice_get, vec_len};
-ghost use Rattle.node_pool.specs.Pool.{home_of, IsWholePool, SameSeat};
+ghost use Rattle.std.specs.Prelude.{◌≡◌, ◌≢◌, ◌<◌, ◌≤◌, ◌+◌, ◌*◌, ℕ, [], ◌∷◌, All, IfOk, Some};
+ghost use Rattle.std.specs.Prelude.{length, slice_get, vec_len};
+ghost use Rattle.node_pool.specs.Pool.{seat_ground, IsWholePool, SameSeat};
 ghost use Rattle.node_pool.specs.Trial.{IsPool, SameSeats};
 
 use crate::{Seat, Task, finish, open};
@@ -55,8 +56,9 @@ fn steal(seats: &mut Pool, by: usize, from: u32) -> Option<u32>
     Some(seats[by].steal(from)?.label)
 }
 
-/// What the seats of a new pool answer: seat 0 puts the labels 1, 2 and so on, each other seat up to `thieves` steals from it once, and then seat 0
-/// takes so many times. The second list has the labels that are left, rising.
+/// What the seats of a new pool answer: seat 0 puts the labels 1, 2 and so on, each other seat up to
+/// `thieves` steals from it once, and then seat 0 takes so many times. The second list has the labels that
+/// are left, rising.
 fn play(
     alloc: Global,
     workers: u32,
@@ -102,6 +104,65 @@ fn the_newest_to_its_owner_and_the_oldest_to_a_thief(rt: HostRuntime) -> Result<
     Ok(())
 }
 
+/// Whether a seat gets nothing from an empty deque, then the one task that its owner puts, and then nothing.
+fn meet(seats: &mut Pool, by: u32, from: u32) -> bool
+    requires pool { IsPool tt seats.old.items }
+    requires within { (by < vec_len seats.old) × (from < vec_len seats.old) }
+    ensures pool { IsPool tt seats.new.items }
+    ensures count { vec_len seats.new ≡ vec_len seats.old }
+{
+    if from == by {
+        let early = take(seats, by as usize);
+        let accepted = put(seats, from as usize, from);
+        let taken = take(seats, by as usize);
+        let late = take(seats, by as usize);
+        return early.is_none() && accepted && taken == Some(from) && late.is_none();
+    }
+    let early = steal(seats, by as usize, from);
+    let accepted = put(seats, from as usize, from);
+    let stolen = steal(seats, by as usize, from);
+    let late = steal(seats, by as usize, from);
+    early.is_none() && accepted && stolen == Some(from) && late.is_none()
+}
+
+/// From how many deques of the pool the seat gets what they hold, and no more.
+fn meet_all(seats: &mut Pool, by: u32, workers: u32) -> u32
+    requires pool { IsPool tt seats.old.items }
+    requires within { (by < workers) × (workers ≡ vec_len seats.old) }
+    ensures pool { IsPool tt seats.new.items }
+    ensures count { vec_len seats.new ≡ vec_len seats.old }
+    ensures few { result ≤ workers }
+{
+    let mut met = 0;
+    'deques: for from in 0..workers {
+        if meet(seats, by, from) {
+            met += 1;
+        }
+    }
+    met
+}
+
+/// How many pairs of a seat and a deque meet in a new pool of so many seats.
+fn meetings(alloc: Global, workers: u32) -> Result<u32, NoMemory>
+    requires { (1 ≤ workers) × (workers ≤ 64) }
+{
+    let mut seats = open::<Number>(alloc, workers, &())?;
+    let mut met = 0;
+    'seats: for by in 0..workers {
+        met += meet_all(&mut seats, by, workers);
+    }
+    Ok(met)
+}
+
+#[test]
+fn each_deque_answers_each_seat(rt: HostRuntime) -> Result<(), Fail> {
+    let alloc = rt.alloc();
+    assert_eq!(rt; meetings(alloc, 1)?, 1);
+    assert_eq!(rt; meetings(alloc, 3)?, 9);
+    assert_eq!(rt; meetings(alloc, 64)?, 4096);
+    Ok(())
+}
+
 const TASKS: u32 = 10_000;
 
 /// Counts one task that came out of the pool.
@@ -113,7 +174,7 @@ fn count(seen: &[AtomicU64], label: u32) {
 
 /// Puts this many tasks, from the label `first` on. One that does not fit is done at once.
 fn fill(seat: &mut Seat<Number>, seen: &[AtomicU64], first: u32)
-    requires ground { home_of seat.old ≡ Some tt }
+    requires ground { seat_ground seat.old ≡ Some tt }
     requires few { first ≤ TASKS }
     ensures { SameSeat seat.old seat.new }
 {
@@ -143,7 +204,7 @@ fn seek(seat: &mut Seat<Number>) -> Option<Number>
 
 /// One worker's shift. The first two workers put tasks.
 fn shift(seat: &mut Seat<Number>, seen: &[AtomicU64])
-    requires { home_of seat.old ≡ Some tt }
+    requires { seat_ground seat.old ≡ Some tt }
     ensures { SameSeat seat.old seat.new }
 {
     let number = seat.number();
@@ -159,7 +220,7 @@ fn shift(seat: &mut Seat<Number>, seen: &[AtomicU64])
 
 /// The shifts of all workers, each in a thread of its own.
 fn shifts<R: Threads + Sync>(rt: &R, seats: &mut [Seat<Number>], seen: &[AtomicU64])
-    requires { All (λ s. home_of s ≡ Some tt) seats.old }
+    requires { All (λ s. seat_ground s ≡ Some tt) seats.old }
     ensures { SameSeats seats.old seats.new }
 {
     thread::for_each_mut(rt, seats, 4, &|_, seat| shift(seat, seen));

@@ -1,4 +1,10 @@
-pub mod Narrow
+-- the words of the promise
 pub mod Parsing
-pub mod Pieces
+-- what the proofs keep
+pub mod Classes
+pub mod Repeats
 pub mod Scanning
+pub mod View
+pub mod Reading
+pub mod Checking
+pub mod Resolving

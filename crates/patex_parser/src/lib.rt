@@ -1,15 +1,21 @@
-//! Reads pattern expressions.
+//! Reads pattern expressions. `docs/DEFINITIONS.md` leads through the grammar.
 #![tactic(auto)]
 
+mod bounds;
 mod bytes;
+mod checks;
+mod lexeme;
+mod machine;
 mod parsed;
-mod piece;
-mod pieces;
+mod parser;
+mod reading;
+mod resolving;
 mod scan;
 mod token;
 
 pub use parsed::{NameUse, Parsed};
-pub use pieces::narrow;
+pub use parser::parse;
+pub use resolving::resolve;
 
 #[cfg(test)]
 mod tests;

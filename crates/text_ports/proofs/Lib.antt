@@ -1,1 +1,7 @@
 pub mod Places
+pub mod Written
+pub mod Told
+pub mod LineLemmas
+pub mod FieldLemmas
+pub mod ScanLemmas
+pub mod VisitLemmas

@@ -1,6 +1,6 @@
 -- Files that are held in memory.
 use Rattle.std.specs.Prelude.{ℕ, List, [], Option, option_map, option_and_then, unwrap_or, find, bytes_eq, slice_get}
-use Rattle.text_ports.specs.declared.mem_files.MemFile.{MemFile}
+use Rattle.text_ports.specs.declared.held.MemFile.{MemFile}
 
 -- The bytes of the first file of this name, or None where there is none.
 unfoldable pub bytes_of : List MemFile → List ℕ → Option (List ℕ)

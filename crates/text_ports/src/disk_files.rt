@@ -107,10 +107,11 @@ fn read_some<S: Read>(source: &mut S, buffer: &mut [u8]) -> Result<usize, Failed
 
 #[cfg(test)]
 mod tests {
-    use super::DiskFiles;
+    use super::{DiskFiles, read_some};
     use crate::files::{Failed, Files};
-    use std::fs;
+    use std::io::{ErrorKind, Read};
     use std::test::Fail;
+    use std::{fs, io};
 
     #[test]
     fn reads_the_disk(rt: HostRuntime) -> Result<(), Fail> {
@@ -123,6 +124,8 @@ mod tests {
         assert_eq!(rt; files.read(&mut buffer), Ok(8));
         assert_eq!(rt; &buffer[..8], b"b 1\nc 2\n".as_slice());
         assert_eq!(rt; files.read(&mut buffer), Ok(0));
+        assert_eq!(rt; files.open("ports_rows.txt"), Ok(()));
+        assert_eq!(rt; files.read(&mut buffer[..1]), Ok(1));
         assert_eq!(rt; files.open("ports_absent.txt"), Err(Failed));
         assert_eq!(rt; files.read(&mut buffer), Ok(0));
         let opened = files.open("ports_folder");
@@ -130,6 +133,44 @@ mod tests {
         assert_eq!(rt; files.open("-"), Ok(()));
         fs::remove_file(&rt, "ports_rows.txt")?;
         fs::remove_dir(&rt, "ports_folder")?;
+        Ok(())
+    }
+
+    #[test]
+    fn one_read_gives_all_that_the_buffer_takes(rt: HostRuntime) -> Result<(), Fail> {
+        fs::write(&rt, "ports_long.txt", [b'x'; 5000].as_slice())?;
+        let mut files = DiskFiles::new(&rt);
+        assert_eq!(rt; files.open("ports_long.txt"), Ok(()));
+        assert_eq!(rt; files.read(&mut [0u8; 4096]), Ok(4096));
+        assert_eq!(rt; files.read(&mut [0u8; 4096]), Ok(904));
+        assert_eq!(rt; files.read(&mut [0u8; 4096]), Ok(0));
+        fs::remove_file(&rt, "ports_long.txt")?;
+        Ok(())
+    }
+
+    /// Is interrupted so many times, and then gives a byte.
+    #[derive(Drop)]
+    struct Interrupted {
+        left: u32,
+    }
+
+    impl Read for Interrupted {
+        fn read(&mut self, buf: &mut [u8]) -> io::Result<usize> {
+            if self.left > 0 {
+                self.left -= 1;
+                return Err(io::Error::from(ErrorKind::Interrupted));
+            }
+            Ok(buf.len().min(1))
+        }
+    }
+
+    #[test]
+    fn an_interrupted_read_is_made_again(rt: HostRuntime) -> Result<(), Fail> {
+        let mut buffer = [0u8; 4];
+        let mut source = Interrupted { left: 63 };
+        assert_eq!(rt; read_some(&mut source, &mut buffer), Ok(1));
+        let mut source = Interrupted { left: 64 };
+        assert_eq!(rt; read_some(&mut source, &mut buffer), Err(Failed));
         Ok(())
     }
 }

@@ -19,7 +19,7 @@ pub trait Files {
     /// How many calls have failed.
     ghost faults: { Self → ℕ };
 
-    /// Opens the file of this name, to be read from its start. What was open before is closed.
+    /// Opens the file of this name, to be read from its start. What was open before is closed, also on a failure.
     fn open(&mut self, name: &str) -> Result<(), Failed>
         requires { IsTrue (may self.old name.now) }
         ensures same_names { may self.new ≡ may self.old }
@@ -27,6 +27,7 @@ pub trait Files {
         ensures opened { OnOk result (left self.new ≡ holds self.old name.now) }
         ensures passed { OnOk result (faults self.new ≡ faults self.old) }
         ensures failed { OnErr result (Rose (faults self.old) (faults self.new)) }
+        ensures closed { OnErr result (IfSome (left self.new) (λ bytes. bytes ≡ [])) }
         ensures never_falls { faults self.old ≤ faults self.new };
 
     /// Reads the next bytes into the front of the buffer and answers how many they are. 0 is the file's end.
@@ -37,7 +38,8 @@ pub trait Files {
         ensures same_files { holds self.new ≡ holds self.old }
         ensures fits { IfOk result (λ n. n ≤ length buffer.new) }
         ensures next { IfOk result (λ n. IfSome (left self.old) (λ bytes. take n buffer.new ≡ take n bytes)) }
-        ensures rest { IfOk result (λ n. IfSome (left self.old) (λ bytes. left self.new ≡ Some (drop n bytes))) }
+        ensures rest { IfOk result (λ n. IfSome (left self.old) (λ bytes.
+            left self.new ≡ Some (drop n bytes))) }
         ensures within { IfOk result (λ n. IfSome (left self.old) (λ bytes. n ≤ length bytes)) }
         ensures end { IfOk result (λ n. IfSome (left self.old) (λ bytes. (n ≡ 0) ↔ (bytes ≡ []))) }
         ensures passed { OnOk result (faults self.new ≡ faults self.old) }

@@ -4,14 +4,31 @@
 mod disk_files;
 mod faults;
 mod files;
+mod held;
+mod lines;
 mod mem_files;
 mod mem_sink;
+mod reading;
+mod scan;
 mod sink;
 mod std_sink;
+mod sure_files;
+mod sure_sink;
+mod visiting;
+mod writing;
 
 pub use disk_files::DiskFiles;
 pub use files::{Failed, Files};
-pub use mem_files::{MemFile, MemFiles};
+pub use held::MemFile;
+pub use lines::{LineVisitor, Span};
+pub use mem_files::MemFiles;
 pub use mem_sink::MemSink;
 pub use sink::Sink;
 pub use std_sink::StdSink;
+pub use sure_files::SureFiles;
+pub use sure_sink::SureSink;
+pub use visiting::{TextFault, read_lines};
+pub use writing::write_all;
+
+#[cfg(test)]
+mod tests;

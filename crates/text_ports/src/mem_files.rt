@@ -1,27 +1,17 @@
-ghost use Rattle.std.specs.Prelude.{◌≡◌, ℕ, ◌≤◌, ◌<◌, ◌↔◌, true, List, [], Option, Some, None, IfSome, IsTrue, length, take, drop, position, bytes_eq};
-ghost use Rattle.text_ports.specs.Memory.{bytes_of, bytes_at};
+ghost use Rattle.std.specs.Prelude.{◌≡◌, ℕ, ◌<◌, true, List, [], Some, IsTrue};
+ghost use Rattle.text_ports.specs.Memory.{bytes_of};
 
 use super::faults::Calls;
 use super::files::{Failed, Files};
+use super::held::{Held, MemFile};
 
-/// A file that is held in memory.
-#[derive(Debug, Drop)]
-pub struct MemFile {
-    pub name: Vec<u8>,
-    pub bytes: Vec<u8>,
-}
-
-/// Files that are held in memory and tell their bytes. They give short reads, and they fail where they are told to.
-/// A missing name is a fault. A call of `open` that fails leaves nothing to read, and one of `read` takes nothing.
+/// Files that are held in memory and tell their bytes. They give short reads, and they fail where they are told
+/// to. A missing name is a fault. A call of `open` that fails leaves nothing to read, and one of `read` takes
+/// nothing.
 #[derive(Drop)]
 pub struct MemFiles {
-    files: Vec<MemFile>,
-    cut: usize,
-    place: Option<usize>,
-    at: usize,
+    held: Held,
     calls: Calls,
-    ghost cut_takes: { 0 < cut },
-    ghost at_within: { at ≤ length (bytes_at files.items place) },
 }
 
 impl MemFiles {
@@ -35,83 +25,42 @@ impl MemFiles {
         ensures faults { ⟦<MemFiles as Files>⟧.faults result ≡ 0 }
     {
         MemFiles {
-            files,
-            cut,
-            place: None,
-            at: 0,
+            held: Held::new(files, cut),
             calls: Calls::new(fails),
         }
     }
 }
 
 impl Files for MemFiles {
+    ghost use Rattle.text_ports.specs.Held.{left_of};
+
     ghost may = { λ _ _. true };
 
-    ghost holds = { λ files. bytes_of files.files.items };
+    ghost holds = { λ files. bytes_of files.held.files.items };
 
-    ghost left = { λ files. Some (drop files.at (bytes_at files.files.items files.place)) };
+    ghost left = { λ files. Some (left_of files.held) };
 
     ghost faults = { λ files. files.calls.faults };
 
     fn open(&mut self, name: &str) -> Result<(), Failed> {
-        self.at = 0;
-        self.place = None;
+        self.held.close();
         self.calls.next()?;
-        self.place = place_of(self.files.as_slice(), name);
-        match self.place {
-            Some(_) => Ok(()),
-            None => Err(self.calls.fail()),
+        if self.held.open(name) {
+            return Ok(());
         }
+        Err(self.calls.fail())
     }
 
     fn read(&mut self, buffer: &mut [u8]) -> Result<usize, Failed> {
         self.calls.next()?;
-        let bytes = file_at(self.files.as_slice(), self.place);
-        let count = copy_some(&bytes[self.at..], self.cut, buffer);
-        self.at += count;
-        Ok(count)
+        Ok(self.held.read(buffer))
     }
-}
-
-/// The place of the first file of this name.
-fn place_of(files: &[MemFile], name: &str) -> Option<usize>
-    ensures { result ≡ position (λ file. bytes_eq file.name.items name.now) files.now }
-{
-    files
-        .iter()
-        .position(|file| file.name.as_slice() == name.as_bytes())
-}
-
-/// The bytes of the file at this place, and no byte where no file is open.
-fn file_at(files: &[MemFile], place: Option<usize>) -> &[u8]
-    ensures { result.now ≡ bytes_at files.now place }
-{
-    let Some(place) = place else {
-        return &[];
-    };
-    match files.get(place) {
-        Some(file) => file.bytes.as_slice(),
-        None => &[],
-    }
-}
-
-/// Copies from the front of `from` to the front of `to`, at most `cut` bytes, and answers how many they are.
-fn copy_some(from: &[u8], cut: usize, to: &mut [u8]) -> usize
-    requires cut_takes { 0 < cut }
-    requires room { 0 < length to.old }
-    ensures within { result ≤ length from.now }
-    ensures fits { result ≤ length to.new }
-    ensures copied { take result to.new ≡ take result from.now }
-    ensures end { (result ≡ 0) ↔ (from.now ≡ []) }
-{
-    let count = from.len().min(cut).min(to.len());
-    to[..count].copy_from_slice(&from[..count]);
-    count
 }
 
 #[cfg(test)]
 mod tests {
-    use super::{MemFile, MemFiles};
+    use super::MemFiles;
+    use crate::MemFile;
     use crate::files::{Failed, Files};
     use std::alloc::{AllocError, Global};
     use std::test::Fail;
@@ -159,7 +108,7 @@ mod tests {
     fn fails_where_it_is_told_to(rt: HostRuntime) -> Result<(), Fail> {
         let mut held = Vec::new(rt.alloc());
         held.push(named(rt.alloc(), "rows", "abc")?)?;
-        let mut files = MemFiles::new(held, vec![in rt.alloc(); 1, 4]?, 2);
+        let mut files = MemFiles::new(held, vec![in rt.alloc(); 1, 4, 9]?, 2);
         let mut buffer = [0u8; 4];
         assert_eq!(rt; files.open("rows"), Err(Failed));
         assert_eq!(rt; files.open("rows"), Ok(()));
@@ -168,6 +117,9 @@ mod tests {
         assert_eq!(rt; files.read(&mut buffer), Ok(1));
         assert_eq!(rt; buffer, [b'c', b'b', 0, 0]);
         assert_eq!(rt; files.open("absent"), Err(Failed));
+        assert_eq!(rt; files.read(&mut buffer), Ok(0));
+        assert_eq!(rt; files.open("rows"), Ok(()));
+        assert_eq!(rt; files.open("rows"), Err(Failed));
         assert_eq!(rt; files.read(&mut buffer), Ok(0));
         Ok(())
     }

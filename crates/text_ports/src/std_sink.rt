@@ -129,4 +129,32 @@ mod tests {
         assert_eq!(rt; StdSink::err(&rt).write(b"\n"), Ok(1));
         Ok(())
     }
+
+    /// Takes all that it is given, and can be flushed so many times.
+    #[derive(Drop)]
+    struct Wide {
+        flushes: u32,
+    }
+
+    impl Write for Wide {
+        fn write(&mut self, buf: &[u8]) -> io::Result<usize> {
+            Ok(buf.len())
+        }
+
+        fn flush(&mut self) -> io::Result<()> {
+            if self.flushes == 0 {
+                return Err(io::Error::from(ErrorKind::BrokenPipe));
+            }
+            self.flushes -= 1;
+            Ok(())
+        }
+    }
+
+    #[test]
+    fn hands_over_the_whole_piece_and_flushes(rt: HostRuntime) -> Result<(), Fail> {
+        let mut sink = StdSink::new(Wide { flushes: 1 });
+        assert_eq!(rt; sink.write(&[b'x'; 5000]), Ok(5000));
+        assert_eq!(rt; sink.write(b"x"), Err(Failed));
+        Ok(())
+    }
 }

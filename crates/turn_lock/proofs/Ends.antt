@@ -1,5 +1,5 @@
 -- A lock is made, its passes are dealt out and gathered again, and the lock is closed.
-use Rattle.std.proofs.Common.{◌≡◌, ◌≢◌, ℕ, zero, suc, ◌+◌, ◌-◌, ◌%◌, ◌^◌, ◌≤◌, ◌<◌, ◌⊎◌, inl, inr, ⊎_elim, List, [], ◌∷◌, ◌++◌, length, slice_set, set, sym, refl, ap, ◌∙◌, subst, arith, Some, None, length-append, append_assoc, All, Any, sum_by, get_or, lt_of_not-le}
+use Rattle.std.proofs.Common.{◌≡◌, ℕ, zero, suc, ◌+◌, ◌-◌, ◌≤◌, ◌<◌, ◌⊎◌, ⊎_elim, List, [], ◌∷◌, ◌++◌, length, set, sym, refl, ap, ◌∙◌, subst, arith, Some, None, length-append, append_assoc, All, Any, sum_by, get_or, lt_of_not-le}
 use Rattle.std.proofs.Common as std
 use mathlib.Core.Option.{Option, some, none, some-injective, some-ne-none}
 use mathlib.Core.Logic.{dite}
@@ -10,17 +10,18 @@ use Rattle.atomic_table.proofs.Lists.{at_set, at_snoc, set_else}
 use Rattle.turn_lock.specs.declared.hand.Hand.{Hand}
 use Rattle.turn_lock.specs.declared.hand.Stage.{Stage}
 use Rattle.turn_lock.specs.declared.hand.Stage.TheVariants.{Idle, Waiting, Turn}
-use Rattle.turn_lock.specs.History.{Made, entries_of}
-use Rattle.turn_lock.specs.Turns.{Part, times, total, tickets, tickets_of, numbers, numbers_of, out_with, absent, hand, blank, first_hand, fresh, AtHome, Fits, Turns, AllMade, InStage}
+use Rattle.turn_lock.specs.History.{Made, entries_of, Part}
+use Rattle.turn_lock.specs.Turns.{times, tickets, tickets_of, numbers, numbers_of, out_with, absent, hand, blank, first_hand, fresh, AtHome, Fits, Turns, AllMade, InStage}
 use Rattle.std.proofs.lemmas.Option.{slice_get_within, get_or_from_slice_get, slice_get-get_or}
-use Rattle.std.proofs.lemmas.List.Sums.{sum_by-cons}
+use Rattle.std.proofs.lemmas.List.Sums.{sum_by-cons, sum_by_push}
 use Rattle.std.proofs.lemmas.List.Elements.{All-push, All-nil, All-cons}
 use Rattle.std.proofs.lemmas.List.{map-append, get_or_append_left}
 use Rattle.std.proofs.Math.Seq.{get_or-append_seam}
 use Rattle.turn_lock.specs.declared.lock.Pass.{Pass}
 use Rattle.turn_lock.specs.Passes.{number, made, parts_of, AreFresh}
 use Rattle.turn_lock.specs.Plays.{Seated, first_part, other_parts}
-use Rattle.turn_lock.proofs.Totals.{total_set, total_push, total_at, total_le_beside, total_is}
+use Rattle.turn_lock.proofs.Sums.{sum_by_set, sum_by_at, sum_by_le_beside}
+use Rattle.turn_lock.proofs.Hands.{other_hands}
 use Rattle.turn_lock.proofs.Parts.{entries_hit, log_weighs, parts_weigh, entries_rest, not_empty, times_hit, times_miss, times_append, made_append, fresh_once, fresh_length, fresh_made, cut_times, cut_length, cut_others, cut_first}
 
 module _ {T : Type 0} where
@@ -36,25 +37,19 @@ module _ {T : Type 0} where
   gathered v w = hand v.start (w.parts ++ v.parts) v.stage
 
   -- a sum stays, where the two hands share what the one had
-  total_cut : (f : Hand T → ℕ) (l : List (Hand T)) (id : ℕ) (v : Hand T) → get_elem? l id ≡ some v → f (cut_left v) + f (cut_right v) ≡ f v
-      → total f (set l id (cut_left v) ++ cut_right v ∷ []) ≡ total f l
-  total_cut f l id v at shares = let p = total_set f l id v (cut_left v) at in let q = total_push f (set l id (cut_left v)) (cut_right v) in omega arith
+  sum_by_cut : (f : Hand T → ℕ) (l : List (Hand T)) (id : ℕ) (v : Hand T) → get_elem? l id ≡ some v → f (cut_left v) + f (cut_right v) ≡ f v
+      → sum_by f (set l id (cut_left v) ++ cut_right v ∷ []) ≡ sum_by f l
+  sum_by_cut f l id v at shares = let p = sum_by_set f l id v (cut_left v) at in let q = sum_by_push f (set l id (cut_left v)) (cut_right v) in omega arith
 
   -- a sum stays, where the one has what both had
-  total_join : (f : Hand T → ℕ) (l : List (Hand T)) (id other : ℕ) (v w : Hand T) → get_elem? l id ≡ some v → get_elem? (set l id (gathered v w)) other ≡ some w
-      → f (gathered v w) + f blank ≡ f v + f w → total f (set (set l id (gathered v w)) other blank) ≡ total f l
-  total_join f l id other v w at at' shares =
-      let p = total_set f l id v (gathered v w) at in let q = total_set f (set l id (gathered v w)) other w blank at' in omega arith
+  sum_by_join : (f : Hand T → ℕ) (l : List (Hand T)) (id other : ℕ) (v w : Hand T) → get_elem? l id ≡ some v → get_elem? (set l id (gathered v w)) other ≡ some w
+      → f (gathered v w) + f blank ≡ f v + f w → sum_by f (set (set l id (gathered v w)) other blank) ≡ sum_by f l
+  sum_by_join f l id other v w at at' shares =
+      let p = sum_by_set f l id v (gathered v w) at in let q = sum_by_set f (set l id (gathered v w)) other w blank at' in omega arith
 
 module _ {T G : Type 0} (history : T → List Made) (ground_at : T → G) (start : T) (count : ℕ) where
-  abbrev R : State T (Hand T) → Type 0
-  R = Turns history ground_at start count
-
-  abbrev F : ℕ → List Made → Hand T → Type 0
-  F = Fits history ground_at start
-
   -- a new lock
-  opens : history start ≡ [] → count < 4294967296 → R (opening (0 ∷ 0 ∷ []) (start ∷ []) (first_hand start count))
+  opens : history start ≡ [] → count < 4294967296 → Turns history ground_at start count (opening (0 ∷ 0 ∷ []) (start ∷ []) (first_hand start count))
   opens none_yet few = record {
     served = 0;
     flight = 0;
@@ -74,91 +69,64 @@ module _ {T G : Type 0} (history : T → List Made) (ground_at : T → G) (start
     hands = λ id v at. first_fits id v at;
   }
     where
-      first_fits : (id : ℕ) (v : Hand T) → get_elem? (first_hand start count ∷ []) id ≡ some v → F 0 [] v
-      first_fits zero v at = subst (F 0 []) (some-injective _ _ at) (record { knows = refl; made = fresh_made 0 count; stage = tt })
+      first_fits : (id : ℕ) (v : Hand T) → get_elem? (first_hand start count ∷ []) id ≡ some v → Fits history ground_at start 0 [] v
+      first_fits zero v at = subst (Fits history ground_at start 0 []) (some-injective _ _ at) (record { knows = refl; made = fresh_made 0 count; stage = tt })
       first_fits (suc id) v at = absurd (some-ne-none v (sym at))
 
-  pub opens_with : (items : List T) → items ≡ start ∷ [] → history start ≡ [] → count < 4294967296 → R (opening (0 ∷ 0 ∷ []) items (first_hand start count))
-  opens_with items one none_yet few = subst (λ l. R (opening (0 ∷ 0 ∷ []) l (first_hand start count))) (sym one) (opens none_yet few)
+  pub opens_with : (items : List T) → items ≡ start ∷ [] → history start ≡ [] → count < 4294967296 → Turns history ground_at start count (opening (0 ∷ 0 ∷ []) items (first_hand start count))
+  opens_with items one none_yet few = subst (λ l. Turns history ground_at start count (opening (0 ∷ 0 ∷ []) l (first_hand start count))) (sym one) (opens none_yet few)
 
   -- one pass gets a seat of its own
-  pub cuts : (id : ℕ) (v : Hand T) → v.stage ≡ Idle → Splits R id v (cut_left v) (cut_right v)
+  pub cuts : (id : ℕ) (v : Hand T) → v.stage ≡ Idle → Splits (Turns history ground_at start count) id v (cut_left v) (cut_right v)
   cuts id v idle s r at =
       let fits = r.hands id v at in
       let no_ticket : tickets v ≡ [] = ap tickets_of idle in
       let not_out : out_with v.stage ≡ 0 = ap out_with idle in
-      let out_same = total_cut (λ (u : Hand T). out_with u.stage) s.views id v at (omega arith) in
-      let busy_same = total_cut (λ (u : Hand T). length (tickets u)) s.views id v at (let z : length (tickets v) ≡ 0 = ap length no_ticket in omega arith) in
-      let tickets_same = λ (n : ℕ). total_cut (λ (u : Hand T). times n (tickets u)) s.views id v at (let z : times n (tickets v) ≡ 0 = ap (times n) no_ticket in omega arith) in
-      let parts_same = total_cut (λ (u : Hand T). length u.parts) s.views id v at (cut_length v.parts) in
-      let numbers_same = λ (x : ℕ). total_cut (λ (u : Hand T). times x (numbers u)) s.views id v at (cut_times x v.parts) in
       let rests : (parts : ℕ) → InStage r.served r.log parts v.stage = λ parts. subst (InStage r.served r.log parts) (sym idle) tt in
-      record {
-        served = r.served;
-        flight = r.flight;
-        log = r.log;
-        home = r.home;
-        few = r.few;
-        words = r.words;
-        slot = r.slot;
-        value = r.value;
-        gone = out_same ∙ r.gone;
-        busy = busy_same ∙ r.busy;
-        given = λ n low high. tickets_same n ∙ r.given n low high;
-        others = λ n away. tickets_same n ∙ r.others n away;
-        passes = parts_same ∙ r.passes;
-        once = λ x. (let p = numbers_same x in let q = r.once x in omega arith);
-        strangers = λ x away. r.strangers x (sym (numbers_same x) ∙ away);
-        hands = λ j u here. ⊎_elim
-            (λ there. ⊎_elim
-            (λ same. subst (F r.served r.log) same.1 (record { knows = fits.knows; made = cut_others r.log v.parts fits.made; stage = rests _ }))
-            (λ other. r.hands j u other.1)
-            (at_set s.views id j (cut_left v) u there))
-            (λ new. subst (F r.served r.log) new (record { knows = fits.knows; made = cut_first r.log v.parts fits.made; stage = rests _ }))
-            (at_snoc (set s.views id (cut_left v)) (cut_right v) u j here);
-      }
+      other_hands history ground_at start count s r (set s.views id (cut_left v) ++ cut_right v ∷ [])
+      (record {
+        out = sum_by_cut (λ (u : Hand T). out_with u.stage) s.views id v at (omega arith);
+        busy = sum_by_cut (λ (u : Hand T). length (tickets u)) s.views id v at (let z : length (tickets v) ≡ 0 = ap length no_ticket in omega arith);
+        ticket = λ n. sum_by_cut (λ (u : Hand T). times n (tickets u)) s.views id v at (let z : times n (tickets v) ≡ 0 = ap (times n) no_ticket in omega arith);
+        passes = sum_by_cut (λ (u : Hand T). length u.parts) s.views id v at (cut_length v.parts);
+        number = λ x. sum_by_cut (λ (u : Hand T). times x (numbers u)) s.views id v at (cut_times x v.parts);
+      })
+      (λ j u here. ⊎_elim
+      (λ there. ⊎_elim
+      (λ same. subst (Fits history ground_at start r.served r.log) same.1 (record { knows = fits.knows; made = cut_others r.log v.parts fits.made; stage = rests _ }))
+      (λ other. r.hands j u other.1)
+      (at_set s.views id j (cut_left v) u there))
+      (λ new. subst (Fits history ground_at start r.served r.log) new (record { knows = fits.knows; made = cut_first r.log v.parts fits.made; stage = rests _ }))
+      (at_snoc (set s.views id (cut_left v)) (cut_right v) u j here))
 
   -- a seat takes in the passes of another
-  pub joins : (id : ℕ) (v : Hand T) (other : ℕ) (w : Hand T) → v.stage ≡ Idle → w.stage ≡ Idle → Joins R id v other w (gathered v w) blank
+  pub joins : (id : ℕ) (v : Hand T) (other : ℕ) (w : Hand T) → v.stage ≡ Idle → w.stage ≡ Idle → Joins (Turns history ground_at start count) id v other w (gathered v w) blank
   joins id v other w idle idle' s r at ne at' =
       let fits = r.hands id v at in
       let fits' = r.hands other w (sym (set_else s.views id other (gathered v w) ne) ∙ at') in
       let no_ticket : tickets v ≡ [] = ap tickets_of idle in
       let no_ticket' : tickets w ≡ [] = ap tickets_of idle' in
       let not_out : out_with w.stage ≡ 0 = ap out_with idle' in
-      let out_same = total_join (λ (u : Hand T). out_with u.stage) s.views id other v w at at' (omega arith) in
-      let busy_same = total_join (λ (u : Hand T). length (tickets u)) s.views id other v w at at' (let z : length (tickets w) ≡ 0 = ap length no_ticket' in omega arith) in
-      let tickets_same = λ (n : ℕ). total_join (λ (u : Hand T). times n (tickets u)) s.views id other v w at at' (let z : times n (tickets w) ≡ 0 = ap (times n) no_ticket' in omega arith) in
-      let parts_same = total_join (λ (u : Hand T). length u.parts) s.views id other v w at at' (let e = length-append w.parts v.parts in omega arith) in
-      let numbers_same = λ (x : ℕ). total_join (λ (u : Hand T). times x (numbers u)) s.views id other v w at at' (let e = times_append x w.parts v.parts in omega arith) in
-      record {
-        served = r.served;
-        flight = r.flight;
-        log = r.log;
-        home = r.home;
-        few = r.few;
-        words = r.words;
-        slot = r.slot;
-        value = r.value;
-        gone = out_same ∙ r.gone;
-        busy = busy_same ∙ r.busy;
-        given = λ n low high. tickets_same n ∙ r.given n low high;
-        others = λ n away. tickets_same n ∙ r.others n away;
-        passes = parts_same ∙ r.passes;
-        once = λ x. (let p = numbers_same x in let q = r.once x in omega arith);
-        strangers = λ x away. r.strangers x (sym (numbers_same x) ∙ away);
-        hands = λ j u here. ⊎_elim
-            (λ same. subst (F r.served r.log) same.1 (record { knows = tt; made = tt; stage = tt }))
-            (λ there. ⊎_elim
-            (λ same. subst (F r.served r.log) same.1 (record {
-              knows = fits.knows;
-              made = made_append r.log w.parts v.parts fits'.made fits.made;
-              stage = subst (InStage r.served r.log (length (w.parts ++ v.parts))) (sym idle) tt;
-            }))
-            (λ beside. r.hands j u beside.1)
-            (at_set s.views id j (gathered v w) u there.1))
-            (at_set (set s.views id (gathered v w)) other j blank u here);
-      }
+      let parts_same = sum_by_join (λ (u : Hand T). length u.parts) s.views id other v w at at' (let e = length-append w.parts v.parts in omega arith) in
+      other_hands history ground_at start count s r (set (set s.views id (gathered v w)) other blank)
+      (record {
+        out = sum_by_join (λ (u : Hand T). out_with u.stage) s.views id other v w at at' (omega arith);
+        busy = sum_by_join (λ (u : Hand T). length (tickets u)) s.views id other v w at at' (let z : length (tickets w) ≡ 0 = ap length no_ticket' in omega arith);
+        ticket = λ n. sum_by_join (λ (u : Hand T). times n (tickets u)) s.views id other v w at at' (let z : times n (tickets w) ≡ 0 = ap (times n) no_ticket' in omega arith);
+        passes = parts_same;
+        number = λ x. sum_by_join (λ (u : Hand T). times x (numbers u)) s.views id other v w at at' (let e = times_append x w.parts v.parts in omega arith);
+      })
+      (λ j u here. ⊎_elim
+      (λ same. subst (Fits history ground_at start r.served r.log) same.1 (record { knows = tt; made = tt; stage = tt }))
+      (λ there. ⊎_elim
+      (λ same. subst (Fits history ground_at start r.served r.log) same.1 (record {
+        knows = fits.knows;
+        made = made_append r.log w.parts v.parts fits'.made fits.made;
+        stage = subst (InStage r.served r.log (length (w.parts ++ v.parts))) (sym idle) tt;
+      }))
+      (λ beside. r.hands j u beside.1)
+      (at_set s.views id j (gathered v w) u there.1))
+      (at_set (set s.views id (gathered v w)) other j blank u here))
 
   -- what is out has a pass
   out_has : (served : ℕ) (log : List Made) (parts : ℕ) (stage : Stage) → InStage served log parts stage → out_with stage ≤ parts
@@ -179,19 +147,19 @@ module _ {T G : Type 0} (history : T → List Made) (ground_at : T → G) (start
     pub once : (x : ℕ) → times x (numbers_of ps) ≤ 1
     pub strangers : (x : ℕ) → times x (numbers_of ps) ≡ 0 → entries_of x (history value) ≡ []
 
-  home_kept : (s : State T (Hand T)) (r : R s) (id : ℕ) (ps : List Part) (known : std.Option T) (xs : List T) → get_elem? s.views id ≡ some (hand known ps Idle) → length ps ≡ count
+  home_kept : (s : State T (Hand T)) (r : Turns history ground_at start count s) (id : ℕ) (ps : List Part) (known : std.Option T) (xs : List T) → get_elem? s.views id ≡ some (hand known ps Idle) → length ps ≡ count
       → ((k : ℕ) (y : T) → get_elem? s.homes k ≡ some (some y) → get_elem? xs k ≡ some y) → (value : T) → get_elem? xs 0 ≡ some value → (home : Option T) → r.home ≡ home → Kept ps value
   home_kept s r id ps known xs at all there value lies none is =
       let v : Hand T = hand known ps Idle in
-      let p = total_le_beside (λ (u : Hand T). out_with u.stage) (λ (u : Hand T). length u.parts) s.views id v at (λ j u here. out_has r.served r.log (length u.parts) u.stage (r.hands j u here).stage) in
+      let p = sum_by_le_beside (λ (u : Hand T). out_with u.stage) (λ (u : Hand T). length u.parts) s.views id v at (λ j u here. out_has r.served r.log (length u.parts) u.stage (r.hands j u here).stage) in
       let q = r.gone in let q' = r.passes in let gone : absent r.home ≡ 1 = ap absent is in absurd (omega arith)
   home_kept s r id ps known xs at all there value lies (some y) is =
       let v : Hand T = hand known ps Idle in
       let lay : (history y ≡ r.log) × (ground_at y ≡ ground_at start) = subst (AtHome history ground_at start r.log) is r.value in
       let same : y ≡ value = some-injective y value (sym (there 0 y (ap (λ hs. get_elem? hs 0) (r.slot ∙ ap (λ h. h ∷ []) is))) ∙ lies) in
       let fits = r.hands id v at in
-      let mine = λ (x : ℕ). total_at (λ (u : Hand T). times x (numbers u)) s.views id v at in
-      let no_more = λ (x : ℕ). total_le_beside (λ (u : Hand T). times x (numbers u)) (λ (u : Hand T). length u.parts) s.views id v at (λ j u here. numbered_has x u.parts) in
+      let mine = λ (x : ℕ). sum_by_at (λ (u : Hand T). times x (numbers u)) s.views id v at in
+      let no_more = λ (x : ℕ). sum_by_le_beside (λ (u : Hand T). times x (numbers u)) (λ (u : Hand T). length u.parts) s.views id v at (λ j u here. numbered_has x u.parts) in
       subst (Kept ps) same (record {
         stays = lay.1;
         made = subst (λ log. AllMade log ps) (sym lay.0) fits.made;
@@ -200,7 +168,7 @@ module _ {T G : Type 0} (history : T → List Made) (ground_at : T → G) (start
       })
 
   -- a lock is closed with a hand that has all passes
-  pub closes : (id : ℕ) (v : Hand T) (ps : List Part) (known : std.Option T) (ws : List ℕ) (xs : List T) → v ≡ hand known ps Idle → length ps ≡ count → Final (Seen R id v) ws xs
+  pub closes : (id : ℕ) (v : Hand T) (ps : List Part) (known : std.Option T) (ws : List ℕ) (xs : List T) → v ≡ hand known ps Idle → length ps ≡ count → Final (Seen (Turns history ground_at start count) id v) ws xs
       → (value : T) → get_elem? xs 0 ≡ some value → Kept ps value
   closes id v ps known ws xs is all f value lies = home_kept f.0 f.1.0 id ps known xs (f.1.1 ∙ ap some is) all f.4 value lies f.1.0.home refl
 
@@ -289,13 +257,12 @@ module _ {T : Type 0} where
       (λ ne. omega arith)))
       (each_ours passes cs (λ n away. entries_rest n c cs (none_else n away)))
 
-  passes_weigh : (f : List ℕ → ℕ) (passes : List (Pass T)) → total (λ p. total f p.1) (parts_of passes) ≡ sum_by (λ p. sum_by f (made p)) passes
+  passes_weigh : (f : List ℕ → ℕ) (passes : List (Pass T)) → sum_by (λ p. sum_by f p.1) (parts_of passes) ≡ sum_by (λ p. sum_by f (made p)) passes
   passes_weigh f [] = refl
-  passes_weigh f (p ∷ ps) =
-      let rest = passes_weigh f ps in let here = total_is f (made p) in let split = sum_by-cons (λ (q : Pass T). sum_by f (made q)) p ps in omega arith
+  passes_weigh f (p ∷ ps) = omega (arith, sum_by-cons (λ (q : Part). sum_by f q.1) (number p, made p) (parts_of ps), sum_by-cons (λ (q : Pass T). sum_by f (made q)) p ps, passes_weigh f ps)
 
   -- what the passes made is what the history has, however the entries are weighed
   pub weighs_same : (f : List ℕ → ℕ) (passes : List (Pass T)) (log : List Made) → AllMade log (parts_of passes) → ((n : ℕ) → times n (numbers_of (parts_of passes)) ≤ 1)
       → ((n : ℕ) → times n (numbers_of (parts_of passes)) ≡ 0 → entries_of n log ≡ []) → sum_by (λ c. f c.1) log ≡ sum_by (λ p. sum_by f (made p)) passes
   weighs_same f passes log a once none_else =
-      sym (total_is (λ c. f c.1) log) ∙ (log_weighs f (numbers_of (parts_of passes)) log once none_else ∙ (parts_weigh f log (parts_of passes) a ∙ passes_weigh f passes))
+      log_weighs f (numbers_of (parts_of passes)) log once none_else ∙ (parts_weigh f log (parts_of passes) a ∙ passes_weigh f passes)

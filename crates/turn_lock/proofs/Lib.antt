@@ -1,4 +1,5 @@
-pub mod Totals
+pub mod Sums
+pub mod Hands
 pub mod Parts
 pub mod Steps
 pub mod Ends

@@ -1,9 +1,10 @@
 -- Entries, numbers and parts as lists.
-use Rattle.std.proofs.Common.{◌≡◌, ◌≢◌, ℕ, zero, suc, ◌+◌, ◌≤◌, ◌<◌, List, [], ◌∷◌, ◌++◌, length, sym, refl, ap, ◌∙◌, arith, eq-eqb, ne_eqb, append-nil}
+use Rattle.std.proofs.Common.{◌≡◌, ◌≢◌, ℕ, zero, suc, ◌+◌, ◌≤◌, ◌<◌, List, [], ◌∷◌, ◌++◌, length, sym, refl, ap, ◌∙◌, arith, eq-eqb, ne_eqb, append-nil, sum_by}
+use Rattle.std.proofs.lemmas.List.Sums.{sum_by-cons}
 use mathlib.Core.Logic.{dite}
 use native.Mathlib.Decide.{ℕ_discrete}
-use Rattle.turn_lock.specs.History.{Made, entries_of}
-use Rattle.turn_lock.specs.Turns.{Part, total, times, numbers_of, fresh, AllMade}
+use Rattle.turn_lock.specs.History.{Made, entries_of, Part}
+use Rattle.turn_lock.specs.Turns.{times, numbers_of, fresh, AllMade}
 use Rattle.turn_lock.specs.Plays.{AllBy, made_also, first_part, other_parts}
 
 -- the entries of a longer history
@@ -105,11 +106,14 @@ entries_rest n c cs none_of = dite (ℕ_discrete c.0 n)
 
 -- the entries of some numbers, each weighed
 abbrev weight : (List ℕ → ℕ) → List Made → List ℕ → ℕ
-weight f log ns = total (λ n. total f (entries_of n log)) ns
+weight f log ns = sum_by (λ n. sum_by f (entries_of n log)) ns
+
+weight_cons : (f : List ℕ → ℕ) (log : List Made) (n : ℕ) (ns : List ℕ) → weight f log (n ∷ ns) ≡ sum_by f (entries_of n log) + weight f log ns
+weight_cons f log n ns = sum_by-cons (λ k. sum_by f (entries_of k log)) n ns
 
 weight_none : (f : List ℕ → ℕ) (ns : List ℕ) → weight f [] ns ≡ 0
 weight_none f [] = refl
-weight_none f (n ∷ ns) = let rest = weight_none f ns in omega arith
+weight_none f (n ∷ ns) = omega (arith, weight_cons f [] n ns, weight_none f ns)
 
 -- one change more weighs nothing where its number is not there, and else its weight
 weight_away : (f : List ℕ → ℕ) (c : Made) (cs : List Made) (ns : List ℕ) → times c.0 ns ≡ 0 → weight f (c ∷ cs) ns ≡ weight f cs ns
@@ -118,27 +122,33 @@ weight_away f c cs (n ∷ ns) away = dite (ℕ_discrete n c.0)
     (λ is. let hit = times_hit c.0 n ns is in absurd (omega arith))
     (λ ne.
     let miss = times_miss c.0 n ns ne in let rest = weight_away f c cs ns (omega arith) in
-    let same : total f (entries_of n (c ∷ cs)) ≡ total f (entries_of n cs) = rw (ne_eqb c.0 n (λ e. ne (sym e))) refl in omega arith)
+    let same : sum_by f (entries_of n (c ∷ cs)) ≡ sum_by f (entries_of n cs) = rw (ne_eqb c.0 n (λ e. ne (sym e))) refl in
+    omega (arith, weight_cons f (c ∷ cs) n ns, weight_cons f cs n ns))
 
 weight_once : (f : List ℕ → ℕ) (c : Made) (cs : List Made) (ns : List ℕ) → times c.0 ns ≡ 1 → weight f (c ∷ cs) ns ≡ f c.1 + weight f cs ns
 weight_once f c cs [] once = absurd (omega arith)
 weight_once f c cs (n ∷ ns) once = dite (ℕ_discrete n c.0)
     (λ is.
     let hit = times_hit c.0 n ns is in let rest = weight_away f c cs ns (omega arith) in
-    let more : total f (entries_of n (c ∷ cs)) ≡ f c.1 + total f (entries_of n cs) = rw (eq-eqb c.0 n (sym is)) refl in omega arith)
+    let longer : entries_of n (c ∷ cs) ≡ c.1 ∷ entries_of n cs = rw (eq-eqb c.0 n (sym is)) refl in
+    let more : sum_by f (entries_of n (c ∷ cs)) ≡ f c.1 + sum_by f (entries_of n cs) = ap (sum_by f) longer ∙ sum_by-cons f c.1 (entries_of n cs) in
+    omega (arith, weight_cons f (c ∷ cs) n ns, weight_cons f cs n ns))
     (λ ne.
     let miss = times_miss c.0 n ns ne in let rest = weight_once f c cs ns (omega arith) in
-    let same : total f (entries_of n (c ∷ cs)) ≡ total f (entries_of n cs) = rw (ne_eqb c.0 n (λ e. ne (sym e))) refl in omega arith)
+    let same : sum_by f (entries_of n (c ∷ cs)) ≡ sum_by f (entries_of n cs) = rw (ne_eqb c.0 n (λ e. ne (sym e))) refl in
+    omega (arith, weight_cons f (c ∷ cs) n ns, weight_cons f cs n ns))
 
 -- a history weighs what the entries of its numbers weigh
-pub log_weighs : (f : List ℕ → ℕ) (ns : List ℕ) (log : List Made) → ((n : ℕ) → times n ns ≤ 1) → ((n : ℕ) → times n ns ≡ 0 → entries_of n log ≡ []) → total (λ c. f c.1) log ≡ weight f log ns
+pub log_weighs : (f : List ℕ → ℕ) (ns : List ℕ) (log : List Made) → ((n : ℕ) → times n ns ≤ 1) → ((n : ℕ) → times n ns ≡ 0 → entries_of n log ≡ []) → sum_by (λ c. f c.1) log ≡ weight f log ns
 log_weighs f ns [] once none_else = sym (weight_none f ns)
 log_weighs f ns (c ∷ cs) once none_else =
     let here : times c.0 ns ≢ 0 = λ away. not_empty c.1 (entries_of c.0 cs) (sym (entries_hit c cs) ∙ none_else c.0 away) in
     let at_most = once c.0 in
     let more = weight_once f c cs ns (omega arith) in
-    let rest = log_weighs f ns cs once (λ n away. entries_rest n c cs (none_else n away)) in omega arith
+    let rest = log_weighs f ns cs once (λ n away. entries_rest n c cs (none_else n away)) in omega (arith, sum_by-cons (λ (d : Made). f d.1) c cs)
 
-pub parts_weigh : (f : List ℕ → ℕ) (log : List Made) (ps : List Part) → AllMade log ps → weight f log (numbers_of ps) ≡ total (λ p. total f p.1) ps
+pub parts_weigh : (f : List ℕ → ℕ) (log : List Made) (ps : List Part) → AllMade log ps → weight f log (numbers_of ps) ≡ sum_by (λ p. sum_by f p.1) ps
 parts_weigh f log [] a = refl
-parts_weigh f log (p ∷ ps) a = let rest = parts_weigh f log ps a.1 in let here = ap (total f) a.0 in omega arith
+parts_weigh f log (p ∷ ps) a =
+    let rest = parts_weigh f log ps a.1 in let here = ap (sum_by f) a.0 in
+    omega (arith, weight_cons f log p.0 (numbers_of ps), sum_by-cons (λ (q : Part). sum_by f q.1) p ps)

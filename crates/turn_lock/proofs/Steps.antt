@@ -1,5 +1,5 @@
 -- Each step keeps the rule of a lock.
-use Rattle.std.proofs.Common.{◌≡◌, ◌≢◌, ℕ, zero, suc, ◌+◌, ◌-◌, ◌%◌, ◌^◌, ◌≤◌, ◌<◌, ◌⊎◌, inl, inr, lt_of_not-le, ⊎_elim, List, [], ◌∷◌, ◌++◌, length, drop, slice_index, slice_set, set, sym, refl, ap, ◌∙◌, subst, arith, IfSome, Some, None}
+use Rattle.std.proofs.Common.{◌≡◌, ◌≢◌, ℕ, ◌+◌, ◌-◌, ◌%◌, ◌^◌, ◌≤◌, ◌<◌, ◌⊎◌, inl, inr, lt_of_not-le, ⊎_elim, List, [], ◌∷◌, ◌++◌, length, drop, slice_index, slice_set, sym, refl, ap, ◌∙◌, subst, arith, IfSome, Some, None}
 use Rattle.std.proofs.Common as std
 use mathlib.Core.Logic.{dite}
 use mathlib.Core.Option.{Option, some, none}
@@ -14,7 +14,9 @@ use Rattle.turn_lock.specs.declared.hand.Stage.TheVariants.{Idle, Waiting, Turn}
 use Rattle.turn_lock.specs.History.{Made}
 use Rattle.turn_lock.specs.Turns.{times, tickets, tickets_of, numbers, numbers_of, out_with, absent, blank, first_hand, AtHome, Fits, Turns, AllMade, InStage}
 use Rattle.turn_lock.specs.Plays.{Seated, at_stage, ticket_of, entered, drew, looked, HasTurn, passed_on, put_back, gained, log_before}
-use Rattle.turn_lock.proofs.Totals.{total_set, total_push, total_at, total_two, total_le, total_le_beside}
+use Rattle.std.proofs.lemmas.List.Sums.{sum_by_push}
+use Rattle.turn_lock.proofs.Sums.{sum_by_set, sum_by_at, sum_by_two, sum_by_le, sum_by_le_beside}
+use Rattle.turn_lock.proofs.Hands.{other_hands}
 use Rattle.turn_lock.proofs.Parts.{entries_kept, times_hit, times_miss, made_longer, made_elsewhere, numbers_also, length_also}
 
 next_turn : (n : ℕ) → (n % 18446744073709551616 + 1) % 18446744073709551616 ≡ (n + 1) % 18446744073709551616
@@ -39,24 +41,15 @@ module _ {T G : Type 0} (history : T → List Made) (ground_at : T → G) (start
   pub enters : (slots : ℕ) → Enters R slots 1 (λ n w. entered (step slots 1 0 0 none) (first_hand start count, []) n (w, []))
   enters slots s r _ _ = (
     blank,
-    record {
-      served = r.served;
-      flight = r.flight;
-      log = r.log;
-      home = r.home;
-      few = r.few;
-      words = r.words;
-      slot = r.slot;
-      value = r.value;
-      gone = (let p = total_push (λ (v : Hand T). out_with v.stage) s.views blank in let q = r.gone in omega arith);
-      busy = (let p = total_push (λ (v : Hand T). length (tickets v)) s.views blank in let q = r.busy in omega arith);
-      given = λ n low high. (let p = total_push (λ (v : Hand T). times n (tickets v)) s.views blank in let q = r.given n low high in omega arith);
-      others = λ n away. (let p = total_push (λ (v : Hand T). times n (tickets v)) s.views blank in let q = r.others n away in omega arith);
-      passes = (let p = total_push (λ (v : Hand T). length v.parts) s.views blank in let q = r.passes in omega arith);
-      once = λ x. (let p = total_push (λ (v : Hand T). times x (numbers v)) s.views blank in let q = r.once x in omega arith);
-      strangers = λ x away. r.strangers x (let p = total_push (λ (v : Hand T). times x (numbers v)) s.views blank in omega arith);
-      hands = λ id v at. ⊎_elim (λ old. r.hands id v old) (λ new. subst (F r.served r.log) new (blank_fits r.served r.log)) (at_snoc s.views blank v id at);
-    },
+    other_hands history ground_at start count s r (s.views ++ blank ∷ [])
+        (record {
+          out = (let p = sum_by_push (λ (v : Hand T). out_with v.stage) s.views blank in omega arith);
+          busy = (let p = sum_by_push (λ (v : Hand T). length (tickets v)) s.views blank in omega arith);
+          ticket = λ n. (let p = sum_by_push (λ (v : Hand T). times n (tickets v)) s.views blank in omega arith);
+          passes = (let p = sum_by_push (λ (v : Hand T). length v.parts) s.views blank in omega arith);
+          number = λ x. (let p = sum_by_push (λ (v : Hand T). times x (numbers v)) s.views blank in omega arith);
+        })
+        (λ id v at. ⊎_elim (λ old. r.hands id v old) (λ new. subst (F r.served r.log) new (blank_fits r.served r.log)) (at_snoc s.views blank v id at)),
     refl,
   )
 
@@ -81,20 +74,20 @@ module _ {T G : Type 0} (history : T → List Made) (ground_at : T → G) (start
               ∙ ap (λ (n : ℕ). n ∷ (r.served % 18446744073709551616) ∷ []) (next_turn t ∙ ap (λ (n : ℕ). n % 18446744073709551616) (let k : t + 1 ≡ r.served + (r.flight + 1) = omega arith in k));
           slot = r.slot;
           value = r.value;
-          gone = (let p = total_set (λ (v : Hand T). out_with v.stage) s.views id me.0 w at in let q = r.gone in omega arith);
-          busy = (let p = total_set (λ (v : Hand T). length (tickets v)) s.views id me.0 w at in let q = r.busy in let z : length (tickets me.0) ≡ 0 = ap length no_ticket in omega arith);
+          gone = (let p = sum_by_set (λ (v : Hand T). out_with v.stage) s.views id me.0 w at in let q = r.gone in omega arith);
+          busy = (let p = sum_by_set (λ (v : Hand T). length (tickets v)) s.views id me.0 w at in let q = r.busy in let z : length (tickets me.0) ≡ 0 = ap length no_ticket in omega arith);
           given = λ n low high.
-              let p = total_set (λ (v : Hand T). times n (tickets v)) s.views id me.0 w at in let z : times n (tickets me.0) ≡ 0 = ap (times n) no_ticket in
+              let p = sum_by_set (λ (v : Hand T). times n (tickets v)) s.views id me.0 w at in let z : times n (tickets me.0) ≡ 0 = ap (times n) no_ticket in
               dite (ℕ_discrete t n)
               (λ is. let hit = times_hit n t [] is in let q = r.others n (inr (omega arith)) in omega arith)
               (λ ne. let miss = times_miss n t [] ne in let q = r.given n low (omega arith) in omega arith);
           others = λ n away.
-              let p = total_set (λ (v : Hand T). times n (tickets v)) s.views id me.0 w at in let z : times n (tickets me.0) ≡ 0 = ap (times n) no_ticket in
+              let p = sum_by_set (λ (v : Hand T). times n (tickets v)) s.views id me.0 w at in let z : times n (tickets me.0) ≡ 0 = ap (times n) no_ticket in
               let miss = times_miss n t [] (λ is. ⊎_elim (λ (low : n < r.served). omega arith) (λ (high : r.served + (r.flight + 1) ≤ n). omega arith) away) in
               let q = r.others n (⊎_elim (λ (low : n < r.served). inl low) (λ (high : r.served + (r.flight + 1) ≤ n). inr (omega arith)) away) in omega arith;
-          passes = (let p = total_set (λ (v : Hand T). length v.parts) s.views id me.0 w at in let q = r.passes in omega arith);
-          once = λ x. (let p = total_set (λ (v : Hand T). times x (numbers v)) s.views id me.0 w at in let q = r.once x in omega arith);
-          strangers = λ x away. r.strangers x (let p = total_set (λ (v : Hand T). times x (numbers v)) s.views id me.0 w at in omega arith);
+          passes = (let p = sum_by_set (λ (v : Hand T). length v.parts) s.views id me.0 w at in let q = r.passes in omega arith);
+          once = λ x. (let p = sum_by_set (λ (v : Hand T). times x (numbers v)) s.views id me.0 w at in let q = r.once x in omega arith);
+          strangers = λ x away. r.strangers x (let p = sum_by_set (λ (v : Hand T). times x (numbers v)) s.views id me.0 w at in omega arith);
           hands = λ j v here. ⊎_elim
               (λ same. subst (F r.served r.log) same.1 (record { knows = fits.knows; made = fits.made; stage = one }))
               (λ other. r.hands j v other.1)
@@ -111,13 +104,13 @@ module _ {T G : Type 0} (history : T → List Made) (ground_at : T → G) (start
 
   few_busy : (s : State T (Hand T)) (r : R s) → r.flight < 4294967296
   few_busy s r =
-      let p = total_le (λ (v : Hand T). length (tickets v)) (λ (v : Hand T). length v.parts) s.views (λ i v at. busy_le r.served r.log (length v.parts) v.stage (r.hands i v at).stage) in
+      let p = sum_by_le (λ (v : Hand T). length (tickets v)) (λ (v : Hand T). length v.parts) s.views (λ i v at. busy_le r.served r.log (length v.parts) v.stage (r.hands i v at).stage) in
       let q = r.busy in let q' = r.passes in let few = r.few in omega arith
 
   -- a ticket in flight is among those from the one served on
   ticket_low : (s : State T (Hand T)) (r : R s) (id t : ℕ) (v : Hand T) → get_elem? s.views id ≡ some v → tickets v ≡ t ∷ [] → ¬ ((t < r.served) ⊎ (r.served + r.flight ≤ t))
   ticket_low s r id t v at mine away =
-      let none_has = r.others t away in let here = total_at (λ (u : Hand T). times t (tickets u)) s.views id v at in
+      let none_has = r.others t away in let here = sum_by_at (λ (u : Hand T). times t (tickets u)) s.views id v at in
       let one : times t (tickets v) ≡ 1 = ap (times t) mine ∙ times_hit t t [] refl in omega arith
 
   ticket_served : (s : State T (Hand T)) (r : R s) (id t : ℕ) (v : Hand T) → get_elem? s.views id ≡ some v → tickets v ≡ t ∷ []
@@ -143,7 +136,7 @@ module _ {T G : Type 0} (history : T → List Made) (ground_at : T → G) (start
       let within = ticket_low s r id r.served v at mine in
       let high : r.served < r.served + r.flight = lt_of_not-le (λ more. within (inr more)) in
       let once = r.given r.served (omega arith) high in
-      let p = total_le_beside (λ (u : Hand T). out_with u.stage) (λ (u : Hand T). times r.served (tickets u)) s.views id v at
+      let p = sum_by_le_beside (λ (u : Hand T). out_with u.stage) (λ (u : Hand T). times r.served (tickets u)) s.views id v at
       (λ j u there. out_le r.served r.log (length u.parts) u.stage (r.hands j u there).stage) in
       let q = r.gone in let gone : absent r.home ≡ 1 = ap absent is in omega arith
 
@@ -180,13 +173,13 @@ module _ {T G : Type 0} (history : T → List Made) (ground_at : T → G) (start
           words = same_words s.words _ _ r.words ∙ r.words;
           slot = ap (λ hs. slice_set hs 0 none) lies;
           value = tt;
-          gone = (let p = total_set (λ (v : Hand T). out_with v.stage) s.views id me.0 w at in let q = r.gone in let z : absent r.home ≡ 0 = ap absent is in omega arith);
-          busy = (let p = total_set (λ (v : Hand T). length (tickets v)) s.views id me.0 w at in let q = r.busy in let z : length (tickets me.0) ≡ length (tickets w) = ap length mine in omega arith);
-          given = λ n low high. (let p = total_set (λ (v : Hand T). times n (tickets v)) s.views id me.0 w at in let q = r.given n low high in let z : times n (tickets me.0) ≡ times n (tickets w) = ap (times n) mine in omega arith);
-          others = λ n away. (let p = total_set (λ (v : Hand T). times n (tickets v)) s.views id me.0 w at in let q = r.others n away in let z : times n (tickets me.0) ≡ times n (tickets w) = ap (times n) mine in omega arith);
-          passes = (let p = total_set (λ (v : Hand T). length v.parts) s.views id me.0 w at in let q = r.passes in omega arith);
-          once = λ x. (let p = total_set (λ (v : Hand T). times x (numbers v)) s.views id me.0 w at in let q = r.once x in omega arith);
-          strangers = λ x away. r.strangers x (let p = total_set (λ (v : Hand T). times x (numbers v)) s.views id me.0 w at in omega arith);
+          gone = (let p = sum_by_set (λ (v : Hand T). out_with v.stage) s.views id me.0 w at in let q = r.gone in let z : absent r.home ≡ 0 = ap absent is in omega arith);
+          busy = (let p = sum_by_set (λ (v : Hand T). length (tickets v)) s.views id me.0 w at in let q = r.busy in let z : length (tickets me.0) ≡ length (tickets w) = ap length mine in omega arith);
+          given = λ n low high. (let p = sum_by_set (λ (v : Hand T). times n (tickets v)) s.views id me.0 w at in let q = r.given n low high in let z : times n (tickets me.0) ≡ times n (tickets w) = ap (times n) mine in omega arith);
+          others = λ n away. (let p = sum_by_set (λ (v : Hand T). times n (tickets v)) s.views id me.0 w at in let q = r.others n away in let z : times n (tickets me.0) ≡ times n (tickets w) = ap (times n) mine in omega arith);
+          passes = (let p = sum_by_set (λ (v : Hand T). length v.parts) s.views id me.0 w at in let q = r.passes in omega arith);
+          once = λ x. (let p = sum_by_set (λ (v : Hand T). times x (numbers v)) s.views id me.0 w at in let q = r.once x in omega arith);
+          strangers = λ x away. r.strangers x (let p = sum_by_set (λ (v : Hand T). times x (numbers v)) s.views id me.0 w at in omega arith);
           hands = λ j v here. ⊎_elim
               (λ same. subst (F r.served r.log) same.1 (record { knows = fits.knows; made = fits.made; stage = (one, is_t ∙ sym served, value.0) }))
               (λ other. r.hands j v other.1)
@@ -231,9 +224,9 @@ module _ {T G : Type 0} (history : T → List Made) (ground_at : T → G) (start
       let stands : InStage r.served r.log (length me.0.parts) (Turn turn.served turn.log) = subst (InStage r.served r.log (length me.0.parts)) turn.stage fits.stage in
       let is_served : turn.served ≡ r.served = stands.1 in
       let one_ticket : length (tickets me.0) ≡ 1 = ap length mine in
-      let busy_here = total_at (λ (v : Hand T). length (tickets v)) s.views id me.0 at in
+      let busy_here = sum_by_at (λ (v : Hand T). length (tickets v)) s.views id me.0 at in
       let busy = r.busy in
-      let out_here = total_at (λ (v : Hand T). out_with v.stage) s.views id me.0 at in
+      let out_here = sum_by_at (λ (v : Hand T). out_with v.stage) s.views id me.0 at in
       let out_total = r.gone in let at_most = absent_le r.home in
       let k : ℕ = turn.part.0 in
       let my_number : numbers me.0 ≡ k ∷ [] = ap numbers_of turn.one in
@@ -258,25 +251,25 @@ module _ {T G : Type 0} (history : T → List Made) (ground_at : T → G) (start
               ∙ ap (λ (n : ℕ). (n % 18446744073709551616) ∷ ((r.served + 1) % 18446744073709551616) ∷ []) (let e : r.served + r.flight ≡ r.served + 1 + (r.flight - 1) = omega arith in e));
           slot = ap (λ l. back_at s.homes l) turn.out ∙ ap (λ hs. slice_set hs 0 (some turn.value)) r.slot;
           value = (turn.longer ∙ ap (λ l. l ++ turn.added) stands.2, turn.stays ∙ ap ground_at (known_start me.0.start turn.start turn.knows fits.knows));
-          gone = (let p = total_set (λ (v : Hand T). out_with v.stage) s.views id me.0 w at in omega arith);
-          busy = (let p = total_set (λ (v : Hand T). length (tickets v)) s.views id me.0 w at in omega arith);
+          gone = (let p = sum_by_set (λ (v : Hand T). out_with v.stage) s.views id me.0 w at in omega arith);
+          busy = (let p = sum_by_set (λ (v : Hand T). length (tickets v)) s.views id me.0 w at in omega arith);
           given = λ n low high.
-              let p = total_set (λ (v : Hand T). times n (tickets v)) s.views id me.0 w at in
+              let p = sum_by_set (λ (v : Hand T). times n (tickets v)) s.views id me.0 w at in
               let q = r.given n (omega arith) (omega arith) in
               let z : times n (tickets me.0) ≡ 0 = ap (times n) mine ∙ times_miss n turn.served [] (λ is. omega arith) in omega arith;
           others = λ n away.
-              let p = total_set (λ (v : Hand T). times n (tickets v)) s.views id me.0 w at in
+              let p = sum_by_set (λ (v : Hand T). times n (tickets v)) s.views id me.0 w at in
               dite (ℕ_discrete turn.served n)
               (λ is.
               let q = r.given n (omega arith) (omega arith) in
               let z : times n (tickets me.0) ≡ 1 = ap (times n) mine ∙ times_hit n turn.served [] is in omega arith)
               (λ ne.
               let q = r.others n (⊎_elim (λ (low : n < r.served + 1). inl (omega arith)) (λ (high : r.served + 1 + (r.flight - 1) ≤ n). inr (omega arith)) away) in omega arith);
-          passes = (let p = total_set (λ (v : Hand T). length v.parts) s.views id me.0 w at in let q = r.passes in omega arith);
-          once = λ x. (let p = total_set (λ (v : Hand T). times x (numbers v)) s.views id me.0 w at in let q = r.once x in let z : times x (numbers w) ≡ times x (numbers me.0) = ap (times x) same_numbers in omega arith);
+          passes = (let p = sum_by_set (λ (v : Hand T). length v.parts) s.views id me.0 w at in let q = r.passes in omega arith);
+          once = λ x. (let p = sum_by_set (λ (v : Hand T). times x (numbers v)) s.views id me.0 w at in let q = r.once x in let z : times x (numbers w) ≡ times x (numbers me.0) = ap (times x) same_numbers in omega arith);
           strangers = λ x away.
-              let p = total_set (λ (v : Hand T). times x (numbers v)) s.views id me.0 w at in let z : times x (numbers w) ≡ times x (numbers me.0) = ap (times x) same_numbers in
-              let here = total_at (λ (v : Hand T). times x (numbers v)) s.views id me.0 at in
+              let p = sum_by_set (λ (v : Hand T). times x (numbers v)) s.views id me.0 w at in let z : times x (numbers w) ≡ times x (numbers me.0) = ap (times x) same_numbers in
+              let here = sum_by_at (λ (v : Hand T). times x (numbers v)) s.views id me.0 at in
               let not_k : x ≢ k = λ is. (let has : times x (numbers me.0) ≡ 1 = ap (λ n. times n (numbers me.0)) is ∙ has_k in omega arith) in
               entries_kept x k r.log turn.added turn.own not_k ∙ r.strangers x (omega arith);
           hands = λ j v here. ⊎_elim
@@ -287,8 +280,8 @@ module _ {T G : Type 0} (history : T → List Made) (ground_at : T → G) (start
               }))
               (λ other.
               let theirs = r.hands j v other.1 in
-              let two_out = total_two (λ (u : Hand T). out_with u.stage) s.views id j me.0 v at other.1 other.0 in
-              let two_numbers = total_two (λ (u : Hand T). times k (numbers u)) s.views id j me.0 v at other.1 other.0 in
+              let two_out = sum_by_two (λ (u : Hand T). out_with u.stage) s.views id j me.0 v at other.1 other.0 in
+              let two_numbers = sum_by_two (λ (u : Hand T). times k (numbers u)) s.views id j me.0 v at other.1 other.0 in
               let once = r.once k in
               record {
                 knows = theirs.knows;

@@ -1,11 +1,11 @@
 -- One call of `change`, from the ticket on.
-use Rattle.std.proofs.Common.{◌≡◌, ℕ, ◌%◌, ◌^◌, List, [], ◌∷◌, ◌++◌, length, drop, get_or, sym, refl, ap, ◌∙◌, subst, IfSome, Some, None, Result, Ok, Err}
+use Rattle.std.proofs.Common.{◌≡◌, ℕ, List, [], ◌++◌, get_or, sym, refl, ap, ◌∙◌, subst, IfSome, Some, Result, Ok, Err}
 use Rattle.std.proofs.Common as std
 use Rattle.mine_model.specs.declared.memory.NoMemory.{NoMemory}
 use Rattle.turn_lock.specs.declared.hand.Hand.{Hand}
 use Rattle.turn_lock.specs.declared.hand.Stage.TheVariants.{Waiting, Turn}
-use Rattle.turn_lock.specs.History.{Made}
-use Rattle.turn_lock.specs.Rests.{Rests, entries_made}
+use Rattle.turn_lock.specs.History.{Made, entries_made}
+use Rattle.turn_lock.specs.Rests.{Rests}
 use Rattle.turn_lock.specs.Plays.{Seated, at_stage, ticket_of, TookValue, Extends, HasTurn, AllBy, changes}
 
 -- what a call changes is its own

@@ -2,8 +2,7 @@
 use Rattle.std.specs.Prelude.{◌≡◌, ℕ, [], List, map, length, slice_get, Some, All}
 use Rattle.turn_lock.specs.declared.lock.Pass.{Pass}
 use Rattle.turn_lock.specs.declared.lock.TurnLock.{TurnLock}
-use Rattle.turn_lock.specs.Turns.{Part}
-use Rattle.turn_lock.specs.Rests.{entries_made}
+use Rattle.turn_lock.specs.History.{Part, entries_made}
 
 module _ {T : Type 0} where
   abbrev pub number : Pass T → ℕ
@@ -32,7 +31,8 @@ module _ {T G : Type 0} where
 
   -- it is a pass of this lock
   abbrev pub IsPassOf : TurnLock T G → Pass T → Type 0
-  IsPassOf lock pass = (pass.seat.table_id ≡ lock.table.shared.table_id) × (pass.seat.me.0.start ≡ Some (opened_with lock))
+  IsPassOf lock pass = (pass.seat.table_id ≡ lock.table.shared.table_id)
+      × (pass.seat.me.0.start ≡ Some (opened_with lock))
 
   -- they are all the passes of this lock
   pub record AreAllPasses (lock : TurnLock T G) (passes : List (Pass T)) : Type 0 where

@@ -1,12 +1,13 @@
 -- What each step tells the pass that makes it.
-use Rattle.std.specs.Prelude.{◌≡◌, ◌≢◌, ℕ, ◌%◌, ◌^◌, ◌++◌, List, [], ◌∷◌, map, length, drop, IfSome, Some, Result, Ok, Err}
+use Rattle.std.specs.Prelude.{◌≡◌, ◌≢◌, ℕ, ◌%◌, ◌^◌, ◌++◌, List, [], ◌∷◌, map, length, drop}
+use Rattle.std.specs.Prelude.{IfSome, Some, Result, Ok, Err}
 use Rattle.atomic_table.specs.Table.{Me, Step}
 use Rattle.mine_model.specs.declared.memory.NoMemory.{NoMemory}
 use Rattle.turn_lock.specs.declared.hand.Hand.{Hand}
 use Rattle.turn_lock.specs.declared.hand.Stage.{Stage}
 use Rattle.turn_lock.specs.declared.hand.Stage.TheVariants.{Idle, Waiting, Turn}
-use Rattle.turn_lock.specs.History.{Made, entries_of}
-use Rattle.turn_lock.specs.Turns.{Part, hand, blank}
+use Rattle.turn_lock.specs.History.{Made, Part, entries_of}
+use Rattle.turn_lock.specs.Turns.{hand, blank}
 
 abbrev pub Seated : Type 0 → Type 0
 Seated T = Me T (Hand T)
@@ -56,11 +57,13 @@ module _ {T : Type 0} where
   module _ {G : Type 0} (history : T → List Made) (ground_at : T → G) where
     -- the value is out with this pass, and has the lock's ground
     abbrev pub TookValue : Seated T → Seated T → Type 0
-    TookValue m n = (y : T) × (n ≡ (at_stage m.0 (Turn (ticket_of m.0.stage) (history y)), (0, y) ∷ [])) × IfSome m.0.start (λ x. ground_at y ≡ ground_at x)
+    TookValue m n = (y : T) × (n ≡ (at_stage m.0 (Turn (ticket_of m.0.stage) (history y)), (0, y) ∷ []))
+        × IfSome m.0.start (λ x. ground_at y ≡ ground_at x)
 
     -- where the ticket is served the value was taken out, and else nothing changed
     abbrev pub looked : Step T → Seated T → ℕ → Seated T → Type 0
-    looked s m found n = (found ≡ ticket_of m.0.stage % 2 ^ 64 → TookValue m n) × (found ≢ ticket_of m.0.stage % 2 ^ 64 → n ≡ m)
+    looked s m found n = (found ≡ ticket_of m.0.stage % 2 ^ 64 → TookValue m n)
+        × (found ≢ ticket_of m.0.stage % 2 ^ 64 → n ≡ m)
 
   module _ {G : Type 0} (history : T → List Made) (ground_at : T → G) where
     -- the one value that is out is changed, and these changes are at the end of its history
@@ -95,7 +98,8 @@ module _ {T : Type 0} where
 
   -- the pass has made what was added, and its call is over
   abbrev pub put_back : (T → List Made) → Seated T → Seated T
-  put_back history m = (hand m.0.start (made_also (gained history m.1 (log_before m.0.stage)) m.0.parts) Idle, [])
+  put_back history m =
+      (hand m.0.start (made_also (gained history m.1 (log_before m.0.stage)) m.0.parts) Idle, [])
 
   abbrev pub passed_on : (T → List Made) → Step T → Seated T → ℕ → Seated T → Type 0
   passed_on history s m found n = n ≡ put_back history m

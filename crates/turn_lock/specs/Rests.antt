@@ -1,13 +1,9 @@
 -- A pass between two calls.
-use Rattle.std.specs.Prelude.{◌≡◌, ℕ, List, [], ◌∷◌}
+use Rattle.std.specs.Prelude.{◌≡◌, ℕ, [], ◌∷◌}
 use Rattle.atomic_table.specs.Table.{Me}
 use Rattle.turn_lock.specs.declared.hand.Hand.{Hand}
 use Rattle.turn_lock.specs.declared.hand.Stage.TheVariants.{Idle}
-use Rattle.turn_lock.specs.Turns.{Part}
-
-abbrev pub entries_made : List Part → List (List ℕ)
-entries_made [] = []
-entries_made (p ∷ ps) = p.1
+use Rattle.turn_lock.specs.History.{entries_made}
 
 -- no call is in flight, nothing is out with the seat, and it stands for the one pass of this number
 abbrev pub Rests : {T : Type 0} → Me T (Hand T) → ℕ → Type 0

@@ -1,6 +1,7 @@
 -- The rule of a lock: what is true of its words, its slot and its hands between any two steps.
 -- Word 0 is the ticket word and word 1 the serving word. The lock has one slot, in which the value lies.
-use Rattle.std.specs.Prelude.{◌≡◌, ℕ, zero, suc, ◌+◌, ◌%◌, ◌^◌, ◌<◌, ◌≤◌, ◌==◌, ◌⊎◌, if◌then◌else◌, List, [], ◌∷◌, map, length, IfSome, Some, None}
+use Rattle.std.specs.Prelude.{◌≡◌, ℕ, zero, suc, ◌+◌, ◌%◌, ◌^◌, ◌<◌, ◌≤◌, ◌==◌, ◌⊎◌, if◌then◌else◌}
+use Rattle.std.specs.Prelude.{List, [], ◌∷◌, length, sum_by, IfSome, Some, None}
 use Rattle.std.specs.Prelude as std
 use mathlib.Core.Option.{Option, some, none}
 use lib.ListN.{get_elem?}
@@ -8,11 +9,7 @@ use Rattle.atomic_table.specs.Table.{State}
 use Rattle.turn_lock.specs.declared.hand.Hand.{Hand}
 use Rattle.turn_lock.specs.declared.hand.Stage.{Stage}
 use Rattle.turn_lock.specs.declared.hand.Stage.TheVariants.{Idle, Waiting, Turn}
-use Rattle.turn_lock.specs.History.{Made, entries_of}
-
--- a pass: its number, and the entries of its changes
-abbrev pub Part : Type 0
-Part = ℕ × List (List ℕ)
+use Rattle.turn_lock.specs.History.{Made, Part, entries_of}
 
 abbrev pub numbers_of : List Part → List ℕ
 numbers_of [] = []
@@ -39,10 +36,6 @@ abbrev pub times : ℕ → List ℕ → ℕ
 times x [] = 0
 times x (y ∷ ys) = (if y == x then 1 else 0) + times x ys
 
-abbrev pub total : {A : Type 0} → (A → ℕ) → List A → ℕ
-total f [] = 0
-total f (x ∷ xs) = f x + total f xs
-
 abbrev pub absent : {A : Type 0} → Option A → ℕ
 absent none = 1
 absent (some x) = 0
@@ -56,13 +49,13 @@ module _ {T : Type 0} where
 
   -- how often a number stands in the lists that the hands have
   abbrev pub often : (Hand T → List ℕ) → ℕ → List (Hand T) → ℕ
-  often f x views = total (λ v. times x (f v)) views
+  often f x views = sum_by (λ v. times x (f v)) views
 
   abbrev pub in_flight : List (Hand T) → ℕ
-  in_flight views = total (λ v. length (tickets v)) views
+  in_flight views = sum_by (λ v. length (tickets v)) views
 
   abbrev pub pass_total : List (Hand T) → ℕ
-  pass_total views = total (λ v. length v.parts) views
+  pass_total views = sum_by (λ v. length v.parts) views
 
   abbrev pub hand : std.Option T → List Part → Stage → Hand T
   hand start parts stage = record { start = start; parts = parts; stage = stage }
@@ -85,7 +78,7 @@ InStage served log parts (Waiting t) = parts ≡ 1
 InStage served log parts (Turn t seen) = (parts ≡ 1) × (t ≡ served) × (seen ≡ log)
 
 module _ {T G : Type 0} (history : T → List Made) (ground_at : T → G) (start : T) where
-  -- what a hand has agrees with the lock: the value at the start, what its passes made, and the stage of its call
+  -- what a hand has agrees with the lock: the value at the start, what its passes made, and its call's stage
   pub record Fits (served : ℕ) (log : List Made) (v : Hand T) : Type 0 where
     pub knows : IfSome v.start (λ x. x ≡ start)
     pub made : AllMade log v.parts
@@ -96,7 +89,8 @@ module _ {T G : Type 0} (history : T → List Made) (ground_at : T → G) (start
   AtHome log none = Unit {0}
   AtHome log (some y) = (history y ≡ log) × (ground_at y ≡ ground_at start)
 
-  -- `served` calls are over, and `flight` have a ticket. `log` is the history, and `home` is the value unless it is out
+  -- `served` calls are over, and `flight` have a ticket. `log` is the history, and `home` is the value unless
+  -- it is out
   pub record Turns (count : ℕ) (s : State T (Hand T)) : Type 0 where
     pub served : ℕ
     pub flight : ℕ
@@ -107,7 +101,7 @@ module _ {T G : Type 0} (history : T → List Made) (ground_at : T → G) (start
     pub slot : s.homes ≡ home ∷ []
     pub value : AtHome log home
     -- the value is out with one hand, or with none
-    pub gone : total (λ v. out_with v.stage) s.views ≡ absent home
+    pub gone : sum_by (λ v. out_with v.stage) s.views ≡ absent home
     pub busy : in_flight s.views ≡ flight
     -- each ticket from the one served to below the next is had once, and no other is had
     pub given : (n : ℕ) → served ≤ n → n < served + flight → often tickets n s.views ≡ 1

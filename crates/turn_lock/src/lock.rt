@@ -1,5 +1,7 @@
 //! The lock and its passes.
-ghost use Rattle.std.specs.Prelude.{◌≡◌, ◌≢◌, ℕ, ◌+◌, ◌%◌, ◌^◌, ◌<◌, ◌≤◌, [], ◌∷◌, ◌++◌, List, length, map, sum_by, All, EachIndex, IfOk, IfErr, IfSome, Any, None, OnOk, OnErr, MatchResult, Some, slice_get};
+ghost use Rattle.std.specs.Prelude.{◌≡◌, ◌≢◌, ℕ, ◌+◌, ◌%◌, ◌^◌, ◌<◌, ◌≤◌, [], ◌∷◌, ◌++◌, List, length, map};
+ghost use Rattle.std.specs.Prelude.{sum_by, All, EachIndex, IfOk, IfErr, IfSome, Any, None, OnOk, OnErr};
+ghost use Rattle.std.specs.Prelude.{MatchResult, Some, slice_get};
 ghost use Rattle.turn_lock.specs.History.{entries_of};
 ghost use Rattle.turn_lock.specs.Rests.{Rests};
 
@@ -25,13 +27,16 @@ const VALUE: usize = 0;
 // Between two looks a waiter spins in so many rounds, and then yields up to this round.
 const SPINS: u32 = 10;
 
-const YIELDS: u32 = 32;
+const YIELDS: u32 = 64;
 
-// How long it sleeps in each later round, where the same ticket is still served.
-const SLEEP_MICROS: u64 = 500;
+// How long it sleeps in the round after that, where the same ticket is still served. Each later sleep is
+// twice as long, up to so many doublings.
+const FIRST_SLEEP_MICROS: u64 = 50;
+
+const DOUBLINGS: u32 = 4;
 
 // How often a call gives way to others before it draws its ticket.
-const PATIENCE: u32 = 4096;
+const PATIENCE: u32 = 2048;
 
 /// The right to change the value under a lock, for one thread at a time. It has a number of its own.
 #[derive(Drop)]
@@ -49,9 +54,11 @@ pub struct TurnLock<T: Kept + Drop> {
 }
 
 impl<T: Kept + Drop> TurnLock<T> {
-    ghost use Rattle.turn_lock.specs.Passes.{IsPassOf, AreAllPasses, AreFresh, number, made, opened_with, pass_count, parts_of};
+    ghost use Rattle.turn_lock.specs.Passes.{IsPassOf, AreAllPasses, AreFresh, number, made, opened_with};
+    ghost use Rattle.turn_lock.specs.Passes.{pass_count, parts_of};
     ghost use Rattle.turn_lock.specs.Turns.{hand, first_hand, blank};
-    ghost use Rattle.turn_lock.specs.Plays.{at_stage, ticket_of, TookValue, HasTurn, Extends, changes, put_back};
+    ghost use Rattle.turn_lock.specs.Plays.{at_stage, ticket_of, TookValue, HasTurn, Extends, changes};
+    ghost use Rattle.turn_lock.specs.Plays.{put_back};
     ghost use Rattle.turn_lock.specs.declared.hand.Stage.TheVariants.{Idle, Waiting, Turn};
 
     /// A lock over `value`, and its passes, of which the pass k has number k.
@@ -149,7 +156,8 @@ impl<T: Kept + Drop> TurnLock<T> {
     // Waits until the ticket is served, and takes the value out.
     fn wait(&self, rt: &impl Wait, seat: &mut Seat<T, Hand<T>>, ticket: u64)
         requires seat { seat.old.table_id ≡ self.now.table.shared.table_id }
-        requires waits { (seat.old.me.0.stage ≡ Waiting (ticket_of seat.old.me.0.stage)) × (seat.old.me.1 ≡ []) }
+        requires waits { (seat.old.me.0.stage ≡ Waiting (ticket_of seat.old.me.0.stage))
+            × (seat.old.me.1 ≡ []) }
         requires drawn { ticket ≡ ticket_of seat.old.me.0.stage % 2 ^ 64 }
         ensures seat { seat.new.table_id ≡ seat.old.table_id }
         ensures took { TookValue T.history_of T.ground_of seat.old.me seat.new.me }
@@ -233,8 +241,8 @@ impl<T: Kept + Drop> TurnLock<T> {
         self.table.shared.load_new_seat::<Enter>(SERVING).1
     }
 
-    // Spins at first, twice as long each time, later lets other threads run, and at last sleeps a
-    // little while the same ticket is served.
+    // Spins at first, twice as long each time, later lets other threads run, and at last sleeps while the
+    // same ticket is served, a little while at first and longer each time.
     fn pause(&self, rt: &impl Wait, round: u32, serving: u64) {
         if round < SPINS {
             spin(1 << round);
@@ -242,7 +250,8 @@ impl<T: Kept + Drop> TurnLock<T> {
             yield_now();
         } else {
             let low = (serving & 0xffff_ffff) as u32;
-            let sleep = Duration::from_micros(SLEEP_MICROS);
+            let doublings = (round - YIELDS).min(DOUBLINGS);
+            let sleep = Duration::from_micros(FIRST_SLEEP_MICROS << doublings);
             self.table.shared.park_timeout(rt, SERVING, low, sleep);
         }
     }

@@ -9,6 +9,7 @@ use std::marker::Model;
 use std::sync::Wait;
 use std::thread;
 use std::thread::Threads;
+use std::time::{Clock, Duration};
 
 /// The amounts so far, each with the pass that added it.
 #[derive(Drop)]
@@ -96,29 +97,58 @@ fn changes_stand_in_their_order(rt: HostRuntime) {
     );
 }
 
-// Adds the numbers below `count`, in order.
-fn count_up(
-    rt: &impl Wait,
+/// A change that rests before it adds its amount.
+#[derive(Drop)]
+struct AddAfter<'a, C: Clock> {
+    clock: &'a C,
+    rest: Duration,
+    amount: u64,
+}
+
+impl<'a, C: Clock> Change<Amounts> for AddAfter<'a, C> {
+    ghost entry = { λ c. c.amount ∷ [] };
+
+    ghost suits = { λ _ _. Unit {0} };
+
+    ghost refused = { λ before after. after ≡ before };
+
+    fn apply(&mut self, number: u32, value: &mut Amounts) -> Result<(), NoMemory> {
+        thread::sleep(self.clock, self.rest);
+        value.added.push((number, self.amount))?;
+        Ok(())
+    }
+}
+
+// Adds the numbers below `count`, in order, each after a rest.
+fn count_up<R: Wait + Clock>(
+    rt: &R,
     lock: &TurnLock<Amounts>,
     mut pass: Pass<Amounts>,
     count: u64,
+    rest: Duration,
 ) -> Result<Pass<Amounts>, NoMemory>
     requires { IsPassOf lock.now pass }
     ensures { IfOk result (λ p. IsPassOf lock.now p) }
 {
     for amount in 0..count {
-        lock.change(rt, &mut pass, &mut Add(amount))?;
+        let mut change = AddAfter {
+            clock: rt,
+            rest,
+            amount,
+        };
+        lock.change(rt, &mut pass, &mut change)?;
     }
     Ok(pass)
 }
 
 // Counts up with each pass, in a thread of its own.
-fn count_in_threads<R: Threads + Wait + Sync>(
+fn count_in_threads<R: Threads + Wait + Clock + Sync>(
     rt: &R,
     alloc: Global,
     lock: &TurnLock<Amounts>,
     passes: Vec<Pass<Amounts>>,
     count: u64,
+    rest: Duration,
 ) -> Result<Vec<Pass<Amounts>>, NoMemory>
     requires { AreAllPasses lock.now passes.items }
     ensures { IfOk result (λ v. AreAllPasses lock.now v.items) }
@@ -129,7 +159,7 @@ fn count_in_threads<R: Threads + Wait + Sync>(
         &|pass: Pass<Amounts>| -> Result<Pass<Amounts>, NoMemory>
             requires { IsPassOf lock.now pass }
             ensures { IfOk result (λ p. IsPassOf lock.entry.now p) }
-        { count_up(rt, lock, pass, count) },
+        { count_up(rt, lock, pass, count, rest) },
     )?;
     taken_back(alloc, lock, results)
 }
@@ -171,7 +201,9 @@ fn threads_add_each_in_its_order(rt: HostRuntime) {
         added: Vec::new(rt.alloc()),
     };
     let (lock, passes) = TurnLock::new(rt.alloc(), empty, 8).expect(&rt, "memory");
-    let passes = count_in_threads(&rt, rt.alloc(), &lock, passes, 1000).expect(&rt, "memory");
+    let passes = count_in_threads(&rt, rt.alloc(), &lock, passes, 1000, Duration::ZERO).expect(
+        &rt, "memory",
+    );
     let amounts = lock.close(passes);
     assert_eq!(rt; amounts.added.len(), 8000);
     let mut sum: u64 = 0;
@@ -182,6 +214,24 @@ fn threads_add_each_in_its_order(rt: HostRuntime) {
     for number in 0..8 {
         assert!(rt;
             counts_up(amounts.added.as_slice(), number, 1000),
+            "pass {number}"
+        );
+    }
+}
+
+// While one change takes two seconds, two more wait: they look again, and sleep no longer than it takes.
+#[test]
+fn waiters_look_again_after_long_turns(rt: HostRuntime) {
+    let empty = Amounts {
+        added: Vec::new(rt.alloc()),
+    };
+    let (lock, passes) = TurnLock::new(rt.alloc(), empty, 3).expect(&rt, "memory");
+    let rest = Duration::from_secs(2);
+    let passes = count_in_threads(&rt, rt.alloc(), &lock, passes, 1, rest).expect(&rt, "memory");
+    let amounts = lock.close(passes);
+    for number in 0..3 {
+        assert!(rt;
+            counts_up(amounts.added.as_slice(), number, 1),
             "pass {number}"
         );
     }

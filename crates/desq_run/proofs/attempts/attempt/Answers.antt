@@ -1,13 +1,56 @@
-use Rattle.desq_run.specs.Commands.{command_said}
-use Rattle.desq_run.proofs.Told.{IfSome-follows}
+use Rattle.std.proofs.Common.{rules, ◌≡◌, refl, map, Err, List, ℕ, string_bytes}
+use Rattle.mine_model.specs.declared.fault.Fault.TheVariants.{NoMemory}
+use Rattle.mine_model.specs.Names.{named_row}
+use Rattle.mine_model.specs.AnswerText.{text_of}
+use Rattle.command_line.specs.Commands.{command_said}
+use Rattle.desq_run.specs.Ends.{Ends, done, no_command, write_fault, no_memory}
 use Rattle.desq_run.proofs.attempts.attempt.Goals as goal
 
-pub returns-clause-attempts : goal.returns-clause-attempts
-returns-clause-attempts g c =
+pub returns-in_err-command-clause-ends : goal.returns-in_err-command-clause-ends
+returns-in_err-command-clause-ends g c =
+    let same : c.from_residual.result ≡ Err NoMemory = search rules in
+    rw same no_memory
+
+pub returns-in-None-clause-ends : goal.returns-in-None-clause-ends
+returns-in-None-clause-ends g c =
+    let usage = rw c.in-None.is at c.in_ok-command.ensures in
+    no_command usage
+
+pub returns-in_err-room-clause-ends : goal.returns-in_err-room-clause-ends
+returns-in_err-room-clause-ends g c =
+    let same : c.from_residual-in_err-room.result ≡ Err NoMemory = search rules in
+    rw same no_memory
+
+pub returns-in-Ok-clause-ends : goal.returns-in-Ok-clause-ends
+returns-in-Ok-clause-ends g c =
+    let is = rw c.in-Some.is at c.in_ok-command.ensures in
+    let mined = c.in_ok-mined.ensures.mined (map string_bytes c.args.words.now) is in
+    done (command_said c.in-Some.command) mined.expression mined.accepted
+
+pub returns-in-Ok-clause-written : goal.returns-in-Ok-clause-written
+returns-in-Ok-clause-written g c = λ input is_input.
+    let is = rw c.in-Some.is at c.in_ok-command.ensures in
+    let mined = c.in_ok-mined.ensures.mined (map string_bytes c.args.words.now) is in
+    let (tree, reads, answer) = mined.answer input is_input in
+    let written = rw c.as_slice.ensures.value at c.in-Ok.ensures.written in (
+      text_of (map (named_row c.in_ok-mined.mined.names) c.in_ok-mined.mined.rows.items),
+      (tree, reads, map (named_row c.in_ok-mined.mined.names) c.in_ok-mined.mined.rows.items, answer, refl),
+      written,
+    )
+
+pub returns-clause-ends : goal.returns-clause-ends
+returns-clause-ends g c =
+    let is = rw c.in-Some.is at c.in_ok-command.ensures in
+    let mined = c.in_ok-mined.ensures.mined (map string_bytes c.args.words.now) is in
+    write_fault (command_said c.in-Some.command) mined.expression mined.accepted
+
+pub returns-clause-cut : goal.returns-clause-cut
+returns-clause-cut g c = λ same input is_input.
+    let is = rw c.in-Some.is at c.in_ok-command.ensures in
+    let mined = c.in_ok-mined.ensures.mined (map string_bytes c.args.words.now) is in
+    let (tree, reads, answer) = mined.answer input is_input in
     let cut = rw c.as_slice.ensures.value at c.in-Err.ensures.cut in (
-      command_said c.in-Some.command,
-      c.in-Some.ensures,
-      c.in_ok-text.ensures.mines.0,
-      c.in-Err.ensures.failed,
-      IfSome-follows _ _ (g.F.Files.holds c.args.files.now c.in-Some.command.file.now) (λ bytes accepts. (c.in_ok-text.text.items, accepts, cut)) c.in_ok-text.ensures.mines.1,
+      text_of (map (named_row c.in_ok-mined.mined.names) c.in_ok-mined.mined.rows.items),
+      (tree, reads, map (named_row c.in_ok-mined.mined.names) c.in_ok-mined.mined.rows.items, answer, refl),
+      cut,
     )

@@ -1,53 +1,65 @@
-use Rattle.std.proofs.Common.{map, string_bytes, Global}
+use Rattle.std.proofs.Common.{◌≡◌, ◌⊎◌, inl, inr, ◌∙◌, sym, map, List, ℕ, Option, string_bytes, IfSome}
 use Rattle.text_ports.specs.Faults.{Rose}
-use Rattle.desq_run.proofs.RunLemmas.{run_done, run_usage, run_narrow, run_not_built, run_refuses, run_cut, run_complete}
+use Rattle.mine_model.specs.Status.{fault_status}
+use Rattle.desq_run.specs.Ends.{Input, IsInput, IsAccepted, IsAnswerText}
+use Rattle.desq_run.proofs.EndLemmas.{usage-ended, ended-usage, ended-expression, refusal-ended, ended-refusal, ended-accepted, accepted-ended, if-done, if-unread, if-unwritten}
 use Rattle.desq_run.proofs.running.run.Goals as goal
 
 pub returns-clause-done : goal.returns-clause-done
-returns-clause-done g c =
-    rw c.status-status.ensures
-    (run_done (map (string_bytes {Z = Global}) c.args.words.now) (g.F.Files.holds c.args.files.now)
-    (Rose (g.F.Files.faults c.args.files.now) (g.F.Files.faults c.attempt-outcome.new.files)) (Rose (g.O.Sink.faults c.args.out.now) (g.O.Sink.faults c.attempt-outcome.new.out))
-    (g.O.Sink.written c.args.out.now) (g.O.Sink.written c.attempt-outcome.new.out) c.attempt-outcome.result c.attempt-outcome.ensures.attempts)
+returns-clause-done g c = λ zero_status input is.
+    let status = sym c.status-status.ensures ∙ zero_status in (
+      accepted-ended (map string_bytes c.args.words.now) (g.F.Files.holds c.args.files.now) input is c.attempt-outcome.result c.attempt-outcome.ensures.ends (inl status),
+      if-done c.attempt-outcome.result _ c.attempt-outcome.ensures.written status input is,
+    )
 
 pub returns-clause-usage : goal.returns-clause-usage
-returns-clause-usage g c =
-    rw c.status-status.ensures
-    (run_usage (map (string_bytes {Z = Global}) c.args.words.now) (g.F.Files.holds c.args.files.now)
-    (Rose (g.F.Files.faults c.args.files.now) (g.F.Files.faults c.attempt-outcome.new.files)) (Rose (g.O.Sink.faults c.args.out.now) (g.O.Sink.faults c.attempt-outcome.new.out))
-    (g.O.Sink.written c.args.out.now) (g.O.Sink.written c.attempt-outcome.new.out) c.attempt-outcome.result c.attempt-outcome.ensures.attempts)
+returns-clause-usage g c = λ two.
+    usage-ended (map string_bytes c.args.words.now) (g.F.Files.holds c.args.files.now) c.attempt-outcome.result c.attempt-outcome.ensures.ends (sym c.status-status.ensures ∙ two)
 
-pub returns-clause-not_narrow : goal.returns-clause-not_narrow
-returns-clause-not_narrow g c =
+pub returns-clause-refuses_words : goal.returns-clause-refuses_words
+returns-clause-refuses_words g c = λ usage.
     rw c.status-status.ensures
-    (run_narrow (map (string_bytes {Z = Global}) c.args.words.now) (g.F.Files.holds c.args.files.now)
-    (Rose (g.F.Files.faults c.args.files.now) (g.F.Files.faults c.attempt-outcome.new.files)) (Rose (g.O.Sink.faults c.args.out.now) (g.O.Sink.faults c.attempt-outcome.new.out))
-    (g.O.Sink.written c.args.out.now) (g.O.Sink.written c.attempt-outcome.new.out) c.attempt-outcome.result c.attempt-outcome.ensures.attempts)
+    (ended-usage (map string_bytes c.args.words.now) (g.F.Files.holds c.args.files.now) c.attempt-outcome.result c.attempt-outcome.ensures.ends usage)
 
-pub returns-clause-not_built : goal.returns-clause-not_built
-returns-clause-not_built g c =
+pub returns-clause-refuses_expression : goal.returns-clause-refuses_expression
+returns-clause-refuses_expression g c = λ command fault is refused.
     rw c.status-status.ensures
-    (run_not_built (map (string_bytes {Z = Global}) c.args.words.now) (g.F.Files.holds c.args.files.now)
-    (Rose (g.F.Files.faults c.args.files.now) (g.F.Files.faults c.attempt-outcome.new.files)) (Rose (g.O.Sink.faults c.args.out.now) (g.O.Sink.faults c.attempt-outcome.new.out))
-    (g.O.Sink.written c.args.out.now) (g.O.Sink.written c.attempt-outcome.new.out) c.attempt-outcome.result c.attempt-outcome.ensures.attempts)
+    (ended-expression (map string_bytes c.args.words.now) (g.F.Files.holds c.args.files.now) c.attempt-outcome.result c.attempt-outcome.ensures.ends command fault is refused)
+
+pub returns-clause-refused : goal.returns-clause-refused
+returns-clause-refused g c = λ malformed input is.
+    let status = rw c.status-status.ensures at malformed in
+    rw c.status-status.ensures
+    (refusal-ended (map string_bytes c.args.words.now) (g.F.Files.holds c.args.files.now) input is c.attempt-outcome.result c.attempt-outcome.ensures.ends status)
 
 pub returns-clause-refuses : goal.returns-clause-refuses
-returns-clause-refuses g c =
-    rw c.status-status.ensures
-    (run_refuses (map (string_bytes {Z = Global}) c.args.words.now) (g.F.Files.holds c.args.files.now)
-    (Rose (g.F.Files.faults c.args.files.now) (g.F.Files.faults c.attempt-outcome.new.files)) (Rose (g.O.Sink.faults c.args.out.now) (g.O.Sink.faults c.attempt-outcome.new.out))
-    (g.O.Sink.written c.args.out.now) (g.O.Sink.written c.attempt-outcome.new.out) c.attempt-outcome.result c.attempt-outcome.ensures.attempts)
+returns-clause-refuses g c = λ input fault is refused.
+    let ended = ended-refusal (map string_bytes c.args.words.now) (g.F.Files.holds c.args.files.now) input is c.attempt-outcome.result c.attempt-outcome.ensures.ends fault refused in
+    elim ended [
+      | inl same ↦ inl (c.status-status.ensures ∙ same)
+      | inr other ↦ elim other [
+        | inl memory ↦ inr (inl (c.status-status.ensures ∙ memory))
+        | inr unread ↦ inr (inr (if-unread c.attempt-outcome.result _ c.attempt-outcome.ensures.read_fault unread))
+      ]
+    ]
 
 pub returns-clause-cut : goal.returns-clause-cut
-returns-clause-cut g c =
-    rw c.status-status.ensures
-    (run_cut (map (string_bytes {Z = Global}) c.args.words.now) (g.F.Files.holds c.args.files.now)
-    (Rose (g.F.Files.faults c.args.files.now) (g.F.Files.faults c.attempt-outcome.new.files)) (Rose (g.O.Sink.faults c.args.out.now) (g.O.Sink.faults c.attempt-outcome.new.out))
-    (g.O.Sink.written c.args.out.now) (g.O.Sink.written c.attempt-outcome.new.out) c.attempt-outcome.result c.attempt-outcome.ensures.attempts)
+returns-clause-cut g c = λ six input is.
+    let status = sym c.status-status.ensures ∙ six in (
+      accepted-ended (map string_bytes c.args.words.now) (g.F.Files.holds c.args.files.now) input is c.attempt-outcome.result c.attempt-outcome.ensures.ends (inr status),
+      if-unwritten c.attempt-outcome.result _ c.attempt-outcome.ensures.cut status input is,
+    )
 
 pub returns-clause-complete : goal.returns-clause-complete
-returns-clause-complete g c =
-    rw c.status-status.ensures
-    (run_complete (map (string_bytes {Z = Global}) c.args.words.now) (g.F.Files.holds c.args.files.now)
-    (Rose (g.F.Files.faults c.args.files.now) (g.F.Files.faults c.attempt-outcome.new.files)) (Rose (g.O.Sink.faults c.args.out.now) (g.O.Sink.faults c.attempt-outcome.new.out))
-    (g.O.Sink.written c.args.out.now) (g.O.Sink.written c.attempt-outcome.new.out) c.attempt-outcome.result c.attempt-outcome.ensures.attempts)
+returns-clause-complete g c = λ input is accepted files_clean out_clean.
+    let ended = ended-accepted (map string_bytes c.args.words.now) (g.F.Files.holds c.args.files.now) input is c.attempt-outcome.result c.attempt-outcome.ensures.ends accepted in
+    elim ended [
+      | inl zero_status ↦ inl (c.status-status.ensures ∙ zero_status)
+      | inr other ↦ elim other [
+        | inl unread ↦ absurd (files_clean (if-unread c.attempt-outcome.result _ c.attempt-outcome.ensures.read_fault unread))
+        | inr further ↦ elim further [
+          | inl unwritten ↦ absurd (out_clean (if-unwritten c.attempt-outcome.result _ c.attempt-outcome.ensures.write_fault unwritten))
+          | inr memory ↦ inr (c.status-status.ensures ∙ memory)
+        ]
+      ]
+    ]

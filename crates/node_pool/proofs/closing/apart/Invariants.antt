@@ -8,5 +8,5 @@ invariant-seats g l = record {
   seen : l.yielded ++ into_iter_items l.seat-iterator ≡ l.fn.seats.items;
   count : into_iter_len l.seat-iterator ≡ length (into_iter_items l.seat-iterator);
   owners : l.owners.items ≡ map (λ s. s.owner) l.yielded;
-  rows : l.rows.items ≡ map (λ s. s.reaches) l.yielded;
+  rows : l.rows.items ≡ map (λ s. s.ways) l.yielded;
 }

@@ -25,5 +25,5 @@ tasks-smaller g c = emptying_falls g.T.Task.label_of g.T.Task.ground_of (worker_
 pub returns-clause-balance : goal.returns-clause-balance
 returns-clause-balance g c = emptying_ends g.T.Task.label_of g.T.Task.ground_of (worker_view c.args.owner) (worker_view c.tasks.owner) c.args.left.now.items c.tasks.left.items c.tasks.invariant (c.in_default.ensures.rule.1 c.tasks.invariant.parts)
 
-pub returns-clause-home : goal.returns-clause-home
-returns-clause-home g c = c.tasks.invariant.tasks
+pub returns-clause-ground : goal.returns-clause-ground
+returns-clause-ground g c = c.tasks.invariant.tasks

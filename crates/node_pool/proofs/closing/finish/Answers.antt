@@ -1,10 +1,10 @@
 use Rattle.std.proofs.Common.{◌≡◌, length, arith, rules, All, map, ◌++◌, flat_map, sum_by, List, ℕ, ◌+◌, Some}
 use Rattle.mine_model.specs.Labels.{SameLabels}
 use Rattle.node_pool.specs.Closing.{given_weight, got_weight}
-use Rattle.node_pool.specs.Pool.{given, got, home_of}
-use Rattle.node_pool.proofs.Kept.{first_home}
+use Rattle.node_pool.specs.Pool.{given, got, seat_ground}
+use Rattle.node_pool.proofs.Kept.{first_ground}
 use Rattle.node_pool.proofs.Opened.{ok_then}
-use Rattle.node_pool.proofs.Finishing.{can_gather, have_own, balances, homes}
+use Rattle.node_pool.proofs.Finishing.{can_gather, have_own, balances, grounds}
 use Rattle.node_pool.proofs.closing.finish.Goals as goal
 
 pub gather-requires-send-T : goal.gather-requires-send-T
@@ -23,11 +23,11 @@ returns-clause-balance g c = ok_then c.remains.result
     c.gather.ensures.given c.gather.ensures.got balance)
     c.remains.ensures.balance
 
-pub returns-clause-home : goal.returns-clause-home
-returns-clause-home g c =
+pub returns-clause-ground : goal.returns-clause-ground
+returns-clause-ground g c =
     let count : length c.gather.new.owners.items ≡ length c.in_ok-owners.owners.items = omega (arith, c.gather.ensures.count, c.gather.new.owners.ok.0, c.in_ok-owners.owners.ok.0) in
     ok_then c.remains.result
-    (λ left. All (λ t. Some (g.T.Task.ground_of t) ≡ first_home c.gather.new.owners.items) left.items)
-    (λ left. All (λ t. All (λ s. home_of s ≡ Some (g.T.Task.ground_of t)) c.args.seats.items) left.items)
-    (λ left all. homes g.T.Task.ground_of c.args.seats.items c.in_ok-owners.owners.items c.gather.new.owners.items left.items c.requires c.in_ok-owners.ensures.owners count c.gather.ensures.parts all)
-    c.remains.ensures.home
+    (λ left. All (λ t. Some (g.T.Task.ground_of t) ≡ first_ground c.gather.new.owners.items) left.items)
+    (λ left. All (λ t. All (λ s. seat_ground s ≡ Some (g.T.Task.ground_of t)) c.args.seats.items) left.items)
+    (λ left all. grounds g.T.Task.ground_of c.args.seats.items c.in_ok-owners.owners.items c.gather.new.owners.items left.items c.requires c.in_ok-owners.ensures.owners count c.gather.ensures.parts all)
+    c.remains.ensures.ground

@@ -12,5 +12,5 @@ pub rows-preserved : goal.rows-preserved
 rows-preserved g c = record {
   deques = c.in_ok-ways.ensures.same ∙ c.rows.invariant.deques;
   fresh = c.in_ok-ways.ensures.left;
-  rows = rw c.in_ok-push.ensures.items (rows_next g.home _ _ _ _ c.rows.invariant.rows (c.in_ok-ways.ensures.pool ∙ c.rows.invariant.deques) c.in_ok-ways.ensures.ways);
+  rows = rw c.in_ok-push.ensures.items (rows_next g.known_ground _ _ _ _ c.rows.invariant.rows (c.in_ok-ways.ensures.pool ∙ c.rows.invariant.deques) c.in_ok-ways.ensures.ways);
 }

@@ -1,5 +1,5 @@
-use Rattle.patex_parser.proofs.Reading.{read_all}
+use Rattle.patex_parser.proofs.ScanLemmas.{scanned-all}
 use Rattle.patex_parser.proofs.scan.scan.Goals as goal
 
-pub returns-clause-scanned : goal.returns-clause-scanned
-returns-clause-scanned c = read_all _ _ _ _ c.loop-at-test.false c.loop-at.invariant
+pub returns-clause-ok : goal.returns-clause-ok
+returns-clause-ok c = scanned-all c.args.text.now c.loop-at.at _ _ c.loop-at-test.false c.loop-at.invariant

@@ -1,6 +1,6 @@
 use Rattle.std.proofs.Common.{arith}
 use Rattle.node_pool.proofs.Steps.{steals, takes, finds}
-use Rattle.node_pool.proofs.Ways.{took_home, took_alone, own_within}
+use Rattle.node_pool.proofs.Ways.{took_ground, took_alone, own_within}
 use Rattle.node_pool.proofs.seat.Seat.take.Goals as goal
 
 pub pop_as-task-requires-clause-fifo : goal.pop_as-task-requires-clause-fifo
@@ -13,10 +13,10 @@ pub pop_as-task-requires-clause-empty : goal.pop_as-task-requires-clause-empty
 pop_as-task-requires-clause-empty g c = finds g.T.Task.label_of g.T.Task.ground_of _ _
 
 pub noted-self-requires : goal.noted-self-requires
-noted-self-requires g c = omega (arith, c.args.self.now.few, own_within c.args.self.now.number _ c.args.self.now.reaches.items c.args.self.now.own)
+noted-self-requires g c = omega (arith, c.args.self.now.few, own_within c.args.self.now.number _ c.args.self.now.ways.items c.args.self.now.own)
 
-pub returns-clause-home : goal.returns-clause-home
-returns-clause-home g c = took_home g.T.Task.label_of g.T.Task.ground_of _ _ _ _ c.pop_as-task.ensures.rule
+pub returns-clause-ground : goal.returns-clause-ground
+returns-clause-ground g c = took_ground g.T.Task.label_of g.T.Task.ground_of _ _ _ _ c.pop_as-task.ensures.rule
 
 pub returns-clause-alone : goal.returns-clause-alone
-returns-clause-alone g c = took_alone g.T.Task.label_of g.T.Task.ground_of _ _ _ _ _ _ c.pop_as-task.ensures.rule c.args.self.now.rights (own_within c.args.self.now.number _ c.args.self.now.reaches.items c.args.self.now.own) c.args.self.now.parts
+returns-clause-alone g c = took_alone g.T.Task.label_of g.T.Task.ground_of _ _ _ _ _ _ c.pop_as-task.ensures.rule c.args.self.now.rights (own_within c.args.self.now.number _ c.args.self.now.ways.items c.args.self.now.own) c.args.self.now.parts

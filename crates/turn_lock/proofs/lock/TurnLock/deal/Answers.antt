@@ -1,6 +1,7 @@
 use Rattle.std.proofs.Common.{◌∙◌, ap, sym, subst, refl, arith}
+use Rattle.turn_lock.specs.History.{entries_made}
 use Rattle.turn_lock.specs.Passes.{IsPassOf}
-use Rattle.turn_lock.specs.Rests.{Rests, entries_made}
+use Rattle.turn_lock.specs.Rests.{Rests}
 use Rattle.turn_lock.proofs.Ends.{cuts, dealt_rest, dealt_pass, all_more, longer_by_one, fresh_more}
 use Rattle.turn_lock.proofs.lock.TurnLock.deal.Goals as goal
 

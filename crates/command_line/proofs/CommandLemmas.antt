@@ -1,0 +1,11 @@
+-- What words say is one thing: a command, and no other, or none.
+use Rattle.std.proofs.Common.{◌≡◌, rules, inl, inr, List}
+use Rattle.clap.specs.Words.{Text}
+use Rattle.command_line.specs.Words.{Command, IsCommand, IsUsage}
+
+pub IsCommand-unique : (words : List Text) (first second : Command) → IsCommand words first → IsCommand words second → first ≡ second
+IsCommand-unique words first second a b = search rules
+
+pub IsUsage-excludes : (words : List Text) (command : Command) → IsUsage words → IsCommand words command → ⊥
+IsUsage-excludes words command (inl refused) is = refused is.taken
+IsUsage-excludes words command (inr broken) is = broken is.rules

@@ -1,0 +1,7 @@
+pub mod CommandLemmas
+pub mod Adding
+pub mod Needed
+pub mod PlainWordLemmas
+pub mod PlainDigits
+pub mod PlainCommand
+pub mod Examples

@@ -1,0 +1,8 @@
+use Rattle.mine_model.specs.Limits.{most_support}
+use Rattle.command_line.proofs.PlainCommand.{plain_says}
+use Rattle.command_line.proofs.PlainDigits.{number_is_plain}
+use Rattle.command_line.proofs.laws.plain_words_say.Goals as goal
+
+pub returns : goal.returns
+returns c digits expression file n number plain_expression plain_file =
+    plain_says digits (number_is_plain 1 most_support digits n number) expression file n number plain_expression plain_file

@@ -1,0 +1,7 @@
+-- the words of the promise
+pub mod Options
+pub mod Words
+pub mod Commands
+pub mod PlainWords
+-- what the proofs keep
+pub mod Arguments

@@ -1,0 +1,23 @@
+-- Plain words, which are no options whatever the options are, and the command that they say.
+use Rattle.std.specs.Prelude.{◌≡◌, ◌⊎◌, ◌==◌, ℕ, Bool, false, None, codes}
+use Rattle.mine_model.specs.Bytes.{dash}
+use Rattle.mine_model.specs.Tokens.{BeginsOtherwise}
+use Rattle.clap.specs.Words.{Text}
+use Rattle.command_line.specs.Words.{Command}
+
+abbrev pub is_dash : ℕ → Bool
+is_dash b = b == dash
+
+-- a dash alone, or a word that does not begin with one
+abbrev pub IsPlainWord : Text → Type 0
+IsPlainWord word = (word ≡ codes "-") ⊎ BeginsOtherwise is_dash word
+
+-- the command of these values, where no other option is given
+abbrev pub plain_command : ℕ → Text → Text → Command
+plain_command threshold expression file = record {
+  threshold = threshold;
+  expression = expression;
+  file = file;
+  hierarchy = None;
+  weighted = false;
+}

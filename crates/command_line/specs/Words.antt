@@ -1,0 +1,63 @@
+-- What the words of a command say: what clap finds in them, and the rules beyond clap's.
+use Rattle.std.specs.Prelude.{◌≡◌, ◌≢◌, ◌↔◌, ◌⊎◌, ℕ, ◌≤◌, Bool, true, List, [], codes, Option, Some, IsSome, IsTrue}
+use Rattle.mine_model.specs.Limits.{most_support}
+use Rattle.mine_model.specs.Tokens.{Each, is_digit}
+use Rattle.mine_model.specs.Grammar.{value_of_digits}
+use Rattle.clap.specs.Words.{Row, Text, first_of}
+use Rattle.command_line.specs.Options.{faults, rows}
+
+-- what the words of a command say
+pub record Command : Type 0 where
+  pub threshold : ℕ
+  pub expression : Text
+  pub file : Text
+  pub hierarchy : Option Text
+  pub weighted : Bool
+
+-- one or more decimal digits, leading zeros allowed, of a number in this range
+pub record IsNumber (least most : ℕ) (digits : Text) (n : ℕ) : Type 0 where
+  pub some : digits ≢ []
+  pub are_digits : Each is_digit true digits
+  pub value : value_of_digits digits ≡ n
+  pub from_least : least ≤ n
+  pub to_most : n ≤ most
+
+-- the option that stands alone was given
+abbrev pub IsGiven : List Row → Text → Type 0
+IsGiven found name = first_of name found ≡ Some (codes "true")
+
+-- this support was given
+abbrev pub GivesSupport : List Row → ℕ → Type 0
+GivesSupport found n =
+    (digits : Text) × (first_of (codes "support") found ≡ Some digits) × IsNumber 1 most_support digits n
+
+-- the rules beyond clap's, a line each: the support is a number in its range, FILE is there
+pub record KeepsRules (found : List Row) : Type 0 where
+  pub support : (n : ℕ) × GivesSupport found n
+  pub file : IsSome (first_of (codes "file") found)
+
+-- the values that were found say this command, a line for each argument
+pub record Says (found : List Row) (command : Command) : Type 0 where
+  pub support : GivesSupport found command.threshold
+  pub expression : first_of (codes "expression") found ≡ Some command.expression
+  pub file : first_of (codes "file") found ≡ Some command.file
+  pub hierarchy : first_of (codes "hierarchy") found ≡ command.hierarchy
+  pub weighted : IsTrue command.weighted ↔ IsGiven found (codes "weighted")
+
+-- the words say this command: clap takes them, and what it finds in them keeps the rules and says it
+pub record IsCommand (words : List Text) (command : Command) : Type 0 where
+  pub taken : faults words ≡ []
+  pub rules : KeepsRules (rows words)
+  pub says : Says (rows words) command
+
+-- the words say no command: clap refuses them, or what it finds in them breaks a rule
+abbrev pub IsUsage : List Text → Type 0
+IsUsage words = (faults words ≢ []) ⊎ (KeepsRules (rows words) → ⊥)
+
+-- the command names this file
+abbrev pub NamesFile : Command → Text → Type 0
+NamesFile command name = (command.file ≡ name) ⊎ (command.hierarchy ≡ Some name)
+
+-- the words name this file
+abbrev pub Names : List Text → Text → Type 0
+Names words name = (command : Command) × IsCommand words command × NamesFile command name

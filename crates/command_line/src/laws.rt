@@ -1,0 +1,33 @@
+//! Laws over the definitions. Each is the contract of a function that does nothing.
+
+ghost use Rattle.std.specs.Prelude.{◌≡◌, ℕ, List, [], ◌∷◌, codes};
+ghost use Rattle.clap.specs.Words.{Text};
+ghost use Rattle.mine_model.specs.Limits.{most_support};
+ghost use Rattle.command_line.specs.Words.{Command, IsCommand, IsNumber, IsUsage};
+ghost use Rattle.command_line.specs.PlainWords.{IsPlainWord, plain_command};
+
+/// Words say at most one command.
+pub fn at_most_one_command()
+    ensures { (words : List Text) (first second : Command) → IsCommand words first
+        → IsCommand words second → first ≡ second }
+{}
+
+/// Words that are usage say no command.
+pub fn usage_says_no_command()
+    ensures { (words : List Text) (command : Command) → IsUsage words → IsCommand words command → ⊥ }
+{}
+
+/// What `--support DIGITS EXPRESSION FILE` says, where neither word begins with a dash.
+pub fn plain_words_say()
+    ensures { (digits expression file : Text) (n : ℕ) → IsNumber 1 most_support digits n
+        → IsPlainWord expression → IsPlainWord file
+        → IsCommand (codes "--support" ∷ digits ∷ expression ∷ file ∷ [])
+        (plain_command n expression file) }
+{}
+
+/// What `--support DIGITS -- EXPRESSION FILE` says: behind `--` each word is taken as it is.
+pub fn words_behind_dashes_say()
+    ensures { (digits expression file : Text) (n : ℕ) → IsNumber 1 most_support digits n
+        → IsCommand (codes "--support" ∷ digits ∷ codes "--" ∷ expression ∷ file ∷ [])
+        (plain_command n expression file) }
+{}

@@ -1,0 +1,15 @@
+//! The words of a command, read by `clap` as one simple command, and the rules beyond clap's.
+#![tactic(auto)]
+
+mod laws;
+mod number;
+mod options;
+mod words;
+
+pub use laws::{
+    at_most_one_command, plain_words_say, usage_says_no_command, words_behind_dashes_say,
+};
+pub use words::{Command, read_words};
+
+#[cfg(test)]
+mod tests;

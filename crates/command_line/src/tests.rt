@@ -1,0 +1,127 @@
+use super::{Command, read_words};
+use std::alloc::Global;
+use std::test::Fail;
+
+/// The command that the words say, which stand with one blank between them.
+fn read(alloc: Global, text: &str) -> Result<Option<Command>, Fail> {
+    let mut words = Vec::new(alloc);
+    for word in text.split(' ') {
+        words.push(String::from_str(alloc, word)?)?;
+    }
+    Ok(read_words(alloc, words.as_slice())?)
+}
+
+/// Whether the words say this support, expression and file, and no other option.
+fn says(
+    alloc: Global,
+    text: &str,
+    support: u64,
+    expression: &str,
+    file: &str,
+) -> Result<bool, Fail> {
+    match read(alloc, text)? {
+        Some(command) => Ok(
+            command.support == support
+                && command.expression.as_str() == expression
+                && command.file.as_str() == file
+                && command.hierarchy.is_none()
+                && !command.weighted,
+        ),
+        None => Ok(false),
+    }
+}
+
+#[test]
+fn words_in_any_order_are_a_command(rt: HostRuntime) -> Result<(), Fail> {
+    for (text, expression, file) in [
+        ("--support 2 (a) f", "(a)", "f"),
+        ("(a) f --support 2", "(a)", "f"),
+        ("(a) --support 2 f", "(a)", "f"),
+        ("--support=2 (a) f", "(a)", "f"),
+        ("--support 2 -- -a f", "-a", "f"),
+        ("--support 2 -- (a) -", "(a)", "-"),
+        ("--support 2 (a) -", "(a)", "-"),
+        ("--support 2  f", "", "f"),
+    ] {
+        assert!(rt; says(rt.alloc(), text, 2, expression, file)?);
+    }
+    Ok(())
+}
+
+#[test]
+fn support_is_in_its_range(rt: HostRuntime) -> Result<(), Fail> {
+    for (text, support) in [
+        ("--support 1 (a) f", 1),
+        (
+            "--support 1000000000000000000 (a) f",
+            1_000_000_000_000_000_000,
+        ),
+        (
+            "--support 000000000000000000000000000000000000000002 (a) f",
+            2,
+        ),
+    ] {
+        assert!(rt; says(rt.alloc(), text, support, "(a)", "f")?);
+    }
+    for text in [
+        "--support 0 (a) f",
+        "--support 000 (a) f",
+        "--support 1000000000000000001 (a) f",
+        "--support 18446744073709551618 (a) f",
+        "--support 99999999999999999999999999999999999999999999 (a) f",
+        "--support x (a) f",
+        "--support 2x (a) f",
+        "--support +2 (a) f",
+        "--support= (a) f",
+        "--support  (a) f",
+    ] {
+        assert!(rt; read(rt.alloc(), text)?.is_none());
+    }
+    Ok(())
+}
+
+#[test]
+fn options_are_read(rt: HostRuntime) -> Result<(), Fail> {
+    match read(rt.alloc(), "--weighted (a) --hierarchy h --support 2 f")? {
+        Some(command) => {
+            assert_eq!(rt; command.support, 2);
+            assert_eq!(rt; command.expression.as_str(), "(a)");
+            assert_eq!(rt; command.file.as_str(), "f");
+            assert!(rt; command.weighted);
+            match &command.hierarchy {
+                Some(name) => assert_eq!(rt; name.as_str(), "h"),
+                None => assert!(rt; false),
+            }
+        }
+        None => assert!(rt; false),
+    }
+    Ok(())
+}
+
+#[test]
+fn other_words_are_usage(rt: HostRuntime) -> Result<(), Fail> {
+    let none: Vec<String> = Vec::new(rt.alloc());
+    assert!(rt; read_words(rt.alloc(), none.as_slice())?.is_none());
+    for text in [
+        "--help",
+        "-h",
+        "--version",
+        "--support 2",
+        "(a) f",
+        "--support 2 (a)",
+        "--support 2 (a) f g",
+        "--support 2 --support 2 (a) f",
+        "--sup 2 (a) f",
+        "(a) f --support",
+        "--support -1 (a) f",
+        "--support 2 -a f",
+        "--support 2 --other (a) f",
+        "--support 2 --hierarchy h --hierarchy h (a) f",
+        "--support 2 (a) f --hierarchy",
+        "--support 2 --weighted --weighted (a) f",
+        "--support 2 --weighted=true (a) f",
+    ] {
+        assert!(rt; read(rt.alloc(), text)?.is_none());
+    }
+    Ok(())
+}

@@ -1,0 +1,108 @@
+//! From the words to the command that they say.
+
+ghost use Rattle.std.specs.Prelude.{◌≡◌, ◌↔◌, ℕ, List, Some, IsTrue, IfOk, MatchOption, map, option_map, string_bytes, codes};
+ghost use Rattle.clap.specs.Words.{first_of, found_of, rows_of};
+ghost use Rattle.command_line.specs.Words.{GivesSupport, IsGiven, KeepsRules, Says, IsCommand, IsUsage};
+ghost use Rattle.command_line.specs.Arguments.{HasNeeded};
+ghost use Rattle.command_line.specs.Commands.{command_said};
+
+use super::number::read_number;
+use super::options::taken;
+use clap::ArgMatches;
+use mine_model::NoMemory;
+use std::alloc::Global;
+
+/// The greatest support that may be asked for.
+const MOST_SUPPORT: u64 = 1_000_000_000_000_000_000;
+
+/// What the words of a command say.
+#[derive(Debug, Drop)]
+pub struct Command {
+    /// The least support of a pattern of the answer, 1 to 1,000,000,000,000,000,000.
+    pub support: u64,
+    /// The pattern expression, as it was given. It may be empty.
+    pub expression: String,
+    /// The name of the file of sequences, `-` for standard input.
+    pub file: String,
+    /// The name of the file of the hierarchy, `-` for standard input.
+    pub hierarchy: Option<String>,
+    /// Whether the first field of each line of the sequences is its weight.
+    pub weighted: bool,
+}
+
+/// The value that was given for an argument.
+fn given<'a>(matches: &ArgMatches<'a>, name: &str) -> Option<&'a str>
+    ensures { option_map (λ s. s.now) result ≡ first_of name.now (rows_of (found_of matches.now)) }
+{
+    matches.get_str(name)
+}
+
+/// The value that was given for an argument, as a text of its own.
+fn given_text(
+    alloc: Global,
+    matches: &ArgMatches<'_>,
+    name: &str,
+) -> Result<Option<String>, NoMemory>
+    ensures { IfOk result (λ text.
+        option_map string_bytes text ≡ first_of name.now (rows_of (found_of matches.now))) }
+{
+    match given(matches, name) {
+        Some(text) => Ok(Some(String::from_str(alloc, text)?)),
+        None => Ok(None),
+    }
+}
+
+/// Whether an option that stands alone was given.
+fn is_given(matches: &ArgMatches<'_>, name: &str) -> bool
+    ensures { IsTrue result ↔ IsGiven (rows_of (found_of matches.now)) name.now }
+{
+    given(matches, name) == Some("true")
+}
+
+/// The support that was given. None where none was, or the value is no support.
+fn given_support(matches: &ArgMatches<'_>) -> Option<u64>
+    ensures { MatchOption result
+        ((n : ℕ) → GivesSupport (rows_of (found_of matches.now)) n → ⊥)
+        (λ n. GivesSupport (rows_of (found_of matches.now)) n) }
+{
+    match given(matches, "support") {
+        Some(digits) => read_number(digits.as_bytes(), 1, MOST_SUPPORT),
+        None => None,
+    }
+}
+
+/// The command that the values say. None where they break a rule.
+fn said(alloc: Global, matches: &ArgMatches<'_>) -> Result<Option<Command>, NoMemory>
+    requires { HasNeeded (rows_of (found_of matches.now)) }
+    ensures { IfOk result (λ said. MatchOption said
+        (KeepsRules (rows_of (found_of matches.now)) → ⊥)
+        (λ command. KeepsRules (rows_of (found_of matches.now))
+        × Says (rows_of (found_of matches.now)) (command_said command))) }
+{
+    let support = match given_support(matches) {
+        Some(support) => support,
+        None => return Ok(None),
+    };
+    let file = match given_text(alloc, matches, "file")? {
+        Some(file) => file,
+        None => return Ok(None),
+    };
+    Ok(Some(Command {
+        support,
+        expression: given_text(alloc, matches, "expression")?.unwrap(),
+        file,
+        hierarchy: given_text(alloc, matches, "hierarchy")?,
+        weighted: is_given(matches, "weighted"),
+    }))
+}
+
+/// The command that the words say, which come without the program's name. None where they say none.
+pub fn read_words(alloc: Global, words: &[String]) -> Result<Option<Command>, NoMemory>
+    ensures { IfOk result (λ read. MatchOption read (IsUsage (map string_bytes words.now))
+        (λ command. IsCommand (map string_bytes words.now) (command_said command))) }
+{
+    match taken(alloc, words)? {
+        Some(matches) => said(alloc, &matches),
+        None => Ok(None),
+    }
+}

@@ -1,0 +1,368 @@
+-- How a run ends, from what its parts answer; and what follows from how it ended.
+use Rattle.std.proofs.Common.{◌≡◌, ◌⊎◌, inl, inr, ◌↔◌, ℕ, ◌≤◌, Bool, List, [], ◌∷◌, ◌++◌, Option, Some, None, IfSome, Result, Ok, Err, OnOk, Contains, refl, sym, ap, ◌∙◌, subst, arith}
+use Rattle.mine_model.specs.declared.item.Item.{Item}
+use Rattle.mine_model.specs.declared.fault.Fault.{Fault}
+use Rattle.mine_model.specs.declared.fault.Fault.TheVariants.{Usage, BadToken, BadRepeat, Unexpected, Unknown, BadByte, BadWeight, Cycle, ExprTooLong, RepeatLimit, TooDeep, TooManyLeaves, TooLarge, NameTooLong, TooManyItems, TooManyAncestors, TooManySequences, SequenceTooLong, Read, Write, NoMemory}
+use Rattle.mine_model.specs.declared.fault.Which.{Which}
+use Rattle.mine_model.specs.Text.{lines_of}
+use Rattle.mine_model.specs.Expression.{Tree, named_in}
+use Rattle.mine_model.specs.Grammar.{Use, ReadsAs}
+use Rattle.mine_model.specs.Support.{Sequence}
+use Rattle.mine_model.specs.Ancestry.{Ancestry}
+use Rattle.mine_model.specs.First.{FirstOf, FirstAmong}
+use Rattle.mine_model.specs.Refusal.{IsExpressionRefusal, IsHierarchyRefusal, IsSequencesRefusal, IsUnknown, names_of, items_of, sequences_of}
+use Rattle.mine_model.specs.Status.{fault_status, status_of}
+use Rattle.mine_model.proofs.ListLemmas.{Contains-first, Contains-other}
+use Rattle.mine_model.proofs.FirstLemmas.{AtMostOne, FirstOf-unique, FirstAmong-unique}
+use Rattle.mine_model.proofs.RefusalLemmas.{ReadsAs-unique, IsExpressionRefusal-unique}
+use Rattle.command_line.specs.Words.{Command, IsCommand, IsUsage}
+use Rattle.command_line.proofs.CommandLemmas.{IsCommand-unique, IsUsage-excludes}
+use Rattle.desq_run.specs.Ends.{Input, IsInput, bytes_named, hierarchy_names, known_names, IsFirstRefusal, IsAccepted, HasExpression, NamesKind, IsOfKind, IsOfFiles, Ends, done, no_command, refused_expression, refused_file, read_fault, write_fault, no_memory}
+use Rattle.desq_run.specs.Inputs.{IsHierarchyOf, IsDatabaseOf}
+use Rattle.desq_run.proofs.LinkLemmas.{Contains-both, Contains-front, Contains-back}
+use Rattle.desq_run.proofs.SameRefusals.{HoldSame, RefuseAlike, sequences-alike, unknown-alike}
+use Rattle.desq_run.proofs.UniqueRefusals.{hierarchy-unique, sequences-unique}
+
+pub IfSome-at : {T : Type 0} (P : T → Type 0) (o : Option T) (t : T) → IfSome o P → o ≡ Some t → P t
+IfSome-at P o t p same = let q : IfSome (Some t) P = subst (λ o. IfSome o P) same p in q
+
+-- an expression is malformed or beyond a limit
+pub expression-status : (text : List ℕ) (fault : Fault) → IsExpressionRefusal text fault → (fault_status fault ≡ 3) ⊎ (fault_status fault ≡ 4)
+expression-status text fault (inl p) = inr (ap fault_status p.1)
+expression-status text fault (inr (a, inl p)) = inl (ap fault_status p.2)
+expression-status text fault (inr (a, inr (b, inl p))) = inl (ap fault_status p.4)
+expression-status text fault (inr (a, inr (b, inr (c, inl p)))) = inr (ap fault_status p.4)
+expression-status text fault (inr (a, inr (b, inr (c, inr (d, inl p))))) = inl (ap fault_status p.4)
+expression-status text fault (inr (a, inr (b, inr (c, inr (d, inr (e, inl p)))))) = inr (ap fault_status p.4)
+expression-status text fault (inr (a, inr (b, inr (c, inr (d, inr (e, inr (g, p))))))) = inr (ap fault_status p.5)
+
+-- an unknown name is that of a use
+pub unknown-use : (known : List (List ℕ)) (before uses : List Use) (fault : Fault)
+    → FirstAmong (λ before u fault. (Contains known u.name → ⊥) × (fault ≡ Unknown u.column)) before uses fault
+    → (u : Use) × Contains uses u × (fault ≡ Unknown u.column)
+unknown-use known before [] fault none = absurd none
+unknown-use known before (u ∷ uses) fault (inl p) = (u, Contains-first u uses, p.1)
+unknown-use known before (u ∷ uses) fault (inr p) =
+    let (v, inside, same) = unknown-use known (before ++ u ∷ []) uses fault p.1 in (v, Contains-other u uses v inside, same)
+
+kind-status : (kind : Which) (fault : Fault) → IsOfKind kind fault → (fault_status fault ≡ 3) ⊎ (fault_status fault ≡ 4)
+kind-status kind Usage none = absurd none
+kind-status kind (BadToken column) none = absurd none
+kind-status kind (BadRepeat column) none = absurd none
+kind-status kind (Unexpected column) none = absurd none
+kind-status kind (Unknown column) none = absurd none
+kind-status kind (BadByte file line column) is = inl refl
+kind-status kind (BadWeight line column) is = inl refl
+kind-status kind (Cycle line) is = inl refl
+kind-status kind ExprTooLong none = absurd none
+kind-status kind (RepeatLimit column) none = absurd none
+kind-status kind (TooDeep column) none = absurd none
+kind-status kind (TooManyLeaves count) none = absurd none
+kind-status kind (TooLarge file) is = inr refl
+kind-status kind (NameTooLong file line column) is = inr refl
+kind-status kind (TooManyItems file line) is = inr refl
+kind-status kind TooManyAncestors is = inr refl
+kind-status kind (TooManySequences line) is = inr refl
+kind-status kind (SequenceTooLong line) is = inr refl
+kind-status kind (Read file) none = absurd none
+kind-status kind Write none = absurd none
+kind-status kind NoMemory none = absurd none
+
+-- a fault of the files is malformed or beyond a limit
+pub files-status : (c : Command) (fault : Fault) → IsOfFiles c fault → (fault_status fault ≡ 3) ⊎ (fault_status fault ≡ 4)
+files-status c fault (inl (kind, named, of_kind)) = kind-status kind fault of_kind
+files-status c fault (inr (tree, reads, u, inside, same)) = inl (ap fault_status same)
+
+-- there is at most one first refusal
+pub first-unique : (input : Input) → AtMostOne (IsFirstRefusal input)
+first-unique input =
+    FirstOf-unique _ _ (IsExpressionRefusal-unique input.command.expression)
+    (FirstOf-unique _ _ (hierarchy-unique input.hierarchy)
+    (FirstOf-unique _ _ (sequences-unique input.command.weighted (hierarchy_names input) input.sequences)
+    (λ f g p q.
+    let same : p.0 ≡ q.0 = ReadsAs-unique input.command.expression p.0 q.0 p.1 q.1 in
+    FirstAmong-unique _ (λ before u j k r s. r.1 ∙ sym s.1) [] (named_in q.0) f g
+    (subst (λ t. IsUnknown (known_names input) (named_in t) f) same p.2) q.2)))
+
+module _ (words : List (List ℕ)) (holds : List ℕ → Option (List ℕ)) (c : Command) (has : HasExpression words c) where
+  pub same_command : (input : Input) → IsInput words holds input → c ≡ input.command
+  same_command input is = IsCommand-unique words c input.command has.0 is.said
+
+  -- the expression of the input is not refused
+  no_expression : (input : Input) → IsInput words holds input → (fault : Fault) → IsExpressionRefusal input.command.expression fault → ⊥
+  no_expression input is = subst (λ (d : Command). (fault : Fault) → IsExpressionRefusal d.expression fault → ⊥) (same_command input is) has.1
+
+  hierarchy_at : (input : Input) → IsInput words holds input → bytes_named holds c.hierarchy ≡ Some input.hierarchy
+  hierarchy_at input is = ap (λ (d : Command). bytes_named holds d.hierarchy) (same_command input is) ∙ is.hierarchy
+
+  sequences_at : (input : Input) → IsInput words holds input → holds c.file ≡ Some input.sequences
+  sequences_at input is = ap (λ (d : Command). holds d.file) (same_command input is) ∙ is.sequences
+
+  pub hierarchy-refused : (fault : Fault) → IfSome (bytes_named holds c.hierarchy) (λ bytes. IsHierarchyRefusal bytes fault)
+      → IsOfFiles c fault → Ends words holds (Err fault)
+  hierarchy-refused fault refused of_files = refused_file c fault has
+      (λ input is. inr (
+        no_expression input is,
+        inl (IfSome-at (λ bytes. IsHierarchyRefusal bytes fault) (bytes_named holds c.hierarchy) input.hierarchy refused (hierarchy_at input is)),
+      )) of_files
+
+  module _ (known : List (List ℕ)) (h : Ancestry) (read : IfSome (bytes_named holds c.hierarchy) (λ bytes. IsHierarchyOf bytes known h)) where
+    pub read_at : (input : Input) → IsInput words holds input → IsHierarchyOf input.hierarchy known h
+    read_at input is = IfSome-at (λ bytes. IsHierarchyOf bytes known h) (bytes_named holds c.hierarchy) input.hierarchy read (hierarchy_at input is)
+
+    known_same : (input : Input) → IsInput words holds input → HoldSame known (hierarchy_names input)
+    known_same input is = (read_at input is).held
+
+    pub sequences-refused : (fault : Fault) → IfSome (holds c.file) (λ bytes. IsSequencesRefusal c.weighted known bytes fault)
+        → IsOfFiles c fault → Ends words holds (Err fault)
+    sequences-refused fault refused of_files = refused_file c fault has
+        (λ input is. inr (
+          no_expression input is,
+          inr (
+            (read_at input is).accepted,
+            inl (
+                let here : IsSequencesRefusal c.weighted known input.sequences fault =
+                IfSome-at (λ bytes. IsSequencesRefusal c.weighted known bytes fault) (holds c.file) input.sequences refused (sequences_at input is) in
+                let there : IsSequencesRefusal input.command.weighted known input.sequences fault =
+                subst (λ (d : Command). IsSequencesRefusal d.weighted known input.sequences fault) (same_command input is) here in
+                (sequences-alike input.command.weighted known (hierarchy_names input) input.sequences (known_same input is) fault).0 there),
+          ),
+        )) of_files
+
+    module _ (names : List (List ℕ)) (db : List (Sequence Item)) (found : IfSome (holds c.file) (λ bytes. IsDatabaseOf c.weighted bytes known names db)) where
+      pub found_at : (input : Input) → IsInput words holds input → IsDatabaseOf input.command.weighted input.sequences known names db
+      found_at input is = subst (λ (d : Command). IsDatabaseOf d.weighted input.sequences known names db) (same_command input is)
+          (IfSome-at (λ bytes. IsDatabaseOf c.weighted bytes known names db) (holds c.file) input.sequences found (sequences_at input is))
+
+      no_sequences : (input : Input) → IsInput words holds input → (fault : Fault)
+          → IsSequencesRefusal input.command.weighted (hierarchy_names input) input.sequences fault → ⊥
+      no_sequences input is fault refused = (found_at input is).accepted fault
+          ((sequences-alike input.command.weighted known (hierarchy_names input) input.sequences (known_same input is) fault).1 refused)
+
+      names_same : (input : Input) → IsInput words holds input → HoldSame names (known_names input)
+      names_same input is name = (
+        (λ inside. elim (((found_at input is).held name).0 inside) [
+          | inl front ↦ Contains-front (hierarchy_names input) _ name ((known_same input is name).0 front)
+          | inr back ↦ Contains-back (hierarchy_names input) _ name back
+        ]),
+        (λ inside. ((found_at input is).held name).1 (elim (Contains-both (hierarchy_names input) _ name inside) [
+          | inl front ↦ inl ((known_same input is name).1 front)
+          | inr back ↦ inr back
+        ])),
+      )
+
+      module _ (tree : Tree Use) (reads : ReadsAs c.expression tree) where
+        pub reads_at : (input : Input) → IsInput words holds input → ReadsAs input.command.expression tree
+        reads_at input is = subst (λ (d : Command). ReadsAs d.expression tree) (same_command input is) reads
+
+        pub unknown-refused : (fault : Fault) → IsUnknown names (named_in tree) fault → Ends words holds (Err fault)
+        unknown-refused fault unknown = refused_file c fault has
+            (λ input is. inr (
+              no_expression input is,
+              inr (
+                (read_at input is).accepted,
+                inr (
+                  no_sequences input is,
+                  (tree, reads_at input is, (unknown-alike names (known_names input) (named_in tree) (names_same input is) fault).0 unknown),
+                ),
+              ),
+            ))
+            (let (u, inside, same) = unknown-use names [] (named_in tree) fault unknown in inr (tree, reads, u, inside, same))
+
+        -- where no name is unknown nothing is refused
+        pub nothing-refused : ((fault : Fault) → IsUnknown names (named_in tree) fault → ⊥)
+            → (input : Input) → IsInput words holds input → IsAccepted input
+        nothing-refused known_all input is fault (inl p) = no_expression input is fault p
+        nothing-refused known_all input is fault (inr (a, inl p)) = (read_at input is).accepted fault p
+        nothing-refused known_all input is fault (inr (a, inr (b, inl p))) = no_sequences input is fault p
+        nothing-refused known_all input is fault (inr (a, inr (b, inr (d, (other, reads', unknown))))) =
+            let same : other ≡ tree = ReadsAs-unique input.command.expression other tree reads' (reads_at input is) in
+            known_all fault ((unknown-alike names (known_names input) (named_in tree) (names_same input is) fault).1
+            (subst (λ t. IsUnknown (known_names input) (named_in t) fault) same unknown))
+
+-- What follows from how a run ended
+
+other_status : (s n : ℕ) → (s ≡ 3) ⊎ (s ≡ 4) → s ≡ n → (n ≡ 3 → ⊥) → (n ≡ 4 → ⊥) → ⊥
+other_status s n (inl three) same not_three not_four = not_three (sym same ∙ three)
+other_status s n (inr four) same not_three not_four = not_four (sym same ∙ four)
+
+module _ (words : List (List ℕ)) (holds : List ℕ → Option (List ℕ)) where
+  pub usage-ended : (outcome : Result (Unit {0}) Fault) → Ends words holds outcome → status_of outcome ≡ 2 → IsUsage words
+  usage-ended _ (done c has accepted) status = absurd (omega (arith, status))
+  usage-ended _ (no_command usage) status = usage
+  usage-ended _ (refused_expression c fault is refused) status =
+      absurd (other_status (fault_status fault) 2 (expression-status c.expression fault refused) status (λ e. omega (arith, e)) (λ e. omega (arith, e)))
+  usage-ended _ (refused_file c fault has refused malformed) status =
+      absurd (other_status (fault_status fault) 2 (files-status c fault malformed) status (λ e. omega (arith, e)) (λ e. omega (arith, e)))
+  usage-ended _ (read_fault c file has names) status = absurd (omega (arith, status))
+  usage-ended _ (write_fault c has accepted) status = absurd (omega (arith, status))
+  usage-ended _ no_memory status = absurd (omega (arith, status))
+
+  -- words of no command end so, unless memory ran out
+  pub ended-usage : (outcome : Result (Unit {0}) Fault) → Ends words holds outcome → IsUsage words → (status_of outcome ≡ 2) ⊎ (status_of outcome ≡ 7)
+  ended-usage _ (done c has accepted) usage = absurd (IsUsage-excludes words c usage has.0)
+  ended-usage _ (no_command is) usage = inl refl
+  ended-usage _ (refused_expression c fault is refused) usage = absurd (IsUsage-excludes words c usage is)
+  ended-usage _ (refused_file c fault has refused malformed) usage = absurd (IsUsage-excludes words c usage has.0)
+  ended-usage _ (read_fault c file has names) usage = absurd (IsUsage-excludes words c usage has.0)
+  ended-usage _ (write_fault c has accepted) usage = absurd (IsUsage-excludes words c usage has.0)
+  ended-usage _ no_memory usage = inr refl
+
+  -- a command whose expression is refused ends so, unless memory ran out
+  pub ended-expression : (outcome : Result (Unit {0}) Fault) → Ends words holds outcome → (c : Command) (fault : Fault) → IsCommand words c
+      → IsExpressionRefusal c.expression fault → (status_of outcome ≡ fault_status fault) ⊎ (status_of outcome ≡ 7)
+  ended-expression _ ended c fault is refused = by _ ended
+    where
+      contradicts : (d : Command) → HasExpression words d → ⊥
+      contradicts d has = has.1 fault (subst (λ (e : Command). IsExpressionRefusal e.expression fault) (IsCommand-unique words c d is has.0) refused)
+
+      by : (outcome : Result (Unit {0}) Fault) → Ends words holds outcome → (status_of outcome ≡ fault_status fault) ⊎ (status_of outcome ≡ 7)
+      by _ (done d has accepted) = absurd (contradicts d has)
+      by _ (no_command usage) = absurd (IsUsage-excludes words c usage is)
+      by _ (refused_expression d other is_d refused_d) =
+          let here : IsExpressionRefusal d.expression fault = subst (λ (e : Command). IsExpressionRefusal e.expression fault) (IsCommand-unique words c d is is_d) refused in
+          inl (ap fault_status (IsExpressionRefusal-unique d.expression other fault refused_d here))
+      by _ (refused_file d other has refused_d malformed) = absurd (contradicts d has)
+      by _ (read_fault d file has names) = absurd (contradicts d has)
+      by _ (write_fault d has accepted) = absurd (contradicts d has)
+      by _ no_memory = inr refl
+
+  module _ (input : Input) (is : IsInput words holds input) where
+    -- what is malformed or beyond a limit is the first refusal
+    pub refusal-ended : (outcome : Result (Unit {0}) Fault) → Ends words holds outcome → (status_of outcome ≡ 3) ⊎ (status_of outcome ≡ 4)
+        → (fault : Fault) × IsFirstRefusal input fault × (fault_status fault ≡ status_of outcome)
+    refusal-ended _ (done c has accepted) (inl e) = absurd (omega (arith, e))
+    refusal-ended _ (done c has accepted) (inr e) = absurd (omega (arith, e))
+    refusal-ended _ (no_command usage) (inl e) = absurd (omega (arith, e))
+    refusal-ended _ (no_command usage) (inr e) = absurd (omega (arith, e))
+    refusal-ended _ (refused_expression c fault is_c refused) status =
+        (fault, inl (subst (λ (d : Command). IsExpressionRefusal d.expression fault) (IsCommand-unique words c input.command is_c is.said) refused), refl)
+    refusal-ended _ (refused_file c fault has refused malformed) status = (fault, refused input is, refl)
+    refusal-ended _ (read_fault c file has names) (inl e) = absurd (omega (arith, e))
+    refusal-ended _ (read_fault c file has names) (inr e) = absurd (omega (arith, e))
+    refusal-ended _ (write_fault c has accepted) (inl e) = absurd (omega (arith, e))
+    refusal-ended _ (write_fault c has accepted) (inr e) = absurd (omega (arith, e))
+    refusal-ended _ no_memory (inl e) = absurd (omega (arith, e))
+    refusal-ended _ no_memory (inr e) = absurd (omega (arith, e))
+
+    -- the first refusal ends the run, unless memory ran out or a fault of reading came
+    pub ended-refusal : (outcome : Result (Unit {0}) Fault) → Ends words holds outcome → (fault : Fault) → IsFirstRefusal input fault
+        → (status_of outcome ≡ fault_status fault) ⊎ (status_of outcome ≡ 7) ⊎ (status_of outcome ≡ 5)
+    ended-refusal _ (done c has accepted) fault refused = absurd (accepted input is fault refused)
+    ended-refusal _ (no_command usage) fault refused = absurd (IsUsage-excludes words input.command usage is.said)
+    ended-refusal _ (refused_expression c other is_c refused_c) fault refused =
+        let here : IsFirstRefusal input other =
+        inl (subst (λ (d : Command). IsExpressionRefusal d.expression other) (IsCommand-unique words c input.command is_c is.said) refused_c) in
+        inl (ap fault_status (first-unique input other fault here refused))
+    ended-refusal _ (refused_file c other has refused_c malformed) fault refused =
+        inl (ap fault_status (first-unique input other fault (refused_c input is) refused))
+    ended-refusal _ (read_fault c file has names) fault refused = inr (inr refl)
+    ended-refusal _ (write_fault c has accepted) fault refused = absurd (accepted input is fault refused)
+    ended-refusal _ no_memory fault refused = inr (inl refl)
+
+    -- where nothing is refused the run is done, or a fault of reading or writing came, or memory ran out
+    pub ended-accepted : (outcome : Result (Unit {0}) Fault) → Ends words holds outcome → IsAccepted input
+        → (status_of outcome ≡ 0) ⊎ (status_of outcome ≡ 5) ⊎ (status_of outcome ≡ 6) ⊎ (status_of outcome ≡ 7)
+    ended-accepted _ (done c has accepted) all = inl refl
+    ended-accepted _ (no_command usage) all = absurd (IsUsage-excludes words input.command usage is.said)
+    ended-accepted _ (refused_expression c fault is_c refused) all =
+        absurd (all fault (inl (subst (λ (d : Command). IsExpressionRefusal d.expression fault) (IsCommand-unique words c input.command is_c is.said) refused)))
+    ended-accepted _ (refused_file c fault has refused malformed) all = absurd (all fault (refused input is))
+    ended-accepted _ (read_fault c file has names) all = inr (inl refl)
+    ended-accepted _ (write_fault c has accepted) all = inr (inr (inl refl))
+    ended-accepted _ no_memory all = inr (inr (inr refl))
+
+-- what holds where a run is done
+pub if-done : (outcome : Result (Unit {0}) Fault) (P : Type 0) → OnOk outcome P → status_of outcome ≡ 0 → P
+if-done (Ok x) P p status = p
+if-done (Err Usage) P p status = absurd (omega (arith, status))
+if-done (Err (BadToken column)) P p status = absurd (omega (arith, status))
+if-done (Err (BadRepeat column)) P p status = absurd (omega (arith, status))
+if-done (Err (Unexpected column)) P p status = absurd (omega (arith, status))
+if-done (Err (Unknown column)) P p status = absurd (omega (arith, status))
+if-done (Err (BadByte file line column)) P p status = absurd (omega (arith, status))
+if-done (Err (BadWeight line column)) P p status = absurd (omega (arith, status))
+if-done (Err (Cycle line)) P p status = absurd (omega (arith, status))
+if-done (Err ExprTooLong) P p status = absurd (omega (arith, status))
+if-done (Err (RepeatLimit column)) P p status = absurd (omega (arith, status))
+if-done (Err (TooDeep column)) P p status = absurd (omega (arith, status))
+if-done (Err (TooManyLeaves count)) P p status = absurd (omega (arith, status))
+if-done (Err (TooLarge file)) P p status = absurd (omega (arith, status))
+if-done (Err (NameTooLong file line column)) P p status = absurd (omega (arith, status))
+if-done (Err (TooManyItems file line)) P p status = absurd (omega (arith, status))
+if-done (Err TooManyAncestors) P p status = absurd (omega (arith, status))
+if-done (Err (TooManySequences line)) P p status = absurd (omega (arith, status))
+if-done (Err (SequenceTooLong line)) P p status = absurd (omega (arith, status))
+if-done (Err (Read file)) P p status = absurd (omega (arith, status))
+if-done (Err Write) P p status = absurd (omega (arith, status))
+if-done (Err NoMemory) P p status = absurd (omega (arith, status))
+
+-- what holds where a file was not read
+pub if-unread : (outcome : Result (Unit {0}) Fault) (P : Type 0) → ((file : Which) → outcome ≡ Err (Read file) → P) → status_of outcome ≡ 5 → P
+if-unread (Ok x) P p status = absurd (omega (arith, status))
+if-unread (Err Usage) P p status = absurd (omega (arith, status))
+if-unread (Err (BadToken column)) P p status = absurd (omega (arith, status))
+if-unread (Err (BadRepeat column)) P p status = absurd (omega (arith, status))
+if-unread (Err (Unexpected column)) P p status = absurd (omega (arith, status))
+if-unread (Err (Unknown column)) P p status = absurd (omega (arith, status))
+if-unread (Err (BadByte file line column)) P p status = absurd (omega (arith, status))
+if-unread (Err (BadWeight line column)) P p status = absurd (omega (arith, status))
+if-unread (Err (Cycle line)) P p status = absurd (omega (arith, status))
+if-unread (Err ExprTooLong) P p status = absurd (omega (arith, status))
+if-unread (Err (RepeatLimit column)) P p status = absurd (omega (arith, status))
+if-unread (Err (TooDeep column)) P p status = absurd (omega (arith, status))
+if-unread (Err (TooManyLeaves count)) P p status = absurd (omega (arith, status))
+if-unread (Err (TooLarge file)) P p status = absurd (omega (arith, status))
+if-unread (Err (NameTooLong file line column)) P p status = absurd (omega (arith, status))
+if-unread (Err (TooManyItems file line)) P p status = absurd (omega (arith, status))
+if-unread (Err TooManyAncestors) P p status = absurd (omega (arith, status))
+if-unread (Err (TooManySequences line)) P p status = absurd (omega (arith, status))
+if-unread (Err (SequenceTooLong line)) P p status = absurd (omega (arith, status))
+if-unread (Err (Read file)) P p status = p file refl
+if-unread (Err Write) P p status = absurd (omega (arith, status))
+if-unread (Err NoMemory) P p status = absurd (omega (arith, status))
+
+-- what holds where the answer was not written
+pub if-unwritten : (outcome : Result (Unit {0}) Fault) (P : Type 0) → (outcome ≡ Err Write → P) → status_of outcome ≡ 6 → P
+if-unwritten (Ok x) P p status = absurd (omega (arith, status))
+if-unwritten (Err Usage) P p status = absurd (omega (arith, status))
+if-unwritten (Err (BadToken column)) P p status = absurd (omega (arith, status))
+if-unwritten (Err (BadRepeat column)) P p status = absurd (omega (arith, status))
+if-unwritten (Err (Unexpected column)) P p status = absurd (omega (arith, status))
+if-unwritten (Err (Unknown column)) P p status = absurd (omega (arith, status))
+if-unwritten (Err (BadByte file line column)) P p status = absurd (omega (arith, status))
+if-unwritten (Err (BadWeight line column)) P p status = absurd (omega (arith, status))
+if-unwritten (Err (Cycle line)) P p status = absurd (omega (arith, status))
+if-unwritten (Err ExprTooLong) P p status = absurd (omega (arith, status))
+if-unwritten (Err (RepeatLimit column)) P p status = absurd (omega (arith, status))
+if-unwritten (Err (TooDeep column)) P p status = absurd (omega (arith, status))
+if-unwritten (Err (TooManyLeaves count)) P p status = absurd (omega (arith, status))
+if-unwritten (Err (TooLarge file)) P p status = absurd (omega (arith, status))
+if-unwritten (Err (NameTooLong file line column)) P p status = absurd (omega (arith, status))
+if-unwritten (Err (TooManyItems file line)) P p status = absurd (omega (arith, status))
+if-unwritten (Err TooManyAncestors) P p status = absurd (omega (arith, status))
+if-unwritten (Err (TooManySequences line)) P p status = absurd (omega (arith, status))
+if-unwritten (Err (SequenceTooLong line)) P p status = absurd (omega (arith, status))
+if-unwritten (Err (Read file)) P p status = absurd (omega (arith, status))
+if-unwritten (Err Write) P p status = p refl
+if-unwritten (Err NoMemory) P p status = absurd (omega (arith, status))
+
+-- where a run is done, or the answer was not written, nothing is refused
+pub accepted-ended : (words : List (List ℕ)) (holds : List ℕ → Option (List ℕ)) (input : Input) → IsInput words holds input
+    → (outcome : Result (Unit {0}) Fault) → Ends words holds outcome → (status_of outcome ≡ 0) ⊎ (status_of outcome ≡ 6) → IsAccepted input
+accepted-ended words holds input is _ (done c has accepted) status = accepted input is
+accepted-ended words holds input is _ (no_command usage) (inl e) = absurd (omega (arith, e))
+accepted-ended words holds input is _ (no_command usage) (inr e) = absurd (omega (arith, e))
+accepted-ended words holds input is _ (refused_expression c fault is_c refused) (inl e) =
+    absurd (other_status (fault_status fault) 0 (expression-status c.expression fault refused) e (λ p. omega (arith, p)) (λ p. omega (arith, p)))
+accepted-ended words holds input is _ (refused_expression c fault is_c refused) (inr e) =
+    absurd (other_status (fault_status fault) 6 (expression-status c.expression fault refused) e (λ p. omega (arith, p)) (λ p. omega (arith, p)))
+accepted-ended words holds input is _ (refused_file c fault has refused of_files) (inl e) =
+    absurd (other_status (fault_status fault) 0 (files-status c fault of_files) e (λ p. omega (arith, p)) (λ p. omega (arith, p)))
+accepted-ended words holds input is _ (refused_file c fault has refused of_files) (inr e) =
+    absurd (other_status (fault_status fault) 6 (files-status c fault of_files) e (λ p. omega (arith, p)) (λ p. omega (arith, p)))
+accepted-ended words holds input is _ (read_fault c file has names) (inl e) = absurd (omega (arith, e))
+accepted-ended words holds input is _ (read_fault c file has names) (inr e) = absurd (omega (arith, e))
+accepted-ended words holds input is _ (write_fault c has accepted) status = accepted input is
+accepted-ended words holds input is _ no_memory (inl e) = absurd (omega (arith, e))
+accepted-ended words holds input is _ no_memory (inr e) = absurd (omega (arith, e))

@@ -1,0 +1,132 @@
+-- How reading a file fails.
+use Rattle.std.proofs.Common.{◌≡◌, ◌≢◌, ◌⊎◌, inl, inr, ℕ, ◌+◌, ◌<◌, ◌≤◌, ◌^◌, ◌-◌, Bool, List, [], Option, Some, None, IfSome, IsSome, IfErr, Result, Ok, Err, true≢false, refl, sym, ap, ◌∙◌, subst, arith}
+use Rattle.text_ports.specs.Faults.{Rose}
+use Rattle.mine_model.specs.declared.fault.Fault.{Fault}
+use Rattle.mine_model.specs.declared.fault.Fault.TheVariants.{Read, Write, NoMemory}
+use Rattle.mine_model.specs.declared.fault.Which.{Which}
+use Rattle.mine_model.specs.declared.fault.Which.TheVariants.{Hierarchy, Sequences}
+use Rattle.mine_model.specs.declared.sequence_fault.SequenceFault.{SequenceFault}
+use Rattle.mine_model.specs.declared.sequence_fault.SequenceFault.TheVariants as sequences
+use Rattle.mine_model.specs.declared.hierarchy_fault.HierarchyFault.{HierarchyFault}
+use Rattle.mine_model.specs.declared.hierarchy_fault.HierarchyFault.TheVariants as hierarchy
+use Rattle.mine_model.specs.declared.hierarchy_fault.CloseFault.{CloseFault}
+use Rattle.mine_model.specs.declared.hierarchy_fault.CloseFault.TheVariants as close
+use Rattle.mine_model.specs.Faults.{fault_of_sequences, fault_of_hierarchy, fault_of_close}
+use Rattle.item_hierarchy.specs.Refusing.{IsReadRefusal}
+use Rattle.mine_model.specs.Refusal.{IsHierarchyRefusal, IsSequencesRefusal}
+use Rattle.mine_model.specs.Status.{fault_status}
+use Rattle.mine_model.specs.Ancestry.{Ancestry}
+use Rattle.command_line.specs.Words.{Command}
+use Rattle.desq_run.specs.Ends.{bytes_named, HasExpression, NamesKind, IsOfKind, Ends}
+use Rattle.desq_run.specs.Ends as ends
+use Rattle.desq_run.specs.Inputs.{FailsBy, refused, failed, no_memory, IsHierarchyOf}
+use Rattle.desq_run.proofs.EndLemmas.{hierarchy-refused, sequences-refused}
+
+-- a refusal of the text and names of a hierarchy file is its first refusal
+whole : (told : Option (List ℕ)) (fault : Fault) → IfSome told (λ bytes. IsReadRefusal [] bytes fault) → IfSome told (λ bytes. IsHierarchyRefusal bytes fault)
+whole None fault is = tt
+whole (Some bytes) fault (inl large) = inl large
+whole (Some bytes) fault (inr (a, among)) = inr (a, inl among)
+
+-- a count that rose later rose
+pub Rose-later : (a b c : ℕ) → a ≤ b → Rose b c → Rose a c
+Rose-later a b c before (inl less) = inl (omega (arith, before, less))
+Rose-later a b c before (inr full) = inr full
+
+module _ (told : Option (List ℕ)) (weighted : Bool) (known : List (List ℕ)) (Faulty : Type 0) where
+  abbrev Fails : Fault → Type 0
+  Fails = FailsBy told (IsSequencesRefusal weighted known) Sequences (Unit {0}) Faulty
+
+  -- how reading the sequences fails
+  pub sequences-fail : (fault : SequenceFault)
+      → (fault ≢ sequences.ReadFault → fault ≢ sequences.NoMemory
+      → IfSome told (λ bytes. IsSequencesRefusal weighted known bytes (fault_of_sequences fault)))
+      → (fault ≡ sequences.ReadFault → Faulty) → Fails (fault_of_sequences fault)
+  sequences-fail sequences.ReadFault refused_by fails = failed tt (fails refl)
+  sequences-fail sequences.TooLarge refused_by fails = refused _ tt (refused_by (λ e. cc) (λ e. cc)) refl
+  sequences-fail (sequences.BadByte line column) refused_by fails = refused _ tt (refused_by (λ e. cc) (λ e. cc)) refl
+  sequences-fail (sequences.NameTooLong line column) refused_by fails = refused _ tt (refused_by (λ e. cc) (λ e. cc)) refl
+  sequences-fail (sequences.TooManySequences line) refused_by fails = refused _ tt (refused_by (λ e. cc) (λ e. cc)) refl
+  sequences-fail (sequences.BadWeight line column) refused_by fails = refused _ tt (refused_by (λ e. cc) (λ e. cc)) refl
+  sequences-fail (sequences.TooLong line) refused_by fails = refused _ tt (refused_by (λ e. cc) (λ e. cc)) refl
+  sequences-fail (sequences.TooManyItems line) refused_by fails = refused _ tt (refused_by (λ e. cc) (λ e. cc)) refl
+  sequences-fail sequences.NoMemory refused_by fails = no_memory
+
+-- no refusal is a fault of reading
+no_read : (kind : Which) (fault : Fault) (file : Which) → IsOfKind kind fault → fault ≡ Read file → ⊥
+no_read kind fault file of_kind same = let none : IsOfKind kind (Read file) = subst (IsOfKind kind) same of_kind in none
+
+memory≢read : (file : Which) → NoMemory ≡ Read file → ⊥
+memory≢read file same = let e : fault_status NoMemory ≡ fault_status (Read file) = ap fault_status same in omega (arith, e)
+
+-- a fault of reading was counted
+pub read-faulty : (told : Option (List ℕ)) (Refused : List ℕ → Fault → Type 0) (kind : Which) (Named Faulty : Type 0) (fault : Fault)
+    → FailsBy told Refused kind Named Faulty fault → (file : Which) → fault ≡ Read file → Faulty
+read-faulty told Refused kind Named Faulty _ (refused fault named is of_kind) file same = absurd (no_read kind fault file of_kind same)
+read-faulty told Refused kind Named Faulty _ (failed named faulty) file same = faulty
+read-faulty told Refused kind Named Faulty _ no_memory file same = absurd (memory≢read file same)
+
+-- no failure of reading is one of writing
+pub no-write : (told : Option (List ℕ)) (Refused : List ℕ → Fault → Type 0) (kind : Which) (Named Faulty : Type 0) (fault : Fault)
+    → FailsBy told Refused kind Named Faulty fault → fault ≡ Write → ⊥
+no-write told Refused kind Named Faulty _ (refused fault named is of_kind) same =
+    let none : IsOfKind kind Write = subst (IsOfKind kind) same of_kind in none
+no-write told Refused kind Named Faulty _ (failed named faulty) same = let e : fault_status (Read kind) ≡ fault_status Write = ap fault_status same in omega (arith, e)
+no-write told Refused kind Named Faulty _ no_memory same = let e : fault_status NoMemory ≡ fault_status Write = ap fault_status same in omega (arith, e)
+
+named-kind : (c : Command) → IsSome c.hierarchy → NamesKind c Hierarchy
+named-kind c some = by c.hierarchy some refl
+  where
+    by : (o : Option (List ℕ)) → IsSome o → c.hierarchy ≡ o → NamesKind c Hierarchy
+    by None none same = absurd (true≢false (sym none))
+    by (Some name) is same = (name, same)
+
+module _ (words : List (List ℕ)) (holds : List ℕ → Option (List ℕ)) (c : Command) (has : HasExpression words c) (Faulty : Type 0) where
+  -- how a run ends where reading the hierarchy fails
+  pub hierarchy-ends : (fault : Fault) → FailsBy (bytes_named holds c.hierarchy) IsHierarchyRefusal Hierarchy (IsSome c.hierarchy) Faulty fault
+      → Ends words holds (Err fault)
+  hierarchy-ends _ (refused fault named is of_kind) =
+      hierarchy-refused words holds c has fault is (inl (Hierarchy, named-kind c named, of_kind))
+  hierarchy-ends _ (failed named faulty) = ends.read_fault c Hierarchy has (named-kind c named)
+  hierarchy-ends _ no_memory = ends.no_memory
+
+  -- how a run ends where reading the sequences fails
+  pub sequences-ends : (known : List (List ℕ)) (h : Ancestry) → IfSome (bytes_named holds c.hierarchy) (λ bytes. IsHierarchyOf bytes known h)
+      → (fault : Fault) → FailsBy (holds c.file) (IsSequencesRefusal c.weighted known) Sequences (Unit {0}) Faulty fault → Ends words holds (Err fault)
+  sequences-ends known h read _ (refused fault named is of_kind) =
+      sequences-refused words holds c has known h read fault is (inl (Sequences, tt, of_kind))
+  sequences-ends known h read _ (failed named faulty) = ends.read_fault c Sequences has tt
+  sequences-ends known h read _ no_memory = ends.no_memory
+
+module _ (told : Option (List ℕ)) (Faulty : Type 0) where
+  abbrev FailsHierarchy : Fault → Type 0
+  FailsHierarchy = FailsBy told IsHierarchyRefusal Hierarchy (Unit {0}) Faulty
+
+  -- how reading the rows of the hierarchy fails
+  pub rows-fail : (fault : HierarchyFault)
+      → (fault ≢ hierarchy.ReadFault → fault ≢ hierarchy.NoMemory → IfSome told (λ bytes. IsReadRefusal [] bytes (fault_of_hierarchy fault)))
+      → (fault ≡ hierarchy.ReadFault → Faulty) → FailsHierarchy (fault_of_hierarchy fault)
+  rows-fail hierarchy.ReadFault refused_by fails = failed tt (fails refl)
+  rows-fail hierarchy.TooLarge refused_by fails = refused _ tt (whole told _ (refused_by (λ e. cc) (λ e. cc))) refl
+  rows-fail (hierarchy.BadByte line column) refused_by fails = refused _ tt (whole told _ (refused_by (λ e. cc) (λ e. cc))) refl
+  rows-fail (hierarchy.NameTooLong line column) refused_by fails = refused _ tt (whole told _ (refused_by (λ e. cc) (λ e. cc))) refl
+  rows-fail (hierarchy.TooManyItems line) refused_by fails = refused _ tt (whole told _ (refused_by (λ e. cc) (λ e. cc))) refl
+  rows-fail hierarchy.NoMemory refused_by fails = no_memory
+
+  -- how closing the rows of the hierarchy fails
+  pub close-fail : (fault : CloseFault) → (fault ≢ close.NoMemory → IfSome told (λ bytes. IsHierarchyRefusal bytes (fault_of_close fault)))
+      → FailsHierarchy (fault_of_close fault)
+  close-fail (close.Cycle line) refused_by = refused _ tt (refused_by (λ e. cc)) refl
+  close-fail close.TooManyAncestors refused_by = refused _ tt (refused_by (λ e. cc)) refl
+  close-fail close.NoMemory refused_by = no_memory
+
+  -- where a file is named
+  pub named-fail : (fault : Fault) → FailsHierarchy fault → (Named : Type 0) → Named → FailsBy told IsHierarchyRefusal Hierarchy Named Faulty fault
+  named-fail _ (refused fault named is of_kind) Named now = refused fault now is of_kind
+  named-fail _ (failed named faulty) Named now = failed now faulty
+  named-fail _ no_memory Named now = no_memory
+
+  pub all-named : {T : Type 0} (r : Result T Fault) → IfErr r FailsHierarchy → (Named : Type 0) → Named
+      → IfErr r (FailsBy told IsHierarchyRefusal Hierarchy Named Faulty)
+  all-named (Ok x) fails Named now = tt
+  all-named (Err fault) fails Named now = named-fail fault fails Named now

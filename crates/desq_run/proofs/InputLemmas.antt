@@ -1,0 +1,50 @@
+-- From what was read and found by numbers to the answer by names.
+use Rattle.std.proofs.Common.{◌≡◌, ℕ, ◌+◌, ◌<◌, ◌≤◌, ◌↔◌, List, [], ◌∷◌, ◌++◌, map, length, All, Contains, sym, ap, ◌∙◌, subst, arith, length-append}
+use Rattle.std.specs.List.{AllByRecursion}
+use Rattle.std.proofs.lemmas.List.Elements.{All-contains}
+use Rattle.mine_model.specs.declared.item.Item.{Item}
+use Rattle.mine_model.specs.declared.row.Row.{Row}
+use Rattle.mine_model.specs.Hierarchy.{Link}
+use Rattle.mine_model.specs.Expression.{Tree, tree_by, named_in}
+use Rattle.mine_model.specs.Grammar.{Use}
+use Rattle.mine_model.specs.Support.{Sequence}
+use Rattle.mine_model.specs.Answer.{Data, NamedRow, Rises, IsAnswer, IsFrequent}
+use Rattle.mine_model.specs.Names.{name_of, HasName, AreDistinct, named_row, sequence_by}
+use Rattle.mine_model.specs.Ancestry.{Ancestry}
+use Rattle.mine_model.specs.Refusal.{links_of, sequences_of}
+use Rattle.mine_model.proofs.ListLemmas.{Contains-first, Contains-other}
+use Rattle.mine_model.proofs.NamedAnswer.{named_data, answer-named}
+use Rattle.desq_run.specs.Ends.{Input, data_of}
+use Rattle.desq_run.specs.Inputs.{IsHierarchyOf, IsDatabaseOf, AreLinksWithin}
+use Rattle.desq_run.proofs.LinkLemmas.{names-rename}
+
+each-contained : {X : Type 0} (P : X → Type 0) (xs : List X) → ((x : X) → Contains xs x → P x) → AllByRecursion P xs
+each-contained P [] each = tt
+each-contained P (x ∷ xs) each = (each x (Contains-first x xs), each-contained P xs (λ y inside. each y (Contains-other x xs y inside)))
+
+-- the rows found by numbers, in order, are the answer by names
+pub rows-answer : (input : Input) (tree : Tree Use) (known added : List (List ℕ)) (h : Ancestry) (db : List (Sequence Item)) (e : Tree Item) (rows : List Row)
+    → AreDistinct (known ++ added)
+    → IsHierarchyOf input.hierarchy known h
+    → AreLinksWithin h
+    → IsDatabaseOf input.command.weighted input.sequences known (known ++ added) db
+    → AllByRecursion (λ (s : Sequence Item). AllByRecursion (HasName (known ++ added)) s.items) db
+    → tree_by (name_of (known ++ added)) e ≡ tree_by (λ (u : Use). u.name) tree
+    → AllByRecursion (HasName (known ++ added)) (named_in e)
+    → 1 ≤ input.command.threshold
+    → ((row : Row) → Contains rows row ↔ IsFrequent (record { links = h.links; sequences = db; expression = e; threshold = input.command.threshold }) row.pattern row.support)
+    → Rises (map (named_row (known ++ added)) rows)
+    → IsAnswer (data_of input tree) (map (named_row (known ++ added)) rows)
+rows-answer input tree known added h db e rows distinct read within is_db numbered same_tree named some frequent rises =
+    let names : List (List ℕ) = known ++ added in
+    let d : Data Item = record { links = h.links; sequences = db; expression = e; threshold = input.command.threshold } in
+    let few : h.items ≤ length names = rw length-append (let items : h.items ≡ length known = read.items in omega (arith, items)) in
+    let links_named : AllByRecursion (λ (link : Link Item). HasName names link.child × HasName names link.parent) h.links =
+    each-contained (λ (link : Link Item). HasName names link.child × HasName names link.parent) h.links (λ link inside.
+    let both = All-contains (λ (l : Link Item). (l.child.0 < h.items) × (l.parent.0 < h.items)) h.links link within inside in
+    (omega (arith, both.0, few), omega (arith, both.1, few))) in
+    let answer : IsAnswer (named_data names (links_of input.hierarchy) d) (map (named_row names) rows) =
+    answer-named names (links_of input.hierarchy) d (names-rename input.hierarchy known added h distinct read within)
+    (record { links = links_named; sequences = numbered; expression = named }) some rows frequent rises in
+    subst (λ (s : List (Sequence (List ℕ))). IsAnswer (record { links = links_of input.hierarchy; sequences = s; expression = tree_by (λ (u : Use). u.name) tree; threshold = input.command.threshold }) (map (named_row names) rows)) is_db.sequences
+    (subst (λ (t : Tree (List ℕ)). IsAnswer (record { links = links_of input.hierarchy; sequences = map (sequence_by (name_of names)) db; expression = t; threshold = input.command.threshold }) (map (named_row names) rows)) same_tree answer)

@@ -1,0 +1,106 @@
+-- The rows that were found, in order, and what they say of the input.
+use Rattle.std.proofs.Common.{◌≡◌, ◌≢◌, ◌⊎◌, inl, inr, ◌↔◌, ℕ, ◌<◌, ◌≤◌, List, [], ◌∷◌, ◌++◌, map, length, take, drop, All, Option, IfSome, IsPermutation, Contains, sym, ap, ◌∙◌, subst, arith}
+use Rattle.std.specs.List.{AllByRecursion}
+use Rattle.std.proofs.lemmas.List.{drop_all, take_all, append-nil}
+use Rattle.std.proofs.lemmas.List.Elements.{All-from_recursion}
+use Rattle.std.proofs.lemmas.List.Sorted.{Contains-permutation, IsPermutation-sym}
+use Rattle.mine_model.specs.declared.item.Item.{Item}
+use Rattle.mine_model.specs.declared.row.Row.{Row}
+use Rattle.mine_model.specs.declared.fault.Fault.{Fault}
+use Rattle.mine_model.specs.Expression.{Tree, tree_by, named_in}
+use Rattle.mine_model.specs.Grammar.{Use, ReadsAs}
+use Rattle.mine_model.specs.Support.{Sequence}
+use Rattle.mine_model.specs.Answer.{IsFrequent, AreFrequent, Rises}
+use Rattle.mine_model.specs.Names.{name_of, HasName, AreDistinct, named_row}
+use Rattle.mine_model.specs.Ancestry.{Ancestry}
+use Rattle.mine_model.specs.Refusal.{IsUnknown}
+use Rattle.command_line.specs.Words.{Command}
+use Rattle.desq_run.specs.Ends.{Input, IsInput, bytes_named, HasExpression}
+use Rattle.desq_run.specs.Inputs.{IsHierarchyOf, IsDatabaseOf, AreLinksWithin, AreInputs, AreRows, AreOrdered, IsMined}
+use Rattle.desq_run.proofs.HierarchyLemmas.{all-of}
+use Rattle.desq_run.proofs.EndLemmas.{same_command, read_at, found_at, reads_at, nothing-refused}
+use Rattle.desq_run.proofs.InputLemmas.{rows-answer}
+
+-- the items of rows have names, where those of a hierarchy have
+pub rows-named : (names : List (List ℕ)) (items : ℕ) (rows : List Row) → items ≡ length names
+    → ((row : Row) → Contains rows row → AllByRecursion (λ (t : Item). t.0 < items) row.pattern)
+    → All (λ (row : Row). All (HasName names) row.pattern) rows
+rows-named names items rows same each =
+    all-of (λ (row : Row). All (HasName names) row.pattern) rows (λ row inside.
+    All-from_recursion (HasName names) row.pattern (subst (λ n. AllByRecursion (λ (t : Item). t.0 < n) row.pattern) same (each row inside)))
+
+-- the frequent rows brought into order
+pub rows-ordered : (names : List (List ℕ)) (h : Ancestry) (db : List (Sequence Item)) (e : Tree Item) (threshold : ℕ) (rows ordered : List Row)
+    → AreFrequent (record { links = h.links; sequences = db; expression = e; threshold = threshold }) rows
+    → IsPermutation rows ordered → Rises (map (named_row names) ordered) → AreOrdered names h db e threshold ordered
+rows-ordered names h db e threshold rows ordered frequent same rises = record {
+  frequent = λ row. (
+    (λ inside. (frequent.frequent row).0 (Contains-permutation ordered rows row (IsPermutation-sym rows ordered same) inside)),
+    (λ is. Contains-permutation rows ordered row same ((frequent.frequent row).1 is)),
+  );
+  rises = rises;
+}
+
+-- what a slice of all elements wrote back is the whole
+pub written_back : {X : Type 0} (new old : List X) (n : ℕ) → n ≡ length old → length new ≡ length old → take n (new ++ drop (length new) old) ≡ new
+written_back new old n whole same =
+    let none : drop (length new) old ≡ [] = drop_all (length new) old (omega arith) in
+    rw (none, append-nil) (take_all n new (omega arith))
+
+module _ (words : List (List ℕ)) (holds : List ℕ → Option (List ℕ)) (c : Command) (has : HasExpression words c)
+    (known : List (List ℕ)) (before : Ancestry) (db : List (Sequence Item)) (tree : Tree Use) (rows : List Row) where
+  -- what was read and found, by these names, is mined
+  Mines : List (List ℕ) → Type 0
+  Mines names =
+      AreDistinct names
+      → IfSome (holds c.file) (λ bytes. IsDatabaseOf c.weighted bytes known names db)
+      → AllByRecursion (λ (s : Sequence Item). AllByRecursion (HasName names) s.items) db
+      → ((fault : Fault) → IsUnknown names (named_in tree) fault → ⊥)
+      → AreRows names before db (tree_by (λ (u : Use). u.name) tree) c.threshold rows
+      → IsMined words holds c names rows
+
+  mined-at : (added : List (List ℕ)) → AreLinksWithin before → IfSome (bytes_named holds c.hierarchy) (λ bytes. IsHierarchyOf bytes known before)
+      → ReadsAs c.expression tree → 1 ≤ c.threshold → Mines (known ++ added)
+  unfolding Mines
+  mined-at added within read reads some distinct found numbered known_all are = record {
+    expression = has;
+    accepted = nothing-refused words holds c has known before read (known ++ added) db found tree reads known_all;
+    answer = λ input is.
+        let same : c ≡ input.command = same_command words holds c has input is in (
+          tree,
+          reads_at words holds c has known before read (known ++ added) db found tree reads input is,
+          rows-answer input tree known added before db are.expression rows distinct
+              (read_at words holds c has known before read input is) within
+              (found_at words holds c has known before read (known ++ added) db found input is) numbered are.same are.named
+              (subst (λ (d : Command). 1 ≤ d.threshold) same some)
+              (subst (λ (d : Command). (row : Row) → Contains rows row
+              ↔ IsFrequent (record { links = before.links; sequences = db; expression = are.expression; threshold = d.threshold }) row.pattern row.support) same are.frequent)
+              are.rises,
+        );
+  }
+
+  pub mined : (names : List (List ℕ)) (h : Ancestry) → (inputs : AreInputs holds c names h db) → inputs.known ≡ known → inputs.before ≡ before
+      → ReadsAs c.expression tree → 1 ≤ c.threshold
+      → AreDistinct names
+      → AllByRecursion (λ (s : Sequence Item). AllByRecursion (HasName names) s.items) db
+      → ((fault : Fault) → IsUnknown names (named_in tree) fault → ⊥)
+      → AreRows names h db (tree_by (λ (u : Use). u.name) tree) c.threshold rows
+      → IsMined words holds c names rows
+  unfolding Mines
+  mined names h inputs known_is before_is reads some distinct numbered known_all are =
+      let behind : names ≡ known ++ inputs.added = inputs.behind ∙ ap (λ k. k ++ inputs.added) known_is in
+      let read : IfSome (bytes_named holds c.hierarchy) (λ bytes. IsHierarchyOf bytes known before) =
+      subst (λ k. IfSome (bytes_named holds c.hierarchy) (λ bytes. IsHierarchyOf bytes k before)) known_is
+      (subst (λ b. IfSome (bytes_named holds c.hierarchy) (λ bytes. IsHierarchyOf bytes inputs.known b)) before_is inputs.hierarchy) in
+      let found : IfSome (holds c.file) (λ bytes. IsDatabaseOf c.weighted bytes known names db) =
+      subst (λ k. IfSome (holds c.file) (λ bytes. IsDatabaseOf c.weighted bytes k names db)) known_is inputs.sequences in
+      let links : h.links ≡ before.links = inputs.links ∙ ap (λ (b : Ancestry). b.links) before_is in
+      let are_before : AreRows names before db (tree_by (λ (u : Use). u.name) tree) c.threshold rows = record {
+        expression = are.expression;
+        same = are.same;
+        named = are.named;
+        frequent = subst (λ l. (row : Row) → Contains rows row
+            ↔ IsFrequent (record { links = l; sequences = db; expression = are.expression; threshold = c.threshold }) row.pattern row.support) links are.frequent;
+        rises = are.rises;
+      } in
+      subst Mines (sym behind) (mined-at inputs.added (subst AreLinksWithin before_is inputs.within) read reads some) distinct found numbered known_all are_before

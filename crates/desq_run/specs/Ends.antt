@@ -1,0 +1,112 @@
+-- How a run ends: what its outcome says of the words and of the files.
+use Rattle.std.specs.Prelude.{◌≡◌, ℕ, ◌⊎◌, ◌++◌, List, [], Option, Some, None, Result, Ok, Err, Contains}
+use Rattle.mine_model.specs.declared.fault.Fault.{Fault}
+use Rattle.mine_model.specs.declared.fault.Fault.TheVariants.{Usage, Unknown, BadByte, BadWeight, Cycle, TooLarge, NameTooLong, TooManyItems, TooManyAncestors, TooManySequences, SequenceTooLong, Read, Write, NoMemory}
+use Rattle.mine_model.specs.declared.fault.Which.{Which}
+use Rattle.mine_model.specs.declared.fault.Which.TheVariants.{Hierarchy, Sequences}
+use Rattle.mine_model.specs.Text.{lines_of}
+use Rattle.mine_model.specs.Expression.{Tree, named_in, tree_by}
+use Rattle.mine_model.specs.Grammar.{Use, ReadsAs}
+use Rattle.mine_model.specs.Answer.{Data, NamedRow, IsAnswer}
+use Rattle.mine_model.specs.AnswerText.{text_of}
+use Rattle.mine_model.specs.First.{FirstOf}
+use Rattle.mine_model.specs.Refusal.{IsExpressionRefusal, IsHierarchyRefusal, IsSequencesRefusal, IsUnknown, names_of, links_of, items_of, sequences_of}
+use Rattle.command_line.specs.Words.{Command, IsCommand, IsUsage}
+
+-- a command, and what its files hold
+pub record Input : Type 0 where
+  pub command : Command
+  pub hierarchy : List ℕ
+  pub sequences : List ℕ
+
+-- what the file of this name holds; where none is named, nothing
+abbrev pub bytes_named : (List ℕ → Option (List ℕ)) → Option (List ℕ) → Option (List ℕ)
+bytes_named holds None = Some []
+bytes_named holds (Some name) = holds name
+
+-- the words say the command, and its files hold these bytes
+pub record IsInput (words : List (List ℕ)) (holds : List ℕ → Option (List ℕ)) (input : Input) : Type 0 where
+  pub said : IsCommand words input.command
+  pub hierarchy : bytes_named holds input.command.hierarchy ≡ Some input.hierarchy
+  pub sequences : holds input.command.file ≡ Some input.sequences
+
+-- the names of the hierarchy file
+abbrev pub hierarchy_names : Input → List (List ℕ)
+hierarchy_names input = names_of (lines_of input.hierarchy)
+
+-- the names of both files
+abbrev pub known_names : Input → List (List ℕ)
+known_names input = hierarchy_names input ++ items_of (sequences_of input.command.weighted input.sequences)
+
+-- the first refusal: of the expression, of the hierarchy, of the sequences, of an unknown name, in this order
+abbrev pub IsFirstRefusal : Input → Fault → Type 0
+IsFirstRefusal input =
+    FirstOf (IsExpressionRefusal input.command.expression)
+    (FirstOf (IsHierarchyRefusal input.hierarchy)
+    (FirstOf (IsSequencesRefusal input.command.weighted (hierarchy_names input) input.sequences)
+    (λ fault. (tree : Tree Use) × ReadsAs input.command.expression tree × IsUnknown (known_names input) (named_in tree) fault)))
+
+-- nothing is refused
+abbrev pub IsAccepted : Input → Type 0
+IsAccepted input = (fault : Fault) → IsFirstRefusal input fault → ⊥
+
+-- the data that the files and the tree of the expression say
+abbrev pub data_of : Input → Tree Use → Data (List ℕ)
+data_of input tree = record {
+  links = links_of input.hierarchy;
+  sequences = sequences_of input.command.weighted input.sequences;
+  expression = tree_by (λ (u : Use). u.name) tree;
+  threshold = input.command.threshold;
+}
+
+-- the text is that of the answer
+abbrev pub IsAnswerText : Input → List ℕ → Type 0
+IsAnswerText input text =
+    (tree : Tree Use) × ReadsAs input.command.expression tree
+    × (answer : List NamedRow) × IsAnswer (data_of input tree) answer × (text ≡ text_of answer)
+
+-- the command names a file of this kind
+abbrev pub NamesKind : Command → Which → Type 0
+NamesKind command Hierarchy = (name : List ℕ) × (command.hierarchy ≡ Some name)
+NamesKind command Sequences = Unit {0}
+
+-- a fault of what stands in the file of this kind
+abbrev pub IsOfKind : Which → Fault → Type 0
+IsOfKind kind (BadByte file line column) = file ≡ kind
+IsOfKind kind (NameTooLong file line column) = file ≡ kind
+IsOfKind kind (TooLarge file) = file ≡ kind
+IsOfKind kind (TooManyItems file line) = file ≡ kind
+IsOfKind kind (Cycle line) = Hierarchy ≡ kind
+IsOfKind kind TooManyAncestors = Hierarchy ≡ kind
+IsOfKind kind (BadWeight line column) = Sequences ≡ kind
+IsOfKind kind (TooManySequences line) = Sequences ≡ kind
+IsOfKind kind (SequenceTooLong line) = Sequences ≡ kind
+IsOfKind kind _ = ⊥
+
+-- a fault of a file that the command names, or of a name of its expression where it stands
+abbrev pub IsOfFiles : Command → Fault → Type 0
+IsOfFiles command fault =
+    ((kind : Which) × NamesKind command kind × IsOfKind kind fault)
+    ⊎ ((tree : Tree Use) × ReadsAs command.expression tree
+    × (u : Use) × Contains (named_in tree) u × (fault ≡ Unknown u.column))
+
+-- the words say a command whose expression is not refused
+abbrev pub HasExpression : List (List ℕ) → Command → Type 0
+HasExpression words command =
+    IsCommand words command × ((fault : Fault) → IsExpressionRefusal command.expression fault → ⊥)
+
+-- What each outcome of a run says of the words, and of what the files hold where they tell it.
+pub data Ends (words : List (List ℕ)) (holds : List ℕ → Option (List ℕ)) : Result (Unit {0}) Fault → Type 0 where
+  done : (command : Command) → HasExpression words command
+      → ((input : Input) → IsInput words holds input → IsAccepted input) → Ends words holds (Ok tt)
+  no_command : IsUsage words → Ends words holds (Err Usage)
+  refused_expression : (command : Command) (fault : Fault) → IsCommand words command
+      → IsExpressionRefusal command.expression fault → Ends words holds (Err fault)
+  refused_file : (command : Command) (fault : Fault) → HasExpression words command
+      → ((input : Input) → IsInput words holds input → IsFirstRefusal input fault)
+      → IsOfFiles command fault → Ends words holds (Err fault)
+  read_fault : (command : Command) (file : Which) → HasExpression words command → NamesKind command file
+      → Ends words holds (Err (Read file))
+  write_fault : (command : Command) → HasExpression words command
+      → ((input : Input) → IsInput words holds input → IsAccepted input) → Ends words holds (Err Write)
+  no_memory : Ends words holds (Err NoMemory)

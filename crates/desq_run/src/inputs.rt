@@ -1,0 +1,164 @@
+//! Reads the files that a command names.
+
+ghost use Rattle.std.specs.Prelude.{◌≡◌, ◌≢◌, ℕ, ◌≤◌, ◌<◌, ◌++◌, List, [], Option, Err, IsSome, IsTrue, IfOk, IfErr, OnOk, IfSome, length, All, option_map, string_bytes};
+ghost use Rattle.std.specs.List.{AllByRecursion};
+ghost use Rattle.text_ports.specs.Faults.{Rose};
+ghost use Rattle.mine_model.specs.declared.fault.Fault.TheVariants.{Read, Write};
+ghost use Rattle.mine_model.specs.declared.fault.Which.{Which};
+ghost use Rattle.mine_model.specs.declared.fault.Which.TheVariants.{Hierarchy as OfHierarchy, Sequences};
+ghost use Rattle.mine_model.specs.Names.{HasName, AreDistinct};
+ghost use Rattle.mine_model.specs.Refusal.{IsHierarchyRefusal, IsSequencesRefusal};
+ghost use Rattle.command_line.specs.Words.{NamesFile};
+ghost use Rattle.command_line.specs.Commands.{command_said};
+ghost use Rattle.desq_run.specs.Ends.{bytes_named, HasExpression, Ends};
+ghost use Rattle.desq_run.specs.Inputs.{IsHierarchyOf, IsDatabaseOf, AreLinksWithin, AreInputs, FailsBy};
+
+use command_line::Command;
+use item_hierarchy::close;
+use item_names::Names;
+use mine_model::{Db, Fault, Hierarchy};
+use std::alloc::Global;
+use text_ports::Files;
+
+/// What the files of a command say: items by the numbers of their names.
+#[derive(Debug, Drop)]
+pub(crate) struct Inputs {
+    pub(crate) names: Names,
+    pub(crate) hierarchy: Hierarchy,
+    pub(crate) db: Db,
+}
+
+/// The sequences of the file of this name. A new name gets the next number.
+fn read_sequences<F: Files>(
+    alloc: Global,
+    files: &mut F,
+    name: &str,
+    weighted: bool,
+    names: &mut Names,
+) -> Result<Db, Fault>
+    requires may { IsTrue (F.may files.old name.now) }
+    ensures database { IfOk result (λ db. IfSome (F.holds files.old name.now) (λ bytes.
+        IsDatabaseOf weighted bytes names.old names.new db)) }
+    ensures named { IfOk result (λ db. AllByRecursion (λ s. AllByRecursion (HasName names.new) s.items) db) }
+    ensures fails { IfErr result (λ fault. FailsBy (F.holds files.old name.now)
+        (IsSequencesRefusal weighted names.old) Sequences (Unit {0})
+        (Rose (F.faults files.old) (F.faults files.new)) fault) }
+    ensures kept { (added : List (List ℕ)) × (names.new ≡ names.old ++ added) }
+    ensures same_names { F.may files.new ≡ F.may files.old }
+    ensures same_files { F.holds files.new ≡ F.holds files.old }
+    ensures never_falls { F.faults files.old ≤ F.faults files.new }
+{
+    match sequence_reader::read(alloc, files, name, weighted, names) {
+        Ok(db) => Ok(db),
+        Err(fault) => Err(Fault::from(fault)),
+    }
+}
+
+/// The hierarchy of the file of this name.
+fn read_named<F: Files>(
+    alloc: Global,
+    files: &mut F,
+    name: &str,
+    names: &mut Names,
+) -> Result<Hierarchy, Fault>
+    requires may { IsTrue (F.may files.old name.now) }
+    requires empty { names.old ≡ [] }
+    ensures hierarchy { IfOk result (λ h. IfSome (F.holds files.old name.now) (λ bytes. IsHierarchyOf bytes names.new h)) }
+    ensures items { IfOk result (λ h. h.items ≡ length names.new) }
+    ensures within { IfOk result (λ h. AreLinksWithin h) }
+    ensures fails { IfErr result (λ fault. FailsBy (F.holds files.old name.now) IsHierarchyRefusal OfHierarchy (Unit {0})
+        (Rose (F.faults files.old) (F.faults files.new)) fault) }
+    ensures same_names { F.may files.new ≡ F.may files.old }
+    ensures same_files { F.holds files.new ≡ F.holds files.old }
+    ensures never_falls { F.faults files.old ≤ F.faults files.new }
+{
+    let edges = match item_hierarchy::read(alloc, files, name, names) {
+        Ok(edges) => edges,
+        Err(fault) => return Err(Fault::from(fault)),
+    };
+    // Names differ, and no link leads out of the items of a hierarchy.
+    let _count = names.count();
+    match close(alloc, edges, names) {
+        Ok(hierarchy) => {
+            let _items = hierarchy.items();
+            Ok(hierarchy)
+        }
+        Err(fault) => Err(Fault::from(fault)),
+    }
+}
+
+/// A hierarchy of no items.
+fn no_hierarchy(alloc: Global) -> Hierarchy
+    ensures hierarchy { IsHierarchyOf [] [] result }
+    ensures items { result.items ≡ 0 }
+    ensures within { AreLinksWithin result }
+{
+    let hierarchy = Hierarchy::new(Vec::new(alloc), Vec::new(alloc));
+    let _items = hierarchy.items();
+    hierarchy
+}
+
+/// The hierarchy of the file of this name. Of no file it has no items.
+fn read_hierarchy<F: Files>(
+    alloc: Global,
+    files: &mut F,
+    name: &Option<String>,
+    names: &mut Names,
+) -> Result<Hierarchy, Fault>
+    requires may { IfSome name.now (λ name. IsTrue (F.may files.old (string_bytes name))) }
+    requires empty { names.old ≡ [] }
+    ensures hierarchy { IfOk result (λ h.
+        IfSome (bytes_named (F.holds files.old) (option_map string_bytes name.now)) (λ bytes.
+        IsHierarchyOf bytes names.new h)) }
+    ensures items { IfOk result (λ h. h.items ≡ length names.new) }
+    ensures within { IfOk result (λ h. AreLinksWithin h) }
+    ensures fails { IfErr result (λ fault.
+        FailsBy (bytes_named (F.holds files.old) (option_map string_bytes name.now)) IsHierarchyRefusal OfHierarchy
+        (IsSome (option_map string_bytes name.now)) (Rose (F.faults files.old) (F.faults files.new)) fault) }
+    ensures same_names { F.may files.new ≡ F.may files.old }
+    ensures same_files { F.holds files.new ≡ F.holds files.old }
+    ensures never_falls { F.faults files.old ≤ F.faults files.new }
+{
+    match name {
+        Some(name) => read_named(alloc, files, name.as_str(), names),
+        None => Ok(no_hierarchy(alloc)),
+    }
+}
+
+/// Reads the hierarchy and then the sequences of a command.
+pub(crate) fn read_inputs<F: Files>(
+    alloc: Global,
+    command: &Command,
+    files: &mut F,
+) -> Result<Inputs, Fault>
+    requires may { (file : List ℕ) → NamesFile (command_said command.now) file → IsTrue (F.may files.old file) }
+    ensures inputs { IfOk result (λ inputs. AreInputs (F.holds files.old) (command_said command.now)
+        inputs.names inputs.hierarchy inputs.db) }
+    ensures distinct { IfOk result (λ inputs. AreDistinct inputs.names) }
+    ensures items { IfOk result (λ inputs. inputs.hierarchy.items ≡ length inputs.names) }
+    ensures named { IfOk result (λ inputs.
+        AllByRecursion (λ s. AllByRecursion (HasName inputs.names) s.items) inputs.db) }
+    ensures ends { (words : List (List ℕ)) → HasExpression words (command_said command.now)
+        → IfErr result (λ fault. Ends words (F.holds files.old) (Err fault)) }
+    ensures read_fault { (file : Which) → result ≡ Err (Read file) → Rose (F.faults files.old) (F.faults files.new) }
+    ensures no_write { result ≢ Err Write }
+    ensures same_names { F.may files.new ≡ F.may files.old }
+    ensures same_files { F.holds files.new ≡ F.holds files.old }
+    ensures never_falls { F.faults files.old ≤ F.faults files.new }
+{
+    let mut names = Names::new(alloc)?;
+    let mut hierarchy = read_hierarchy(alloc, files, &command.hierarchy, &mut names)?;
+    let db = read_sequences(
+        alloc,
+        files,
+        command.file.as_str(),
+        command.weighted,
+        &mut names,
+    )?;
+    hierarchy.cover(names.count())?;
+    Ok(Inputs {
+        names,
+        hierarchy,
+        db,
+    })
+}

@@ -1,0 +1,11 @@
+pub mod ChainLemmas
+pub mod PositionLemmas
+pub mod UnfoldLemmas
+pub mod AutomatonLemmas
+pub mod RowLemmas
+pub mod LabelLemmas
+pub mod FragmentLemmas
+pub mod CopyLemmas
+pub mod MachineLemmas
+pub mod CompileLemmas
+pub mod OutputLemmas

@@ -1,0 +1,243 @@
+-- Lemmas on the lines that were read, and on the first refusal.
+use Rattle.std.proofs.Common.{◌≡◌, ◌≢◌, ℕ, ◌+◌, ◌≤◌, ◌<◌, ◌⊎◌, inl, inr, Option, Some, None, IfSome, List, [], ◌∷◌, ◌++◌, map, length, get_or, refl, sym, ap, ◌∙◌, subst, arith, append_assoc, suc, add-zero}
+use Rattle.std.specs.List.{AllByRecursion, All, Contains, flat_map}
+use Rattle.std.proofs.lemmas.List.{append-nil, map-append, length-append}
+use Rattle.std.proofs.lemmas.List.Concat.{flat_map-append}
+use Rattle.std.proofs.lemmas.List.Elements.{Contains-append_left, Contains-append_right, Contains-append_cases, All-append, All-cons}
+use Rattle.mine_model.specs.declared.item.Item.{Item}
+use Rattle.mine_model.specs.declared.fault.Fault.{Fault}
+use Rattle.mine_model.specs.declared.fault.Fault.TheVariants as fault
+use Rattle.mine_model.specs.declared.fault.Which.TheVariants.{Hierarchy}
+use Rattle.mine_model.specs.declared.hierarchy_fault.HierarchyFault.{HierarchyFault}
+use Rattle.mine_model.specs.declared.hierarchy_fault.HierarchyFault.TheVariants.{ReadFault, TooLarge, BadByte, NameTooLong, TooManyItems, NoMemory}
+use Rattle.mine_model.specs.Faults.{fault_of_hierarchy}
+use Rattle.mine_model.specs.First.{FirstOf, FirstAmong}
+use Rattle.mine_model.specs.Hierarchy.{PlacedLink}
+use Rattle.mine_model.specs.Limits.{most_file_bytes, most_items}
+use Rattle.mine_model.specs.Text.{lines_of, fields_of, TextFault, bad_byte, long_name, IsFirstTextFault, IsSoundLine}
+use Rattle.mine_model.specs.Names.{name_of, HasName, link_by, GrowBy}
+use Rattle.mine_model.specs.Refusal.{IsTextRefusal, HasMoreNames, names_of, links_of_line, links_from, placed_links_of}
+use Rattle.mine_model.proofs.NameLemmas.{GrowBy-none, GrowBy-more, no_more_names, name_of-grown, HasName-grown}
+use Rattle.text_ports.specs.Lines.{WereRead, WasGiven, TookAll, StoppedAt, Refused}
+use Rattle.item_hierarchy.specs.declared.edges.EdgeRow.{EdgeRow}
+use Rattle.item_hierarchy.specs.declared.reading.Reading.{Reading}
+use Rattle.item_hierarchy.specs.Edges.{link_of, AreWithin, named_rows}
+use Rattle.item_hierarchy.specs.Refusing.{IsLineRefusal, IsReadRefusal}
+use Rattle.item_hierarchy.specs.Texts.{AreItemsOf}
+use Rattle.item_hierarchy.specs.Taking.{rows_of_line, TookLine, IsLineFault, RefusedLine, IsTaken}
+
+-- the row of a line that says this parent of the child
+abbrev pub row_of : ℕ → Item → Item → EdgeRow
+row_of line child parent = record { child = child; parent = parent; line = line }
+
+pub IsTaken-start : (reading : Reading) → length reading.names ≤ most_items → reading.rows.items ≡ [] → IsTaken reading.names [] reading
+IsTaken-start reading room empty = record {
+  grown = GrowBy-none reading.names;
+  room = room;
+  within = subst (AreWithin (length reading.names)) (sym empty) (λ k d below. absurd (omega arith));
+  said = ap (named_rows reading.names) empty;
+}
+
+-- rows keep their names while names grow
+rows-grown : (old names new : List (List ℕ)) (rows : List EdgeRow) → GrowBy old names new → AreWithin (length old) rows → named_rows new rows ≡ named_rows old rows
+rows-grown old names new [] grown within = refl
+rows-grown old names new (row ∷ rows) grown within =
+    let here = within 0 row (omega arith) in
+    let child = name_of-grown old names new row.child grown here.0 in
+    let parent = name_of-grown old names new row.parent grown here.1 in
+    let others = rows-grown old names new rows grown (λ k d below. within (suc k) d (omega arith)) in
+    cc (child, parent, others)
+
+within-grown : (old names new : List (List ℕ)) (rows : List EdgeRow) → GrowBy old names new → AreWithin (length old) rows → AreWithin (length new) rows
+within-grown old names new rows grown within k d below =
+    (HasName-grown old names new (get_or rows k d).child grown (within k d below).0, HasName-grown old names new (get_or rows k d).parent grown (within k d below).1)
+
+-- the names of one line more
+names_of-more : (lines : List (List ℕ)) (text : List ℕ) → names_of (lines ++ text ∷ []) ≡ names_of lines ++ fields_of text
+names_of-more lines text = flat_map-append fields_of lines (text ∷ []) ∙ ap (λ w. names_of lines ++ w) (append-nil (fields_of text))
+
+-- the links of one line more
+links_from-more : (line : ℕ) (lines : List (List ℕ)) (text : List ℕ)
+    → links_from line (lines ++ text ∷ []) ≡ links_from line lines ++ links_of_line (line + length lines) (fields_of text)
+links_from-more line [] text = append-nil (links_of_line line (fields_of text)) ∙ ap (λ n. links_of_line n (fields_of text)) (sym (add-zero line))
+links_from-more line (first ∷ lines) text =
+    let e : line + 1 + length lines ≡ line + length (first ∷ lines) = omega arith in
+    ap (λ w. links_of_line line (fields_of first) ++ w) (links_from-more (line + 1) lines text ∙ ap (λ n. links_from (line + 1) lines ++ links_of_line n (fields_of text)) e)
+    ∙ sym (append_assoc (links_of_line line (fields_of first)) (links_from (line + 1) lines) (links_of_line (line + length (first ∷ lines)) (fields_of text)))
+
+-- the rows of a line say its links
+module _ (names : List (List ℕ)) (line : ℕ) where
+  said_by : (child : Item) (parents : List Item) → named_rows names (map (λ parent. record { child = child; parent = parent; line = line }) parents)
+      ≡ links_of_line line (name_of names child ∷ map (name_of names) parents)
+  said_by child [] = refl
+  said_by child (parent ∷ parents) = ap (λ w. record { link = record { child = name_of names child; parent = name_of names parent }; line = line } ∷ w) (said_by child parents)
+
+  pub rows_say : (items : List Item) (texts : List (List ℕ)) → AreItemsOf names items texts → named_rows names (rows_of_line line items) ≡ links_of_line line texts
+  rows_say [] texts are = ap (links_of_line line) are.said
+  rows_say (child ∷ parents) texts are = said_by child parents ∙ ap (links_of_line line) are.said
+
+  within_of : (child : Item) (parents : List Item) → HasName names child → AllByRecursion (HasName names) parents
+      → AreWithin (length names) (map (λ parent. record { child = child; parent = parent; line = line }) parents)
+  within_of child [] has all = λ k d below. absurd (omega arith)
+  within_of child (parent ∷ parents) has all = All-cons (λ (row : EdgeRow). (row.child.0 < length names) × (row.parent.0 < length names)) _ _ (has, all.0) (within_of child parents has all.1)
+
+  pub rows_within : (items : List Item) (texts : List (List ℕ)) → AreItemsOf names items texts → AreWithin (length names) (rows_of_line line items)
+  rows_within [] texts are = λ k d below. absurd (omega arith)
+  rows_within (child ∷ parents) texts are = within_of child parents are.named.0 are.named.1
+
+module _ (known : List (List ℕ)) where
+  grown_more : (lines : List (List ℕ)) (v w : Reading) (n : ℕ) (text : List ℕ) → IsTaken known lines v → TookLine v n text w
+      → GrowBy known (names_of (lines ++ text ∷ [])) w.names
+  grown_more lines v w n text taken took =
+      subst (λ items. GrowBy known items w.names) (sym (names_of-more lines text)) (GrowBy-more known (names_of lines) v.names (fields_of text) w.names taken.grown took.grown)
+
+  pub IsTaken-more : (lines : List (List ℕ)) (v w : Reading) (n : ℕ) (text : List ℕ) → n ≡ length lines + 1 → IsTaken known lines v → TookLine v n text w → IsTaken known (lines ++ text ∷ []) w
+  IsTaken-more lines v w n text is taken took = record {
+    grown = grown_more lines v w n text taken took;
+    room = took.room;
+    within = subst (AreWithin (length w.names)) (sym took.pushed)
+        (All-append (λ (row : EdgeRow). (row.child.0 < length w.names) × (row.parent.0 < length w.names)) v.rows.items took.own (within-grown v.names (fields_of text) w.names v.rows.items took.grown taken.within) took.within);
+    said =
+        ap (named_rows w.names) took.pushed
+        ∙ map-append (λ (row : EdgeRow). let placed : PlacedLink (List ℕ) = record { link = link_by (name_of w.names) (link_of row); line = row.line } in placed) v.rows.items took.own
+        ∙ (λ j. (rows-grown v.names (fields_of text) w.names v.rows.items took.grown taken.within ∙ taken.said) j ++ (took.said ∙ ap (λ n. links_of_line n (fields_of text)) (let e : n ≡ 1 + length lines = omega (arith, is) in e)) j)
+        ∙ sym (links_from-more 1 lines text);
+  }
+
+  no_text_fault : (n : ℕ) (text : List ℕ) (other : Fault) → IsSoundLine text → IsTextRefusal Hierarchy n text other → ⊥
+  no_text_fault n text other sound (column, inl first) = sound bad_byte column first.0.0
+  no_text_fault n text other sound (column, inr first) = sound long_name column first.0.0
+
+  -- a line that was taken is not refused
+  accepted : (lines : List (List ℕ)) (v w : Reading) (n : ℕ) (text : List ℕ) → IsTaken known lines v → TookLine v n text w
+      → (other : Fault) → IsLineRefusal known lines text other → ⊥
+  accepted lines v w n text taken took other (inl textual) = no_text_fault _ text other took.sound textual
+  accepted lines v w n text taken took other (inr (no_text, more)) =
+      no_more_names most_items known (names_of (lines ++ text ∷ [])) w.names (grown_more lines v w n text taken took) took.room more.0
+
+  next : (lines : List (List ℕ)) (text : List ℕ) (n : ℕ) → n ≡ length lines + 1 → n + 1 ≡ length (lines ++ text ∷ []) + 1
+  next lines text n is = omega (arith, is, length-append lines (text ∷ []))
+
+  -- Lines that were taken, one after another
+
+  pub IsTaken-all : (lines texts : List (List ℕ)) (n : ℕ) (v w : Reading) → n ≡ length lines + 1 → IsTaken known lines v → WasGiven TookLine n texts v w → IsTaken known (lines ++ texts) w
+  IsTaken-all lines [] n v w is taken given = subst (λ r. IsTaken known (lines ++ []) r) given (subst (λ l. IsTaken known l v) (sym (append-nil lines)) taken)
+  IsTaken-all lines (text ∷ texts) n v w is taken (between, took, given) =
+      subst (λ l. IsTaken known l w) (append_assoc lines (text ∷ []) texts)
+      (IsTaken-all (lines ++ text ∷ []) texts (n + 1) between w (next lines text n is) (IsTaken-more lines v between n text is taken took) given)
+
+  -- none of them is refused
+  pub none_refused : (lines texts : List (List ℕ)) (n : ℕ) (v w : Reading) → n ≡ length lines + 1 → IsTaken known lines v → WasGiven TookLine n texts v w
+      → (other : Fault) → FirstAmong (IsLineRefusal known) lines texts other → ⊥
+  none_refused lines [] n v w is taken given other refusal = refusal
+  none_refused lines (text ∷ texts) n v w is taken (between, took, given) other (inl here) = accepted lines v between n text taken took other here
+  none_refused lines (text ∷ texts) n v w is taken (between, took, given) other (inr later) =
+      none_refused (lines ++ text ∷ []) texts (n + 1) between w (next lines text n is) (IsTaken-more lines v between n text is taken took) given other later.1
+
+  -- the first refusal behind them is the first of all
+  pub first_behind : (lines texts later : List (List ℕ)) (n : ℕ) (v w : Reading) → n ≡ length lines + 1 → IsTaken known lines v → WasGiven TookLine n texts v w
+      → (other : Fault) → FirstAmong (IsLineRefusal known) (lines ++ texts) later other → FirstAmong (IsLineRefusal known) lines (texts ++ later) other
+  first_behind lines [] later n v w is taken given other refusal = subst (λ l. FirstAmong (IsLineRefusal known) l later other) (append-nil lines) refusal
+  first_behind lines (text ∷ texts) later n v w is taken (between, took, given) other refusal =
+      inr (
+        accepted lines v between n text taken took,
+        first_behind (lines ++ text ∷ []) texts later (n + 1) between w (next lines text n is) (IsTaken-more lines v between n text is taken took) given other
+            (subst (λ l. FirstAmong (IsLineRefusal known) l later other) (sym (append_assoc lines (text ∷ []) texts)) refusal),
+      )
+
+  -- Why a line is refused
+
+  within_all : (n : ℕ) (names all : List (List ℕ)) → ((name : List ℕ) → Contains names name → Contains all name) → HasMoreNames n names → HasMoreNames n all
+  within_all n names all within (some, apart, inside, more) = (some, apart, (λ k d lt. within _ (inside k d lt)), more)
+
+  line_refused : (lines : List (List ℕ)) (v : Reading) (text : List ℕ) (fault : HierarchyFault) → IsTaken known lines v → IsSoundLine text
+      → IsLineFault v (length lines + 1) text fault → fault ≢ NoMemory → IsLineRefusal known lines text (fault_of_hierarchy fault)
+  line_refused lines v text ReadFault taken sound why apart = absurd why
+  line_refused lines v text TooLarge taken sound why apart = absurd why
+  line_refused lines v text (BadByte line column) taken sound why apart = absurd why
+  line_refused lines v text (NameTooLong line column) taken sound why apart = absurd why
+  line_refused lines v text (TooManyItems line) taken sound why apart =
+      inr (
+        (λ other. no_text_fault _ text other sound),
+        (within_all most_items (v.names ++ fields_of text) _ (all_among lines v text taken) why.1, ap (fault.TooManyItems Hierarchy) why.0),
+      )
+    where
+      all_among : (lines : List (List ℕ)) (v : Reading) (text : List ℕ) → IsTaken known lines v → (name : List ℕ) → Contains (v.names ++ fields_of text) name
+          → Contains (known ++ names_of (lines ++ text ∷ [])) name
+      all_among lines v text taken name inside =
+          subst (λ w. Contains (known ++ w) name) (sym (names_of-more lines text))
+          (elim (Contains-append_cases v.names (fields_of text) name inside) [
+            | inl held ↦ elim (Contains-append_cases known (names_of lines) name ((taken.grown.exact name).0 held)) [
+              | inl old ↦ Contains-append_left known _ name old
+              | inr met ↦ Contains-append_right known _ name (Contains-append_left (names_of lines) (fields_of text) name met)
+            ]
+            | inr new ↦ Contains-append_right known _ name (Contains-append_right (names_of lines) (fields_of text) name new)
+          ])
+  line_refused lines v text NoMemory taken sound why apart = absurd (apart refl)
+
+-- The whole file
+
+module _ (reading after : Reading) (room : length reading.names ≤ most_items) (empty : reading.rows.items ≡ []) where
+  start : IsTaken reading.names [] reading
+  start = IsTaken-start reading room empty
+
+  pub whole_taken : (lines : List (List ℕ)) → TookAll TookLine lines reading after → IsTaken reading.names lines after
+  whole_taken lines took = IsTaken-all reading.names [] lines 1 reading after refl start took.given
+
+  pub whole_accepted : (bytes : List ℕ) → length bytes ≤ most_file_bytes → TookAll TookLine (lines_of bytes) reading after
+      → (other : Fault) → IsReadRefusal reading.names bytes other → ⊥
+  whole_accepted bytes few took other (inl large) = let over = large.0 in omega (arith, few, over)
+  whole_accepted bytes few took other (inr later) = none_refused reading.names [] (lines_of bytes) 1 reading after refl start took.given other later.1
+
+  -- the first line that is refused
+  pub whole_refused : (bytes : List ℕ) (earlier later : List (List ℕ)) (text : List ℕ) (between : Reading) (other : Fault) → length bytes ≤ most_file_bytes
+      → lines_of bytes ≡ earlier ++ text ∷ later → TookAll TookLine earlier reading between
+      → IsLineRefusal reading.names earlier text other → IsReadRefusal reading.names bytes other
+  whole_refused bytes earlier later text between other few cut took refusal =
+      inr (
+        (λ o large. let over = large.0 in omega (arith, few, over)),
+        subst (λ l. FirstAmong (IsLineRefusal reading.names) [] l other) (sym cut)
+            (first_behind reading.names [] earlier (text ∷ later) 1 reading between refl start took.given other (inl refusal)),
+      )
+
+  pub stopped_bad : (bytes : List ℕ) (line column : ℕ) → length bytes ≤ most_file_bytes → StoppedAt TookLine (lines_of bytes) reading after bad_byte line column
+      → IsReadRefusal reading.names bytes (fault.BadByte Hierarchy line column)
+  stopped_bad bytes line column few stop =
+      whole_refused bytes stop.earlier stop.later stop.text after _ few stop.cut stop.taken
+      (inl (column, inl (stop.stands, ap (λ n. fault.BadByte Hierarchy n column) stop.number)))
+
+  pub stopped_long : (bytes : List ℕ) (line column : ℕ) → length bytes ≤ most_file_bytes → StoppedAt TookLine (lines_of bytes) reading after long_name line column
+      → IsReadRefusal reading.names bytes (fault.NameTooLong Hierarchy line column)
+  stopped_long bytes line column few stop =
+      whole_refused bytes stop.earlier stop.later stop.text after _ few stop.cut stop.taken
+      (inl (column, inr (stop.stands, ap (λ n. fault.NameTooLong Hierarchy n column) stop.number)))
+
+  pub refused_line : (bytes : List ℕ) (why : HierarchyFault) → length bytes ≤ most_file_bytes → Refused TookLine RefusedLine (lines_of bytes) reading after why → why ≢ NoMemory
+      → IsReadRefusal reading.names bytes (fault_of_hierarchy why)
+  refused_line bytes why few refusal apart =
+      whole_refused bytes refusal.earlier refusal.later refusal.text refusal.between _ few refusal.cut refusal.taken
+      (line_refused reading.names refusal.earlier refusal.between refusal.text why
+      (IsTaken-all reading.names [] refusal.earlier 1 reading refusal.between refl start refusal.taken.given) refusal.sound refusal.answer.why apart)
+
+  -- the old names stay in front
+  pub kept_all : (lines : List (List ℕ)) → TookAll TookLine lines reading after → (added : List (List ℕ)) × (after.names ≡ reading.names ++ added)
+  kept_all lines took = let taken = whole_taken lines took in (taken.grown.added, taken.grown.behind)
+
+  pub kept_refused : (lines : List (List ℕ)) (why : HierarchyFault) → Refused TookLine RefusedLine lines reading after why → (added : List (List ℕ)) × (after.names ≡ reading.names ++ added)
+  kept_refused lines why refusal =
+      let taken = IsTaken-all reading.names [] refusal.earlier 1 reading refusal.between refl start refusal.taken.given in (
+        taken.grown.added ++ refusal.answer.added,
+        refusal.answer.kept ∙ ap (λ w. w ++ refusal.answer.added) taken.grown.behind ∙ append_assoc reading.names taken.grown.added refusal.answer.added,
+      )
+
+-- why the names of a line are refused
+pub name_refused : (v : Reading) (n : ℕ) (text : List ℕ) (texts : List (List ℕ)) (why : HierarchyFault) → fields_of text ≡ texts
+    → (why ≡ NoMemory) ⊎ ((why ≡ TooManyItems n) × HasMoreNames most_items (v.names ++ texts)) → IsLineFault v n text why
+name_refused v n text texts why said (inl none) = subst (IsLineFault v n text) (sym none) tt
+name_refused v n text texts why said (inr (many, more)) =
+    subst (IsLineFault v n text) (sym many) (refl, subst (λ texts. HasMoreNames most_items (v.names ++ texts)) (sym said) more)
+
+-- what holds of the bytes that were read holds of those that are told
+pub of_told : (told : Option (List ℕ)) (P : List ℕ → Type 0) (bytes : List ℕ) → WereRead told bytes → P bytes → IfSome told P
+of_told None P bytes read p = tt
+of_told (Some held) P bytes read p = subst P read.same p

@@ -1,0 +1,121 @@
+-- Lemmas on lists, what is contained in them and what holds of each element.
+use Rattle.std.proofs.Common.{◌≡◌, ◌≢◌, ◌⊎◌, inl, inr, Bool, true, false, cond, List, [], ◌∷◌, ◌++◌, map, filter, length, get_or, drop, length-drop, refl, sym, ap, ◌∙◌, subst, arith, suc, zero, true≢false, ℕ, ◌-◌, ◌≤◌}
+use Rattle.std.specs.List.{AllByRecursion, AllPairs, Contains, slice_range}
+use Rattle.std.proofs.lemmas.List.{get_or_default, take-append-le, drop-append-le}
+use Rattle.std.proofs.lemmas.List.Elements.{Contains-append_cases}
+use Rattle.std.proofs.lemmas.List.Kept.{AllPairs-cons}
+
+-- an element is the first or one of the others
+pub Contains-cases : {X : Type 0} (x : X) (xs : List X) (y : X) → Contains (x ∷ xs) y → (y ≡ x) ⊎ Contains xs y
+Contains-cases x xs y (zero, lt, is) = inl (sym is)
+Contains-cases x xs y (suc k, lt, is) = inr (k, omega arith, is)
+
+pub Contains-first : {X : Type 0} (x : X) (xs : List X) → Contains (x ∷ xs) x
+Contains-first x xs = (0, omega arith, refl)
+
+pub Contains-other : {X : Type 0} (x : X) (xs : List X) (y : X) → Contains xs y → Contains (x ∷ xs) y
+Contains-other x xs y (k, lt, is) = (suc k, omega arith, is)
+
+pub Contains-none : {X : Type 0} (y : X) → Contains [] y → ⊥
+Contains-none y (k, lt, is) = omega arith
+
+-- what holds of each element holds of one that is contained
+pub AllByRecursion-contained : {X : Type 0} (P : X → Type 0) (xs : List X) (y : X) → AllByRecursion P xs → Contains xs y → P y
+AllByRecursion-contained P [] y all (k, lt, is) = absurd (omega arith)
+AllByRecursion-contained P (x ∷ xs) y all inside =
+    elim (Contains-cases x xs y inside) [
+      | inl same ↦ subst P (sym same) all.0
+      | inr other ↦ AllByRecursion-contained P xs y all.1 other
+    ]
+
+-- P holds of both parts of a list of which it holds
+pub front_of_both : {X : Type 0} (P : X → Type 0) (xs ys : List X) → AllByRecursion P (xs ++ ys) → AllByRecursion P xs
+front_of_both P [] ys all = tt
+front_of_both P (x ∷ xs) ys all = (all.0, front_of_both P xs ys all.1)
+
+pub back_of_both : {X : Type 0} (P : X → Type 0) (xs ys : List X) → AllByRecursion P (xs ++ ys) → AllByRecursion P ys
+back_of_both P [] ys all = all
+back_of_both P (x ∷ xs) ys all = back_of_both P xs ys all.1
+
+pub of_both : {X : Type 0} (P : X → Type 0) (xs ys : List X) → AllByRecursion P xs → AllByRecursion P ys → AllByRecursion P (xs ++ ys)
+of_both P [] ys p q = q
+of_both P (x ∷ xs) ys p q = (p.0, of_both P xs ys p.1 q)
+
+-- the image of an element is an element of a mapped list
+pub Contains-by : {X Y : Type 0} (f : X → Y) (xs : List X) (x : X) → Contains xs x → Contains (map f xs) (f x)
+Contains-by f [] x inside = absurd (Contains-none x inside)
+Contains-by f (y ∷ xs) x inside = elim (Contains-cases y xs x inside) [
+  | inl here ↦ subst (λ w. Contains (f y ∷ map f xs) (f w)) (sym here) (Contains-first (f y) (map f xs))
+  | inr there ↦ Contains-other (f y) (map f xs) (f x) (Contains-by f xs x there)
+]
+
+-- an element of a mapped list is the image of an element
+pub Contains-from : {X Y : Type 0} (f : X → Y) (xs : List X) (y : Y) → Contains (map f xs) y → (x : X) × Contains xs x × (y ≡ f x)
+Contains-from f [] y inside = absurd (Contains-none y inside)
+Contains-from f (x ∷ xs) y inside = elim (Contains-cases (f x) (map f xs) y inside) [
+  | inl here ↦ (x, Contains-first x xs, here)
+  | inr there ↦ let (z, held, same) = Contains-from f xs y there in (z, Contains-other x xs z held, same)
+]
+
+-- what a filter leaves are the elements that pass
+pub Contains-filter : {X : Type 0} (p : X → Bool) (xs : List X) (x : X) → Contains (filter p xs) x → Contains xs x × (p x ≡ true)
+Contains-filter p [] x inside = absurd (Contains-none x inside)
+Contains-filter {X} p (y ∷ xs) x inside =
+    elim (p y) as (λ b. (p y ≡ b) → Contains (cond b (y ∷ filter p xs) (filter p xs)) x → Contains (y ∷ xs) x × (p x ≡ true)) [
+      | true ↦ λ e h. elim (Contains-cases y (filter p xs) x h) [
+        | inl same ↦ (subst (Contains (y ∷ xs)) (sym same) (Contains-first y xs), subst (λ z. p z ≡ true) (sym same) e)
+        | inr other ↦ let rest = Contains-filter p xs x other in (Contains-other y xs x rest.0, rest.1)
+      ]
+      | false ↦ λ e h. let rest = Contains-filter p xs x h in (Contains-other y xs x rest.0, rest.1)
+    ] refl inside
+
+pub filter-Contains : {X : Type 0} (p : X → Bool) (xs : List X) (x : X) → Contains xs x → p x ≡ true → Contains (filter p xs) x
+filter-Contains p [] x inside passes = absurd (Contains-none x inside)
+filter-Contains {X} p (y ∷ xs) x inside passes =
+    elim (p y) as (λ b. (p y ≡ b) → Contains (cond b (y ∷ filter p xs) (filter p xs)) x) [
+      | true ↦ λ e. elim (Contains-cases y xs x inside) [
+        | inl same ↦ subst (Contains (y ∷ filter p xs)) (sym same) (Contains-first y (filter p xs))
+        | inr other ↦ Contains-other y (filter p xs) x (filter-Contains p xs x other passes)
+      ]
+      | false ↦ λ e. elim (Contains-cases y xs x inside) [
+        | inl same ↦ absurd (true≢false (sym passes ∙ ap p same ∙ e))
+        | inr other ↦ filter-Contains p xs x other passes
+      ]
+    ] refl
+
+-- Lists of different elements
+
+pub AllPairs-tail : {X : Type 0} (R : X → X → Type 0) (x : X) (xs : List X) → AllPairs R (x ∷ xs) → AllPairs R xs
+AllPairs-tail R x xs pairs i j d less within = pairs (suc i) (suc j) d (omega arith) (omega arith)
+
+-- the first element with each other one
+pub AllPairs-head : {X : Type 0} (R : X → X → Type 0) (x : X) (xs : List X) → AllPairs R (x ∷ xs) → (y : X) → Contains xs y → R x y
+AllPairs-head R x xs pairs y (k, below, is) = subst (R x) is (pairs 0 (suc k) y (omega arith) (omega arith))
+
+pub AllPairs-append : {X : Type 0} (R : X → X → Type 0) (xs ys : List X) → AllPairs R xs → AllPairs R ys
+    → ((x y : X) → Contains xs x → Contains ys y → R x y) → AllPairs R (xs ++ ys)
+AllPairs-append R [] ys left right across = right
+AllPairs-append R (x ∷ xs) ys left right across =
+    AllPairs-cons R x (xs ++ ys)
+    (λ k d below. elim (Contains-append_cases xs ys (get_or (xs ++ ys) k d) (k, below, get_or_default (xs ++ ys) k (get_or (xs ++ ys) k d) d below)) [
+      | inl here ↦ AllPairs-head R x xs left (get_or (xs ++ ys) k d) here
+      | inr there ↦ across x (get_or (xs ++ ys) k d) (Contains-first x xs) there
+    ])
+    (AllPairs-append R xs ys (AllPairs-tail R x xs left) right (λ y z here there. across y z (Contains-other x xs y here) there))
+
+-- images of different elements are different, where no two have one image
+pub apart_by_image : {X Y : Type 0} (f : X → Y) → ((x y : X) → f x ≡ f y → x ≡ y) → (xs : List X) → AllPairs (λ x y. x ≢ y) xs → AllPairs (λ x y. x ≢ y) (map f xs)
+apart_by_image f one [] pairs = λ i j d less within. absurd (omega arith)
+apart_by_image f one (x ∷ xs) pairs =
+    AllPairs-cons (λ x y. x ≢ y) (f x) (map f xs)
+    (λ k d below. λ same.
+    let (y, held, is) = Contains-from f xs (get_or (map f xs) k d) (k, below, get_or_default (map f xs) k (get_or (map f xs) k d) d below) in
+    AllPairs-head (λ x y. x ≢ y) x xs pairs y held (one x y (same ∙ is)))
+    (apart_by_image f one xs (AllPairs-tail (λ x y. x ≢ y) x xs pairs))
+
+-- elements behind the end of a range don't alter it
+pub slice_range-append : {X : Type 0} (xs ys : List X) (from end : ℕ) → from ≤ end → end ≤ length xs → slice_range (xs ++ ys) from end ≡ slice_range xs from end
+slice_range-append xs ys from end rises within =
+    let begun : from ≤ length xs = omega arith in
+    let fits : end - from ≤ length (drop from xs) = rw length-drop (omega arith) in
+    rw (drop-append-le from xs ys begun, take-append-le (end - from) (drop from xs) ys fits) refl

@@ -1,0 +1,11 @@
+pub mod OutputLemmas
+pub mod SetLemmas
+pub mod PointLemmas
+pub mod MarkLemmas
+pub mod PlanLemmas
+pub mod PlaceLemmas
+pub mod PlanningLemmas
+pub mod LeafLemmas
+pub mod TurnLemmas
+pub mod GeneratedLemmas
+pub mod CountLemmas

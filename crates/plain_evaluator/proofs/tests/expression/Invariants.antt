@@ -1,0 +1,7 @@
+use Rattle.std.proofs.Common.{◌<◌}
+use Rattle.std.specs.List.{AllByRecursion}
+use Rattle.mine_model.specs.Expression.{tree_of, named_in}
+use Rattle.plain_evaluator.proofs.tests.expression.Given as goal
+
+abbrev pub invariant-loop-op : goal.invariant-loop-op
+invariant-loop-op l = AllByRecursion (λ e. AllByRecursion (λ w. w.0 < 11) (named_in (tree_of e))) l.built.items

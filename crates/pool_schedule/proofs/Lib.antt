@@ -1,0 +1,13 @@
+pub mod Measure
+pub mod BalanceLemmas
+pub mod QuietLemmas
+pub mod ScheduleLemmas
+pub mod OrderLemmas
+pub mod NodeLemmas
+pub mod OwnLemmas
+pub mod StageLemmas
+pub mod CountLemmas
+pub mod StepLemmas
+pub mod StartLemmas
+pub mod RunLemmas
+pub mod TrialLemmas

@@ -1,0 +1,3 @@
+pub mod WeightLemmas
+pub mod TextLemmas
+pub mod TakingLemmas

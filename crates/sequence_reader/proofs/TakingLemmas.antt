@@ -1,0 +1,269 @@
+-- Lemmas on the lines that were read, and on the first refusal.
+use Rattle.std.proofs.Common.{◌≡◌, ◌≢◌, ℕ, ◌+◌, ◌≤◌, ◌<◌, ◌⊎◌, inl, inr, Option, Some, None, IfSome, Bool, List, [], ◌∷◌, ◌++◌, map, length, refl, sym, ap, ◌∙◌, subst, arith, append_assoc}
+use Rattle.std.specs.List.{AllByRecursion, Contains, flat_map}
+use Rattle.std.proofs.lemmas.List.{append-nil, map-append, length-map}
+use Rattle.std.proofs.lemmas.List.Concat.{flat_map-append}
+use Rattle.std.proofs.lemmas.List.Elements.{Contains-append_left, Contains-append_right, Contains-append_cases, Contains-get_or}
+use Rattle.mine_model.specs.declared.item.Item.{Item}
+use Rattle.mine_model.specs.declared.fault.Fault.{Fault}
+use Rattle.mine_model.specs.declared.fault.Fault.TheVariants as fault
+use Rattle.mine_model.specs.declared.fault.Which.TheVariants.{Sequences}
+use Rattle.mine_model.specs.declared.sequence_fault.SequenceFault.{SequenceFault}
+use Rattle.mine_model.specs.declared.sequence_fault.SequenceFault.TheVariants.{ReadFault, TooLarge, BadByte, NameTooLong, TooManySequences, BadWeight, TooLong, TooManyItems, NoMemory}
+use Rattle.mine_model.specs.Faults.{fault_of_sequences}
+use Rattle.mine_model.specs.First.{FirstOf, FirstAmong}
+use Rattle.mine_model.specs.Limits.{most_file_bytes, most_items}
+use Rattle.mine_model.specs.Text.{lines_of, fields_of, placed_fields_of, TextFault, bad_byte, long_name, IsFirstTextFault, IsSoundLine}
+use Rattle.mine_model.specs.Support.{Sequence}
+use Rattle.mine_model.specs.Names.{name_of, HasName, sequence_by, GrowBy}
+use Rattle.mine_model.specs.Refusal.{IsTextRefusal, HasMoreNames, sequence_of, sequences_of_lines, items_of, IsBadWeight, IsSequenceLineRefusal, IsSequencesRefusal}
+use Rattle.mine_model.proofs.ListLemmas.{of_both}
+use Rattle.mine_model.proofs.NameLemmas.{GrowBy-none, GrowBy-more, no_more_names}
+use Rattle.text_ports.specs.Lines.{WereRead, WasGiven, TookAll, StoppedAt, Refused}
+use Rattle.sequence_reader.specs.declared.reading.Reading.{Reading}
+use Rattle.sequence_reader.specs.Taking.{said_to, IsWeighed, TookLine, IsLineFault, RefusedLine, IsTaken}
+use Rattle.sequence_reader.proofs.TextLemmas.{map-name_of-grown, AllNamed-grown}
+
+pub IsTaken-start : (reading : Reading) → length reading.names ≤ most_items → reading.db ≡ [] → IsTaken reading.names reading.weighted [] reading
+IsTaken-start reading room empty = record {
+  same = refl;
+  grown = GrowBy-none reading.names;
+  room = room;
+  named = subst (AllByRecursion (λ (sequence : Sequence Item). AllByRecursion (HasName reading.names) sequence.items)) (sym empty) tt;
+  said = ap (map (sequence_by (name_of reading.names))) empty;
+}
+
+-- sequences keep their names while names grow
+sequences-grown : (old names new : List (List ℕ)) (sequences : List (Sequence Item)) → GrowBy old names new → AllByRecursion (λ sequence. AllByRecursion (HasName old) sequence.items) sequences
+    → map (sequence_by (name_of new)) sequences ≡ map (sequence_by (name_of old)) sequences
+sequences-grown old names new [] grown named = refl
+sequences-grown old names new (sequence ∷ sequences) grown named =
+    let first : sequence_by (name_of new) sequence ≡ sequence_by (name_of old) sequence =
+    ap (λ (w : List (List ℕ)). record { items = w; weight = sequence.weight }) (map-name_of-grown old names new sequence.items grown named.0) in
+    let others = sequences-grown old names new sequences grown named.1 in
+    cc (first, others)
+
+named-grown : (old names new : List (List ℕ)) (sequences : List (Sequence Item)) → GrowBy old names new → AllByRecursion (λ sequence. AllByRecursion (HasName old) sequence.items) sequences
+    → AllByRecursion (λ sequence. AllByRecursion (HasName new) sequence.items) sequences
+named-grown old names new [] grown named = tt
+named-grown old names new (sequence ∷ sequences) grown named = (AllNamed-grown old names new sequence.items grown named.0, named-grown old names new sequences grown named.1)
+
+-- the items of one line more
+items_of-more : (weighted : Bool) (lines : List (List ℕ)) (text : List ℕ)
+    → items_of (sequences_of_lines weighted (lines ++ text ∷ [])) ≡ items_of (sequences_of_lines weighted lines) ++ (sequence_of weighted (fields_of text)).items
+items_of-more weighted lines text =
+    ap items_of (map-append (λ line. sequence_of weighted (fields_of line)) lines (text ∷ []))
+    ∙ flat_map-append (λ (sequence : Sequence (List ℕ)). sequence.items) (sequences_of_lines weighted lines) (sequence_of weighted (fields_of text) ∷ [])
+    ∙ ap (λ w. items_of (sequences_of_lines weighted lines) ++ w) (append-nil (sequence_of weighted (fields_of text)).items)
+
+module _ (known : List (List ℕ)) (weighted : Bool) where
+  -- what a line says is said under the weights of the file
+  said_in : (lines : List (List ℕ)) (v : Reading) (text : List ℕ) → IsTaken known weighted lines v → said_to v text ≡ sequence_of weighted (fields_of text)
+  said_in lines v text taken = ap (λ b. sequence_of b (fields_of text)) taken.same
+
+  grown_more : (lines : List (List ℕ)) (v w : Reading) (n : ℕ) (text : List ℕ) → IsTaken known weighted lines v → TookLine v n text w
+      → GrowBy known (items_of (sequences_of_lines weighted (lines ++ text ∷ []))) w.names
+  grown_more lines v w n text taken took =
+      let step : GrowBy v.names (sequence_of weighted (fields_of text)).items w.names =
+      subst (λ (s : Sequence (List ℕ)). GrowBy v.names s.items w.names) (said_in lines v text taken) took.grown in
+      subst (λ items. GrowBy known items w.names) (sym (items_of-more weighted lines text)) (GrowBy-more known _ v.names _ w.names taken.grown step)
+
+  pub IsTaken-more : (lines : List (List ℕ)) (v w : Reading) (n : ℕ) (text : List ℕ) → IsTaken known weighted lines v → TookLine v n text w → IsTaken known weighted (lines ++ text ∷ []) w
+  IsTaken-more lines v w n text taken took = record {
+    same = took.same ∙ taken.same;
+    grown = grown_more lines v w n text taken took;
+    room = took.room;
+    named = subst (AllByRecursion (λ (sequence : Sequence Item). AllByRecursion (HasName w.names) sequence.items)) (sym took.pushed)
+        (of_both (λ (sequence : Sequence Item). AllByRecursion (HasName w.names) sequence.items) v.db (took.sequence ∷ []) (named-grown v.names _ w.names v.db took.grown taken.named) (took.named, tt));
+    said =
+        ap (map (sequence_by (name_of w.names))) took.pushed
+        ∙ map-append (sequence_by (name_of w.names)) v.db (took.sequence ∷ [])
+        ∙ (λ j. (sequences-grown v.names _ w.names v.db took.grown taken.named ∙ taken.said) j ++ (took.said ∙ said_in lines v text taken) j ∷ [])
+        ∙ sym (map-append (λ line. sequence_of weighted (fields_of line)) lines (text ∷ []));
+  }
+
+  -- as many sequences as lines
+  pub counted : (lines : List (List ℕ)) (v : Reading) → IsTaken known weighted lines v → length v.db ≡ length lines
+  counted lines v taken = sym (length-map v.db (sequence_by (name_of v.names))) ∙ ap length taken.said ∙ length-map lines (λ line. sequence_of weighted (fields_of line))
+
+  no_text_fault : (n : ℕ) (text : List ℕ) (other : Fault) → IsSoundLine text → IsTextRefusal Sequences n text other → ⊥
+  no_text_fault n text other sound (column, inl first) = sound bad_byte column first.0.0
+  no_text_fault n text other sound (column, inr first) = sound long_name column first.0.0
+
+  -- a line that was taken is not refused
+  accepted : (lines : List (List ℕ)) (v w : Reading) (n : ℕ) (text : List ℕ) → IsTaken known weighted lines v → TookLine v n text w
+      → (other : Fault) → IsSequenceLineRefusal weighted known lines text other → ⊥
+  accepted lines v w n text taken took other (inl textual) = no_text_fault _ text other took.sound textual
+  accepted lines v w n text taken took other (inr (no_text, inl many)) =
+      let count = counted lines v taken in let few = took.few in let over = many.0 in omega (arith, count, few, over)
+  accepted lines v w n text taken took other (inr (no_text, inr (not_many, inl weight))) =
+      took.weighed weight.0 (subst (λ b. IsBadWeight b (placed_fields_of text) weight.0) (sym taken.same) weight.1)
+  accepted lines v w n text taken took other (inr (no_text, inr (not_many, inr (good, inl long)))) =
+      let short : length (sequence_of weighted (fields_of text)).items ≤ 65535 = subst (λ (s : Sequence (List ℕ)). length s.items ≤ 65535) (said_in lines v text taken) took.short in
+      let over = long.0 in omega (arith, short, over)
+  accepted lines v w n text taken took other (inr (no_text, inr (not_many, inr (good, inr (short, more))))) =
+      no_more_names most_items known _ w.names (grown_more lines v w n text taken took) took.room more.0
+
+  -- Lines that were taken, one after another
+
+  pub IsTaken-all : (lines texts : List (List ℕ)) (n : ℕ) (v w : Reading) → IsTaken known weighted lines v → WasGiven TookLine n texts v w → IsTaken known weighted (lines ++ texts) w
+  IsTaken-all lines [] n v w taken given = subst (λ r. IsTaken known weighted (lines ++ []) r) given (subst (λ l. IsTaken known weighted l v) (sym (append-nil lines)) taken)
+  IsTaken-all lines (text ∷ texts) n v w taken (between, took, given) =
+      subst (λ l. IsTaken known weighted l w) (append_assoc lines (text ∷ []) texts)
+      (IsTaken-all (lines ++ text ∷ []) texts (n + 1) between w (IsTaken-more lines v between n text taken took) given)
+
+  -- none of them is refused
+  pub none_refused : (lines texts : List (List ℕ)) (n : ℕ) (v w : Reading) → IsTaken known weighted lines v → WasGiven TookLine n texts v w
+      → (other : Fault) → FirstAmong (IsSequenceLineRefusal weighted known) lines texts other → ⊥
+  none_refused lines [] n v w taken given other refusal = refusal
+  none_refused lines (text ∷ texts) n v w taken (between, took, given) other (inl here) = accepted lines v between n text taken took other here
+  none_refused lines (text ∷ texts) n v w taken (between, took, given) other (inr later) =
+      none_refused (lines ++ text ∷ []) texts (n + 1) between w (IsTaken-more lines v between n text taken took) given other later.1
+
+  -- the first refusal behind them is the first of all
+  pub first_behind : (lines texts later : List (List ℕ)) (n : ℕ) (v w : Reading) → IsTaken known weighted lines v → WasGiven TookLine n texts v w
+      → (other : Fault) → FirstAmong (IsSequenceLineRefusal weighted known) (lines ++ texts) later other → FirstAmong (IsSequenceLineRefusal weighted known) lines (texts ++ later) other
+  first_behind lines [] later n v w taken given other refusal = subst (λ l. FirstAmong (IsSequenceLineRefusal weighted known) l later other) (append-nil lines) refusal
+  first_behind lines (text ∷ texts) later n v w taken (between, took, given) other refusal =
+      inr (
+        accepted lines v between n text taken took,
+        first_behind (lines ++ text ∷ []) texts later (n + 1) between w (IsTaken-more lines v between n text taken took) given other
+            (subst (λ l. FirstAmong (IsSequenceLineRefusal weighted known) l later other) (sym (append_assoc lines (text ∷ []) texts)) refusal),
+      )
+
+  -- Why a line is refused
+
+  within_all : (n : ℕ) (names all : List (List ℕ)) → ((name : List ℕ) → Contains names name → Contains all name) → HasMoreNames n names → HasMoreNames n all
+  within_all n names all within (some, apart, inside, more) = (some, apart, (λ k d lt. within _ (inside k d lt)), more)
+
+  line_refused : (lines : List (List ℕ)) (v : Reading) (text : List ℕ) (fault : SequenceFault) → IsTaken known weighted lines v → IsSoundLine text
+      → IsLineFault v (length lines + 1) text fault → fault ≢ NoMemory → IsSequenceLineRefusal weighted known lines text (fault_of_sequences fault)
+  line_refused lines v text ReadFault taken sound why apart = absurd why
+  line_refused lines v text TooLarge taken sound why apart = absurd why
+  line_refused lines v text (BadByte line column) taken sound why apart = absurd why
+  line_refused lines v text (NameTooLong line column) taken sound why apart = absurd why
+  line_refused lines v text (TooManySequences line) taken sound why apart =
+      let count = counted lines v taken in
+      inr ((λ other. no_text_fault _ text other sound), inl (let over = why.1 in omega (arith, count, over), ap fault.TooManySequences why.0))
+  line_refused lines v text (BadWeight line column) taken sound why apart =
+      let count = counted lines v taken in
+      inr (
+        (λ other. no_text_fault _ text other sound),
+        inr (
+          (λ other many. let few = why.1 in let over = many.0 in omega (arith, count, few, over)),
+          inl (column, subst (λ b. IsBadWeight b (placed_fields_of text) column) taken.same why.2, ap (λ n. fault.BadWeight n column) why.0),
+        ),
+      )
+  line_refused lines v text (TooLong line) taken sound why apart =
+      let count = counted lines v taken in
+      inr (
+        (λ other. no_text_fault _ text other sound),
+        inr (
+          (λ other many. let few = why.1 in let over = many.0 in omega (arith, count, few, over)),
+          inr (
+            (λ other bad. why.2 bad.0 (subst (λ b. IsBadWeight b (placed_fields_of text) bad.0) (sym taken.same) bad.1)),
+            inl (subst (λ (s : Sequence (List ℕ)). 65535 < length s.items) (said_in lines v text taken) why.3, ap fault.SequenceTooLong why.0),
+          ),
+        ),
+      )
+  line_refused lines v text (TooManyItems line) taken sound why apart =
+      let count = counted lines v taken in
+      let short : length (sequence_of weighted (fields_of text)).items ≤ 65535 = subst (λ (s : Sequence (List ℕ)). length s.items ≤ 65535) (said_in lines v text taken) why.3 in
+      let more : HasMoreNames most_items (v.names ++ (sequence_of weighted (fields_of text)).items) =
+      subst (λ (s : Sequence (List ℕ)). HasMoreNames most_items (v.names ++ s.items)) (said_in lines v text taken) why.4 in
+      inr (
+        (λ other. no_text_fault _ text other sound),
+        inr (
+          (λ other many. let few = why.1 in let over = many.0 in omega (arith, count, few, over)),
+          inr (
+            (λ other bad. why.2 bad.0 (subst (λ b. IsBadWeight b (placed_fields_of text) bad.0) (sym taken.same) bad.1)),
+            inr (
+              (λ other long. let over = long.0 in omega (arith, short, over)),
+              (within_all most_items (v.names ++ (sequence_of weighted (fields_of text)).items) _ (all_among lines v text taken) more, ap (fault.TooManyItems Sequences) why.0),
+            ),
+          ),
+        ),
+      )
+    where
+      all_among : (lines : List (List ℕ)) (v : Reading) (text : List ℕ) → IsTaken known weighted lines v → (name : List ℕ) → Contains (v.names ++ (sequence_of weighted (fields_of text)).items) name
+          → Contains (known ++ items_of (sequences_of_lines weighted (lines ++ text ∷ []))) name
+      all_among lines v text taken name inside =
+          subst (λ w. Contains (known ++ w) name) (sym (items_of-more weighted lines text))
+          (elim (Contains-append_cases v.names (sequence_of weighted (fields_of text)).items name inside) [
+            | inl held ↦ elim (Contains-append_cases known (items_of (sequences_of_lines weighted lines)) name ((taken.grown.exact name).0 held)) [
+              | inl old ↦ Contains-append_left known _ name old
+              | inr met ↦ Contains-append_right known _ name (Contains-append_left (items_of (sequences_of_lines weighted lines)) (sequence_of weighted (fields_of text)).items name met)
+            ]
+            | inr new ↦ Contains-append_right known _ name (Contains-append_right (items_of (sequences_of_lines weighted lines)) (sequence_of weighted (fields_of text)).items name new)
+          ])
+  line_refused lines v text NoMemory taken sound why apart = absurd (apart refl)
+
+-- The whole file
+
+module _ (reading after : Reading) (room : length reading.names ≤ most_items) (empty : reading.db ≡ []) where
+  start : IsTaken reading.names reading.weighted [] reading
+  start = IsTaken-start reading room empty
+
+  pub whole_taken : (lines : List (List ℕ)) → TookAll TookLine lines reading after → IsTaken reading.names reading.weighted lines after
+  whole_taken lines took = IsTaken-all reading.names reading.weighted [] lines 1 reading after start took.given
+
+  pub whole_accepted : (bytes : List ℕ) → length bytes ≤ most_file_bytes → TookAll TookLine (lines_of bytes) reading after
+      → (other : Fault) → IsSequencesRefusal reading.weighted reading.names bytes other → ⊥
+  whole_accepted bytes few took other (inl large) = let over = large.0 in omega (arith, few, over)
+  whole_accepted bytes few took other (inr later) = none_refused reading.names reading.weighted [] (lines_of bytes) 1 reading after start took.given other later.1
+
+  -- the first line that is refused
+  pub whole_refused : (bytes : List ℕ) (earlier later : List (List ℕ)) (text : List ℕ) (between : Reading) (other : Fault) → length bytes ≤ most_file_bytes
+      → lines_of bytes ≡ earlier ++ text ∷ later → TookAll TookLine earlier reading between
+      → IsSequenceLineRefusal reading.weighted reading.names earlier text other
+      → IsSequencesRefusal reading.weighted reading.names bytes other
+  whole_refused bytes earlier later text between other few cut took refusal =
+      inr (
+        (λ o large. let over = large.0 in omega (arith, few, over)),
+        subst (λ l. FirstAmong (IsSequenceLineRefusal reading.weighted reading.names) [] l other) (sym cut)
+            (first_behind reading.names reading.weighted [] earlier (text ∷ later) 1 reading between start took.given other (inl refusal)),
+      )
+
+  pub stopped_bad : (bytes : List ℕ) (line column : ℕ) → length bytes ≤ most_file_bytes → StoppedAt TookLine (lines_of bytes) reading after bad_byte line column
+      → IsSequencesRefusal reading.weighted reading.names bytes (fault.BadByte Sequences line column)
+  stopped_bad bytes line column few stop =
+      whole_refused bytes stop.earlier stop.later stop.text after _ few stop.cut stop.taken
+      (inl (column, inl (stop.stands, ap (λ n. fault.BadByte Sequences n column) stop.number)))
+
+  pub stopped_long : (bytes : List ℕ) (line column : ℕ) → length bytes ≤ most_file_bytes → StoppedAt TookLine (lines_of bytes) reading after long_name line column
+      → IsSequencesRefusal reading.weighted reading.names bytes (fault.NameTooLong Sequences line column)
+  stopped_long bytes line column few stop =
+      whole_refused bytes stop.earlier stop.later stop.text after _ few stop.cut stop.taken
+      (inl (column, inr (stop.stands, ap (λ n. fault.NameTooLong Sequences n column) stop.number)))
+
+  pub refused_line : (bytes : List ℕ) (why : SequenceFault) → length bytes ≤ most_file_bytes → Refused TookLine RefusedLine (lines_of bytes) reading after why → why ≢ NoMemory
+      → IsSequencesRefusal reading.weighted reading.names bytes (fault_of_sequences why)
+  refused_line bytes why few refusal apart =
+      whole_refused bytes refusal.earlier refusal.later refusal.text refusal.between _ few refusal.cut refusal.taken
+      (line_refused reading.names reading.weighted refusal.earlier refusal.between refusal.text why
+      (IsTaken-all reading.names reading.weighted [] refusal.earlier 1 reading refusal.between start refusal.taken.given) refusal.sound refusal.answer.why apart)
+
+  -- the old names stay in front
+  pub kept_all : (lines : List (List ℕ)) → TookAll TookLine lines reading after → (added : List (List ℕ)) × (after.names ≡ reading.names ++ added)
+  kept_all lines took = let taken = whole_taken lines took in (taken.grown.added, taken.grown.behind)
+
+  pub kept_refused : (lines : List (List ℕ)) (why : SequenceFault) → Refused TookLine RefusedLine lines reading after why → (added : List (List ℕ)) × (after.names ≡ reading.names ++ added)
+  kept_refused lines why refusal =
+      let taken = IsTaken-all reading.names reading.weighted [] refusal.earlier 1 reading refusal.between start refusal.taken.given in (
+        taken.grown.added ++ refusal.answer.added,
+        refusal.answer.kept ∙ ap (λ w. w ++ refusal.answer.added) taken.grown.behind ∙ append_assoc reading.names taken.grown.added refusal.answer.added,
+      )
+
+-- why the names of a line are refused
+pub name_refused : (v : Reading) (n : ℕ) (text : List ℕ) (texts : List (List ℕ)) (weight : ℕ) (why : SequenceFault) → length v.db < 4194304 → IsWeighed v text
+    → said_to v text ≡ record { items = texts; weight = weight } → length texts ≤ 65535
+    → (why ≡ NoMemory) ⊎ ((why ≡ TooManyItems n) × HasMoreNames most_items (v.names ++ texts)) → IsLineFault v n text why
+name_refused v n text texts weight why few weighed said short (inl none) = subst (IsLineFault v n text) (sym none) tt
+name_refused v n text texts weight why few weighed said short (inr (many, more)) =
+    subst (IsLineFault v n text) (sym many)
+    (refl, few, weighed, subst (λ (s : Sequence (List ℕ)). length s.items ≤ 65535) (sym said) short, subst (λ (s : Sequence (List ℕ)). HasMoreNames most_items (v.names ++ s.items)) (sym said) more)
+
+-- what holds of the bytes that were read holds of those that are told
+pub of_told : (told : Option (List ℕ)) (P : List ℕ → Type 0) (bytes : List ℕ) → WereRead told bytes → P bytes → IfSome told P
+of_told None P bytes read p = tt
+of_told (Some held) P bytes read p = subst P read.same p

@@ -1,0 +1,69 @@
+-- How a line becomes a sequence, and why it is refused.
+use Rattle.std.specs.Prelude.{◌≡◌, ℕ, ◌≤◌, ◌<◌, Bool, List, [], ◌∷◌, ◌++◌, map, length}
+use Rattle.std.specs.List.{AllByRecursion}
+use Rattle.mine_model.specs.declared.item.Item.{Item}
+use Rattle.mine_model.specs.declared.sequence_fault.SequenceFault.{SequenceFault}
+use Rattle.mine_model.specs.declared.sequence_fault.SequenceFault.TheVariants.{ReadFault, TooLarge, BadByte, NameTooLong, TooManySequences, BadWeight, TooLong, TooManyItems, NoMemory}
+use Rattle.mine_model.specs.Limits.{most_sequences, most_length, most_items}
+use Rattle.mine_model.specs.Text.{fields_of, placed_fields_of, IsSoundLine}
+use Rattle.mine_model.specs.Support.{Sequence}
+use Rattle.mine_model.specs.Names.{name_of, HasName, sequence_by, GrowBy}
+use Rattle.mine_model.specs.Refusal.{sequence_of, sequences_of_lines, items_of, IsBadWeight, HasMoreNames}
+use Rattle.sequence_reader.specs.declared.reading.Reading.{Reading}
+
+-- the sequence that a line says to a reader
+abbrev pub said_to : Reading → List ℕ → Sequence (List ℕ)
+said_to reading text = sequence_of reading.weighted (fields_of text)
+
+-- the line has its weight, where it needs one
+abbrev pub IsWeighed : Reading → List ℕ → Type 0
+IsWeighed reading text = (column : ℕ) → IsBadWeight reading.weighted (placed_fields_of text) column → ⊥
+
+-- the line became one more sequence
+pub record TookLine (before : Reading) (number : ℕ) (text : List ℕ) (after : Reading) : Type 0 where
+  pub sound : IsSoundLine text
+  pub few : length before.db < most_sequences
+  pub weighed : IsWeighed before text
+  pub short : length (said_to before text).items ≤ most_length
+  pub grown : GrowBy before.names (said_to before text).items after.names
+  pub room : length after.names ≤ most_items
+  pub sequence : Sequence Item
+  pub pushed : after.db ≡ before.db ++ sequence ∷ []
+  pub named : AllByRecursion (HasName after.names) sequence.items
+  pub said : sequence_by (name_of after.names) sequence ≡ said_to before text
+  pub same : after.weighted ≡ before.weighted
+
+-- why a line was refused; want of memory may come at any time
+abbrev pub IsLineFault : Reading → ℕ → List ℕ → SequenceFault → Type 0
+IsLineFault before number text ReadFault = ⊥
+IsLineFault before number text TooLarge = ⊥
+IsLineFault before number text (BadByte line column) = ⊥
+IsLineFault before number text (NameTooLong line column) = ⊥
+IsLineFault before number text (TooManySequences line) = (line ≡ number) × (most_sequences ≤ length before.db)
+IsLineFault before number text (BadWeight line column) =
+    (line ≡ number) × (length before.db < most_sequences)
+    × IsBadWeight before.weighted (placed_fields_of text) column
+IsLineFault before number text (TooLong line) =
+    (line ≡ number) × (length before.db < most_sequences) × IsWeighed before text
+    × (most_length < length (said_to before text).items)
+IsLineFault before number text (TooManyItems line) =
+    (line ≡ number) × (length before.db < most_sequences) × IsWeighed before text
+    × (length (said_to before text).items ≤ most_length)
+    × HasMoreNames most_items (before.names ++ (said_to before text).items)
+IsLineFault before number text NoMemory = Unit {0}
+
+-- the line was refused, and the old names stay in front
+pub record RefusedLine (before : Reading) (number : ℕ) (text : List ℕ) (fault : SequenceFault) (after : Reading)
+    : Type 0 where
+  pub why : IsLineFault before number text fault
+  pub added : List (List ℕ)
+  pub kept : after.names ≡ before.names ++ added
+
+-- the sequences of these lines were read, where the names were known before
+pub record IsTaken (known : List (List ℕ)) (weighted : Bool) (lines : List (List ℕ)) (reading : Reading)
+    : Type 0 where
+  pub same : reading.weighted ≡ weighted
+  pub grown : GrowBy known (items_of (sequences_of_lines weighted lines)) reading.names
+  pub room : length reading.names ≤ most_items
+  pub named : AllByRecursion (λ sequence. AllByRecursion (HasName reading.names) sequence.items) reading.db
+  pub said : map (sequence_by (name_of reading.names)) reading.db ≡ sequences_of_lines weighted lines

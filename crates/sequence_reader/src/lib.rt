@@ -1,0 +1,11 @@
+//! Reads a sequence file.
+#![tactic(auto)]
+
+mod naming;
+mod reading;
+mod weighing;
+
+pub use reading::read;
+
+#[cfg(test)]
+mod tests;

@@ -1,0 +1,5 @@
+use Rattle.state_bits.specs.WordLaws.{words_of_set}
+use Rattle.state_bits.proofs.state_set.StateSetHash.hash.Goals as goal
+
+pub returns : goal.returns
+returns g c = rw (← c.self.view_is, words_of_set g.row.W c.self.inside.words c.self.invariant) c.hash.ensures

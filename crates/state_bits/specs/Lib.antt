@@ -1,0 +1,6 @@
+-- the words of the promise
+pub mod Members
+-- what the proofs keep
+pub mod Words
+pub mod WordLaws
+pub mod Left

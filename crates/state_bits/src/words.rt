@@ -1,0 +1,41 @@
+//! Rows of words, bit by bit.
+
+ghost use Rattle.std.specs.Prelude.{◌≡◌, ℕ, length, slice_index, bit_and, bit_or, ◌≢◌, ◌↔◌, IsTrue, EachIndex, SomeIndex};
+
+/// Sets in `words` the bits that `other` has.
+pub(crate) fn join_words(words: &mut [u64], other: &[u64])
+    requires { length words.old ≡ length other.now }
+    ensures { (k : ℕ) → slice_index words.new k ≡ bit_or (slice_index words.old k) (slice_index other.now k) }
+{
+    for index in 0..words.len() {
+        words[index] |= other[index];
+    }
+}
+
+/// Keeps in `words` the bits that `other` has.
+pub(crate) fn keep_words(words: &mut [u64], other: &[u64])
+    requires { length words.old ≡ length other.now }
+    ensures { (k : ℕ) → slice_index words.new k ≡ bit_and (slice_index words.old k) (slice_index other.now k) }
+{
+    for index in 0..words.len() {
+        words[index] &= other[index];
+    }
+}
+
+/// Whether no bit of `words` is set.
+pub(crate) fn are_zero(words: &[u64]) -> bool
+    ensures { IsTrue result ↔ EachIndex words.now (λ k. slice_index words.now k ≡ 0) }
+{
+    words.iter().all(|word| *word == 0)
+}
+
+/// Whether the two have a bit in common.
+pub(crate) fn words_meet(words: &[u64], other: &[u64]) -> bool
+    requires { length words.now ≡ length other.now }
+    ensures { IsTrue result ↔ SomeIndex words.now (λ k. bit_and (slice_index words.now k) (slice_index other.now k) ≢ 0) }
+{
+    words
+        .iter()
+        .zip(other.iter())
+        .any(|(word, more)| *word & *more != 0)
+}

@@ -1,0 +1,39 @@
+-- Sums over the hands of a lock, and how a change of one of them changes a sum.
+use Rattle.std.proofs.Common.{◌≡◌, ◌≢◌, ℕ, zero, suc, ◌+◌, ◌≤◌, List, [], ◌∷◌, set, sym, refl, ap, arith, sum_by}
+use Rattle.std.proofs.lemmas.List.Sums.{sum_by-cons}
+use mathlib.Core.Option.{some, some-injective, some-ne-none}
+use lib.ListN.{get_elem?}
+
+module _ {A : Type 0} (f : A → ℕ) where
+  pub sum_by_set : (l : List A) (i : ℕ) (v w : A) → get_elem? l i ≡ some v → sum_by f (set l i w) + f v ≡ sum_by f l + f w
+  sum_by_set [] i v w e = absurd (some-ne-none v (sym e))
+  sum_by_set (x ∷ xs) zero v w e = let is : f x ≡ f v = ap f (some-injective x v e) in omega (arith, sum_by-cons f x xs, sum_by-cons f w xs)
+  sum_by_set (x ∷ xs) (suc i) v w e = omega (arith, sum_by-cons f x xs, sum_by-cons f x (set xs i w), sum_by_set xs i v w e)
+
+  pub sum_by_at : (l : List A) (i : ℕ) (v : A) → get_elem? l i ≡ some v → f v ≤ sum_by f l
+  sum_by_at [] i v e = absurd (some-ne-none v (sym e))
+  sum_by_at (x ∷ xs) zero v e = let is : f x ≡ f v = ap f (some-injective x v e) in omega (arith, sum_by-cons f x xs)
+  sum_by_at (x ∷ xs) (suc i) v e = omega (arith, sum_by-cons f x xs, sum_by_at xs i v e)
+
+  -- two different hands
+  pub sum_by_two : (l : List A) (i j : ℕ) (v w : A) → get_elem? l i ≡ some v → get_elem? l j ≡ some w → j ≢ i → f v + f w ≤ sum_by f l
+  sum_by_two [] i j v w e e' n = absurd (some-ne-none v (sym e))
+  sum_by_two (x ∷ xs) zero zero v w e e' n = absurd (n refl)
+  sum_by_two (x ∷ xs) zero (suc j) v w e e' n = let is : f x ≡ f v = ap f (some-injective x v e) in omega (arith, sum_by-cons f x xs, sum_by_at xs j w e')
+  sum_by_two (x ∷ xs) (suc i) zero v w e e' n = let is : f x ≡ f w = ap f (some-injective x w e') in omega (arith, sum_by-cons f x xs, sum_by_at xs i v e)
+  sum_by_two (x ∷ xs) (suc i) (suc j) v w e e' n = omega (arith, sum_by-cons f x xs, sum_by_two xs i j v w e e' (λ same. n (ap suc same)))
+
+  module _ (g : A → ℕ) where
+    -- one sum is no more than another, where this is so of each hand
+    pub sum_by_le : (l : List A) → ((i : ℕ) (v : A) → get_elem? l i ≡ some v → f v ≤ g v) → sum_by f l ≤ sum_by g l
+    sum_by_le [] each = omega arith
+    sum_by_le (x ∷ xs) each = let here = each 0 x refl in omega (arith, sum_by-cons f x xs, sum_by-cons g x xs, sum_by_le xs (λ i v e. each (suc i) v e))
+
+    -- the same, with the hand at one place taken out
+    pub sum_by_le_beside : (l : List A) (i : ℕ) (v : A) → get_elem? l i ≡ some v → ((j : ℕ) (w : A) → get_elem? l j ≡ some w → f w ≤ g w) → sum_by f l + g v ≤ sum_by g l + f v
+    sum_by_le_beside [] i v e each = absurd (some-ne-none v (sym e))
+    sum_by_le_beside (x ∷ xs) zero v e each =
+        let is : f x ≡ f v = ap f (some-injective x v e) in let is' : g x ≡ g v = ap g (some-injective x v e) in
+        omega (arith, sum_by-cons f x xs, sum_by-cons g x xs, sum_by_le xs (λ j w e'. each (suc j) w e'))
+    sum_by_le_beside (x ∷ xs) (suc i) v e each =
+        let here = each 0 x refl in omega (arith, sum_by-cons f x xs, sum_by-cons g x xs, sum_by_le_beside xs i v e (λ j w e'. each (suc j) w e'))
