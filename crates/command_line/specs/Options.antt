@@ -22,24 +22,13 @@ needed rule = record rule { required = true }
 
 -- the arguments of the command, in order
 unfoldable pub options : List Rule
-options =
-    needed (value (codes "support"))
-    ∷ value (codes "hierarchy")
-    ∷ flag (codes "weighted")
-    ∷ needed (word (codes "expression"))
-    ∷ word (codes "file")
-    ∷ []
+options = needed (value (codes "support")) ∷ value (codes "hierarchy") ∷ flag (codes "weighted")
+    ∷ needed (word (codes "expression")) ∷ word (codes "file") ∷ []
 
 -- the command, as clap sees it: no program's name comes before the words, and no word asks for help
 unfoldable pub desq : App
-desq = record {
-  top = record (new_shape (codes "desq")) {
-    no_binary_name = true;
-    disable_help_flag = true;
-    rules = options;
-  };
-  subs = [];
-}
+desq = record { subs = []; top = record (new_shape (codes "desq"))
+    { no_binary_name = true; disable_help_flag = true; rules = options } }
 
 -- why clap refuses the words; empty where it takes them
 unfoldable pub faults : List Text → Kinds

@@ -1,8 +1,7 @@
 -- What the words of a command say: what clap finds in them, and the rules beyond clap's.
 use Rattle.std.specs.Prelude.{◌≡◌, ◌≢◌, ◌↔◌, ◌⊎◌, ℕ, ◌≤◌, Bool, true, List, [], codes, Option, Some, IsSome, IsTrue}
 use Rattle.mine_model.specs.Limits.{most_support}
-use Rattle.mine_model.specs.Tokens.{Each, is_digit}
-use Rattle.mine_model.specs.Grammar.{value_of_digits}
+use Rattle.mine_model.specs.Grammar.{IsDecimal}
 use Rattle.clap.specs.Words.{Row, Text, first_of}
 use Rattle.command_line.specs.Options.{faults, rows}
 
@@ -16,11 +15,8 @@ pub record Command : Type 0 where
 
 -- one or more decimal digits, leading zeros allowed, of a number in this range
 pub record IsNumber (least most : ℕ) (digits : Text) (n : ℕ) : Type 0 where
-  pub some : digits ≢ []
-  pub are_digits : Each is_digit true digits
-  pub value : value_of_digits digits ≡ n
-  pub from_least : least ≤ n
-  pub to_most : n ≤ most
+  pub decimal : IsDecimal digits n
+  pub within : (least ≤ n) × (n ≤ most)
 
 -- the option that stands alone was given
 abbrev pub IsGiven : List Row → Text → Type 0

@@ -1,4 +1,5 @@
-//! The command `desq`: its words, the files of the disk, standard input, output and error, and the status of the run.
+//! The command `desq`: its words, the files of the disk, standard input, output and error, and the status of
+//! the run.
 #![tactic(auto)]
 
 use desq_run::run;

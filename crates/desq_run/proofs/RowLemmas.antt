@@ -10,7 +10,8 @@ use Rattle.mine_model.specs.declared.fault.Fault.{Fault}
 use Rattle.mine_model.specs.Expression.{Tree, tree_by, named_in}
 use Rattle.mine_model.specs.Grammar.{Use, ReadsAs}
 use Rattle.mine_model.specs.Support.{Sequence}
-use Rattle.mine_model.specs.Answer.{IsFrequent, AreFrequent, Rises}
+use Rattle.mine_model.specs.Answer.{IsFrequent, Rises}
+use Rattle.mine_model.specs.Numbered.{AreFrequent}
 use Rattle.mine_model.specs.Names.{name_of, HasName, AreDistinct, named_row}
 use Rattle.mine_model.specs.Ancestry.{Ancestry}
 use Rattle.mine_model.specs.Refusal.{IsUnknown}

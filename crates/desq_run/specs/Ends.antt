@@ -40,11 +40,11 @@ known_names input = hierarchy_names input ++ items_of (sequences_of input.comman
 
 -- the first refusal: of the expression, of the hierarchy, of the sequences, of an unknown name, in this order
 abbrev pub IsFirstRefusal : Input → Fault → Type 0
-IsFirstRefusal input =
-    FirstOf (IsExpressionRefusal input.command.expression)
+IsFirstRefusal input = FirstOf (IsExpressionRefusal input.command.expression)
     (FirstOf (IsHierarchyRefusal input.hierarchy)
     (FirstOf (IsSequencesRefusal input.command.weighted (hierarchy_names input) input.sequences)
-    (λ fault. (tree : Tree Use) × ReadsAs input.command.expression tree × IsUnknown (known_names input) (named_in tree) fault)))
+    (λ fault. (tree : Tree Use) × ReadsAs input.command.expression tree
+    × IsUnknown (known_names input) (named_in tree) fault)))
 
 -- nothing is refused
 abbrev pub IsAccepted : Input → Type 0
@@ -61,8 +61,7 @@ data_of input tree = record {
 
 -- the text is that of the answer
 abbrev pub IsAnswerText : Input → List ℕ → Type 0
-IsAnswerText input text =
-    (tree : Tree Use) × ReadsAs input.command.expression tree
+IsAnswerText input text = (tree : Tree Use) × ReadsAs input.command.expression tree
     × (answer : List NamedRow) × IsAnswer (data_of input tree) answer × (text ≡ text_of answer)
 
 -- the command names a file of this kind
@@ -85,8 +84,7 @@ IsOfKind kind _ = ⊥
 
 -- a fault of a file that the command names, or of a name of its expression where it stands
 abbrev pub IsOfFiles : Command → Fault → Type 0
-IsOfFiles command fault =
-    ((kind : Which) × NamesKind command kind × IsOfKind kind fault)
+IsOfFiles command fault = ((kind : Which) × NamesKind command kind × IsOfKind kind fault)
     ⊎ ((tree : Tree Use) × ReadsAs command.expression tree
     × (u : Use) × Contains (named_in tree) u × (fault ≡ Unknown u.column))
 
@@ -96,7 +94,8 @@ HasExpression words command =
     IsCommand words command × ((fault : Fault) → IsExpressionRefusal command.expression fault → ⊥)
 
 -- What each outcome of a run says of the words, and of what the files hold where they tell it.
-pub data Ends (words : List (List ℕ)) (holds : List ℕ → Option (List ℕ)) : Result (Unit {0}) Fault → Type 0 where
+pub data Ends (words : List (List ℕ)) (holds : List ℕ → Option (List ℕ)) : Result (Unit {0}) Fault
+    → Type 0 where
   done : (command : Command) → HasExpression words command
       → ((input : Input) → IsInput words holds input → IsAccepted input) → Ends words holds (Ok tt)
   no_command : IsUsage words → Ends words holds (Err Usage)

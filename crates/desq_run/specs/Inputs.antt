@@ -27,7 +27,8 @@ pub record IsHierarchyOf (bytes : List ℕ) (names : List (List ℕ)) (h : Ances
       → (IsAncestor h.links w t ↔ IsAncestor (links_of bytes) (name_of names w) (name_of names t))
 
 -- the sequences are those of the sequence file, and the names are those known before and those of its items
-pub record IsDatabaseOf (weighted : Bool) (bytes : List ℕ) (known names : List (List ℕ)) (db : List (Sequence Item)) : Type 0 where
+pub record IsDatabaseOf (weighted : Bool) (bytes : List ℕ) (known names : List (List ℕ))
+    (db : List (Sequence Item)) : Type 0 where
   pub accepted : (fault : Fault) → IsSequencesRefusal weighted known bytes fault → ⊥
   pub sequences : map (sequence_by (name_of names)) db ≡ sequences_of weighted bytes
   pub held : (name : List ℕ)
@@ -38,7 +39,8 @@ abbrev pub AreLinksWithin : Ancestry → Type 0
 AreLinksWithin h = All (λ (link : Link Item). (link.child.0 < h.items) × (link.parent.0 < h.items)) h.links
 
 -- names, hierarchy and sequences were read: numbers as the program needs them, and what they say of the files
-pub record AreInputs (holds : List ℕ → Option (List ℕ)) (command : Command) (names : List (List ℕ)) (h : Ancestry)
+pub record AreInputs (holds : List ℕ → Option (List ℕ)) (command : Command) (names : List (List ℕ))
+    (h : Ancestry)
     (db : List (Sequence Item)) : Type 0 where
   pub known : List (List ℕ)
   pub added : List (List ℕ)
@@ -49,15 +51,18 @@ pub record AreInputs (holds : List ℕ → Option (List ℕ)) (command : Command
   pub hierarchy : IfSome (bytes_named holds command.hierarchy) (λ bytes. IsHierarchyOf bytes known before)
   pub sequences : IfSome (holds command.file) (λ bytes. IsDatabaseOf command.weighted bytes known names db)
 
--- reading a file, where one is named, ended with this fault: a refusal of its bytes, a counted fault, or want of memory
-pub data FailsBy (told : Option (List ℕ)) (Refused : List ℕ → Fault → Type 0) (file : Which) (Named Faulty : Type 0) : Fault → Type 0 where
+-- reading a file, where one is named, ended with this fault: a refusal of its bytes, a counted fault, or want
+-- of memory
+pub data FailsBy (told : Option (List ℕ)) (Refused : List ℕ → Fault → Type 0)
+    (file : Which) (Named Faulty : Type 0) : Fault → Type 0 where
   refused : (fault : Fault) → Named → IfSome told (λ bytes. Refused bytes fault) → IsOfKind file fault
       → FailsBy told Refused file Named Faulty fault
   failed : Named → Faulty → FailsBy told Refused file Named Faulty (Read file)
   no_memory : FailsBy told Refused file Named Faulty NoMemory
 
 -- The rows are the frequent patterns by numbers, in the order of their names; the tree is over names.
-pub record AreRows (names : List (List ℕ)) (h : Ancestry) (db : List (Sequence Item)) (tree : Tree (List ℕ)) (threshold : ℕ)
+pub record AreRows (names : List (List ℕ)) (h : Ancestry) (db : List (Sequence Item)) (tree : Tree (List ℕ))
+    (threshold : ℕ)
     (rows : List Row) : Type 0 where
   pub expression : Tree Item
   pub same : tree_by (name_of names) expression ≡ tree
@@ -66,17 +71,20 @@ pub record AreRows (names : List (List ℕ)) (h : Ancestry) (db : List (Sequence
       ↔ IsFrequent (record { links = h.links; sequences = db; expression = expression; threshold = threshold }) row.pattern row.support
   pub rises : Rises (map (named_row names) rows)
 
--- The rows are in the order of their names, the words name an expression that is not refused, and where the files tell
--- their bytes nothing is refused and the rows are the answer.
-pub record IsMined (words : List (List ℕ)) (holds : List ℕ → Option (List ℕ)) (command : Command) (names : List (List ℕ))
+-- The rows are in the order of their names, the words name an expression that is not refused, and where the
+-- files tell their bytes nothing is refused and the rows are the answer.
+pub record IsMined (words : List (List ℕ)) (holds : List ℕ → Option (List ℕ)) (command : Command)
+    (names : List (List ℕ))
     (rows : List Row) : Type 0 where
   pub expression : HasExpression words command
   pub accepted : (input : Input) → IsInput words holds input → IsAccepted input
   pub answer : (input : Input) → IsInput words holds input
-      → (tree : Tree Use) × ReadsAs input.command.expression tree × IsAnswer (data_of input tree) (map (named_row names) rows)
+      → (tree : Tree Use) × ReadsAs input.command.expression tree
+          × IsAnswer (data_of input tree) (map (named_row names) rows)
 
 -- the rows are the frequent patterns by numbers, in the order of their names
-pub record AreOrdered (names : List (List ℕ)) (h : Ancestry) (db : List (Sequence Item)) (expression : Tree Item) (threshold : ℕ)
+pub record AreOrdered (names : List (List ℕ)) (h : Ancestry) (db : List (Sequence Item))
+    (expression : Tree Item) (threshold : ℕ)
     (rows : List Row) : Type 0 where
   pub frequent : (row : Row) → Contains rows row
       ↔ IsFrequent (record { links = h.links; sequences = db; expression = expression; threshold = threshold }) row.pattern row.support

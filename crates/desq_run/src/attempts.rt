@@ -32,14 +32,18 @@ struct Mined {
 
 /// Mines as the command says. Its expression is read before a file is opened.
 fn mine<F: Files>(alloc: Global, command: &Command, files: &mut F) -> Result<Mined, Fault>
-    requires may { (file : List ℕ) → NamesFile (command_said command.now) file → IsTrue (F.may files.old file) }
+    requires may { (file : List ℕ) → NamesFile (command_said command.now) file
+        → IsTrue (F.may files.old file) }
     requires support { 1 ≤ command.now.support }
     ensures mined { (words : List (List ℕ)) → IsCommand words (command_said command.now)
-        → IfOk result (λ mined. IsMined words (F.holds files.old) (command_said command.now) mined.names mined.rows.items) }
-    ensures named { IfOk result (λ mined. All (λ row. All (HasName mined.names) row.pattern) mined.rows.items) }
+        → IfOk result
+            (λ mined. IsMined words (F.holds files.old) (command_said command.now) mined.names mined.rows.items) }
+    ensures named { IfOk result (λ mined. All
+        (λ row. All (HasName mined.names) row.pattern) mined.rows.items) }
     ensures ends { (words : List (List ℕ)) → IsCommand words (command_said command.now)
         → IfErr result (λ fault. Ends words (F.holds files.old) (Err fault)) }
-    ensures read_fault { (file : Which) → result ≡ Err (Read file) → Rose (F.faults files.old) (F.faults files.new) }
+    ensures read_fault { (file : Which) → result ≡ Err (Read file)
+        → Rose (F.faults files.old) (F.faults files.new) }
     ensures no_write { result ≢ Err Write }
     ensures same_names { F.may files.new ≡ F.may files.old }
     ensures same_files { F.holds files.new ≡ F.holds files.old }
@@ -68,17 +72,21 @@ pub(crate) fn attempt<F: Files, O: Sink>(
     files: &mut F,
     out: &mut O,
 ) -> Result<(), Fault>
-    requires { (file : List ℕ) → NamesOfFiles (map string_bytes words.now) file → IsTrue (F.may files.old file) }
+    requires { (file : List ℕ) → NamesOfFiles (map string_bytes words.now) file
+        → IsTrue (F.may files.old file) }
     ensures ends { Ends (map string_bytes words.now) (F.holds files.old) result }
-    ensures written { OnOk result ((input : Input) → IsInput (map string_bytes words.now) (F.holds files.old) input
+    ensures written { OnOk result ((input : Input)
+        → IsInput (map string_bytes words.now) (F.holds files.old) input
         → (text : List ℕ) × IsAnswerText input text
         × IfSome (O.written out.old) (λ before. O.written out.new ≡ Some (before ++ text))) }
-    ensures cut { result ≡ Err Write → (input : Input) → IsInput (map string_bytes words.now) (F.holds files.old) input
+    ensures cut { result ≡ Err Write → (input : Input)
+        → IsInput (map string_bytes words.now) (F.holds files.old) input
         → (text : List ℕ) × IsAnswerText input text
         × IfSome (O.written out.old) (λ before. (n : ℕ) × (n < length text)
         × (O.written out.new ≡ Some (before ++ take n text))) }
     ensures unchanged { OnErr result (result ≢ Err Write → O.written out.new ≡ O.written out.old) }
-    ensures read_fault { (file : Which) → result ≡ Err (Read file) → Rose (F.faults files.old) (F.faults files.new) }
+    ensures read_fault { (file : Which) → result ≡ Err (Read file)
+        → Rose (F.faults files.old) (F.faults files.new) }
     ensures write_fault { result ≡ Err Write → Rose (O.faults out.old) (O.faults out.new) }
     ensures same_names { F.may files.new ≡ F.may files.old }
     ensures same_files { F.holds files.new ≡ F.holds files.old }

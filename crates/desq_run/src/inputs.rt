@@ -63,10 +63,12 @@ fn read_named<F: Files>(
 ) -> Result<Hierarchy, Fault>
     requires may { IsTrue (F.may files.old name.now) }
     requires empty { names.old ≡ [] }
-    ensures hierarchy { IfOk result (λ h. IfSome (F.holds files.old name.now) (λ bytes. IsHierarchyOf bytes names.new h)) }
+    ensures hierarchy { IfOk result (λ h. IfSome (F.holds files.old name.now)
+        (λ bytes. IsHierarchyOf bytes names.new h)) }
     ensures items { IfOk result (λ h. h.items ≡ length names.new) }
     ensures within { IfOk result (λ h. AreLinksWithin h) }
-    ensures fails { IfErr result (λ fault. FailsBy (F.holds files.old name.now) IsHierarchyRefusal OfHierarchy (Unit {0})
+    ensures fails { IfErr result
+        (λ fault. FailsBy (F.holds files.old name.now) IsHierarchyRefusal OfHierarchy (Unit {0})
         (Rose (F.faults files.old) (F.faults files.new)) fault) }
     ensures same_names { F.may files.new ≡ F.may files.old }
     ensures same_files { F.holds files.new ≡ F.holds files.old }
@@ -131,7 +133,8 @@ pub(crate) fn read_inputs<F: Files>(
     command: &Command,
     files: &mut F,
 ) -> Result<Inputs, Fault>
-    requires may { (file : List ℕ) → NamesFile (command_said command.now) file → IsTrue (F.may files.old file) }
+    requires may { (file : List ℕ) → NamesFile (command_said command.now) file
+        → IsTrue (F.may files.old file) }
     ensures inputs { IfOk result (λ inputs. AreInputs (F.holds files.old) (command_said command.now)
         inputs.names inputs.hierarchy inputs.db) }
     ensures distinct { IfOk result (λ inputs. AreDistinct inputs.names) }
@@ -140,7 +143,8 @@ pub(crate) fn read_inputs<F: Files>(
         AllByRecursion (λ s. AllByRecursion (HasName inputs.names) s.items) inputs.db) }
     ensures ends { (words : List (List ℕ)) → HasExpression words (command_said command.now)
         → IfErr result (λ fault. Ends words (F.holds files.old) (Err fault)) }
-    ensures read_fault { (file : Which) → result ≡ Err (Read file) → Rose (F.faults files.old) (F.faults files.new) }
+    ensures read_fault { (file : Which) → result ≡ Err (Read file)
+        → Rose (F.faults files.old) (F.faults files.new) }
     ensures no_write { result ≢ Err Write }
     ensures same_names { F.may files.new ≡ F.may files.old }
     ensures same_files { F.holds files.new ≡ F.holds files.old }

@@ -4,7 +4,8 @@ ghost use Rattle.std.specs.Prelude.{◌≡◌, ◌⊎◌, ◌≤◌, ◌<◌, �
 ghost use Rattle.std.specs.List.{AllByRecursion};
 ghost use Rattle.mine_model.specs.declared.fault.Fault.{Fault};
 ghost use Rattle.mine_model.specs.declared.fault.Fault.TheVariants.{NoMemory as OutOfMemory};
-ghost use Rattle.mine_model.specs.Expression.{tree_of, named_in};
+ghost use Rattle.mine_model.specs.Expression.{named_in};
+ghost use Rattle.mine_model.specs.Numbered.{tree_of};
 ghost use Rattle.mine_model.specs.Names.{HasName};
 ghost use Rattle.mine_model.specs.Refusal.{IsExpressionRefusal, IsUnknown};
 ghost use Rattle.patex_parser.specs.Parsing.{use_view, IsParsed, AreWithin, named_tree};
@@ -35,7 +36,8 @@ fn ordered_rows(
 ) -> Result<Vec<Row>, NoMemory>
     requires support { 1 ≤ support }
     requires items { inputs.now.hierarchy.items ≡ length inputs.now.names }
-    requires sequences { AllByRecursion (λ s. AllByRecursion (HasName inputs.now.names) s.items) inputs.now.db }
+    requires sequences { AllByRecursion
+        (λ s. AllByRecursion (HasName inputs.now.names) s.items) inputs.now.db }
     requires named { AllByRecursion (HasName inputs.now.names) (named_in (tree_of expression.now)) }
     ensures rows { IfOk result (λ rows. AreOrdered inputs.now.names inputs.now.hierarchy inputs.now.db
         (tree_of expression.now) support rows.items) }
@@ -55,7 +57,8 @@ pub(crate) fn rows_of(
 ) -> Result<Vec<Row>, Fault>
     requires support { 1 ≤ support }
     requires items { inputs.now.hierarchy.items ≡ length inputs.now.names }
-    requires sequences { AllByRecursion (λ s. AllByRecursion (HasName inputs.now.names) s.items) inputs.now.db }
+    requires sequences { AllByRecursion
+        (λ s. AllByRecursion (HasName inputs.now.names) s.items) inputs.now.db }
     requires within { AreWithin (length (map use_view parsed.now.uses.items)) (named_in (tree_of parsed.now.tree)) }
     ensures rows { IfOk result (λ rows. AreRows inputs.now.names inputs.now.hierarchy inputs.now.db
         (named_tree (map use_view parsed.now.uses.items) (tree_of parsed.now.tree)) support rows.items) }

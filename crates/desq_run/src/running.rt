@@ -18,9 +18,9 @@ use text_ports::{Files, Sink};
 /// Runs the command that the words say: reads the files that they name through `files`, writes the answer to
 /// `out` and a message, where there is one, to `err`, and answers the status.
 ///
-/// 0 done, 2 the words are no command, 3 something is malformed, 4 a limit is exceeded, 5 a fault of reading, 6 a
-/// fault of writing, 7 not enough memory. A fault of `err` changes no status. `gate` is for the engines to come; none is
-/// passed so far.
+/// 0 done, 2 the words are no command, 3 something is malformed, 4 a limit is exceeded, 5 a fault of reading,
+/// 6 a fault of writing, 7 not enough memory. A fault of `err` changes no status. `gate` is for the engines
+/// to come; none is passed so far.
 pub fn run<F: Files, O: Sink, E: Sink, G: Gate>(
     alloc: Global,
     words: &[String],
@@ -41,14 +41,17 @@ pub fn run<F: Files, O: Sink, E: Sink, G: Gate>(
         (message_of outcome) }
 
     // Done: nothing is refused, and out gained exactly the text of the answer.
-    ensures done { result ≡ 0 → (input : Input) → IsInput (map string_bytes words.now) (F.holds files.old) input
+    ensures done { result ≡ 0 → (input : Input)
+        → IsInput (map string_bytes words.now) (F.holds files.old) input
         → IsAccepted input × ((text : List ℕ) × IsAnswerText input text
         × IfSome (O.written out.old) (λ before. O.written out.new ≡ Some (before ++ text))) }
 
-    // Refusals come exactly where they are the first, unless memory ran out or a fault of reading came before.
+    // Refusals come exactly where they are the first, unless memory ran out or a fault of reading came
+    // before.
     ensures usage { result ≡ 2 → IsUsage (map string_bytes words.now) }
     ensures refuses_words { IsUsage (map string_bytes words.now) → (result ≡ 2) ⊎ (result ≡ 7) }
-    ensures refuses_expression { (command : Command) (fault : Fault) → IsCommand (map string_bytes words.now) command
+    ensures refuses_expression { (command : Command) (fault : Fault)
+        → IsCommand (map string_bytes words.now) command
         → IsExpressionRefusal command.expression fault → (result ≡ fault_status fault) ⊎ (result ≡ 7) }
     ensures refused { (result ≡ 3) ⊎ (result ≡ 4)
         → (input : Input) → IsInput (map string_bytes words.now) (F.holds files.old) input
@@ -61,7 +64,8 @@ pub fn run<F: Files, O: Sink, E: Sink, G: Gate>(
     // of the answer's text, and not all.
     ensures read_fault { result ≡ 5 → Rose (F.faults files.old) (F.faults files.new) }
     ensures write_fault { result ≡ 6 → Rose (O.faults out.old) (O.faults out.new) }
-    ensures cut { result ≡ 6 → (input : Input) → IsInput (map string_bytes words.now) (F.holds files.old) input
+    ensures cut { result ≡ 6 → (input : Input)
+        → IsInput (map string_bytes words.now) (F.holds files.old) input
         → IsAccepted input × ((text : List ℕ) × IsAnswerText input text
         × IfSome (O.written out.old) (λ before. (n : ℕ) × (n < length text)
         × (O.written out.new ≡ Some (before ++ take n text)))) }

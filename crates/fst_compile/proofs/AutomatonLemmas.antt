@@ -9,7 +9,7 @@ use Rattle.mine_model.specs.Hierarchy.{Link}
 use Rattle.mine_model.specs.Expression.{Tree}
 use Rattle.mine_model.specs.Generation.{Matches, WritesAt}
 use Rattle.state_bits.specs.Members.{Has}
-use Rattle.mine_model.specs.Expression.{leaf_of}
+use Rattle.mine_model.specs.Numbered.{leaf_of}
 use Rattle.fst_compile.specs.declared.edge.Edge.{Edge}
 use Rattle.fst_compile.specs.Shape.{Shape, Entry, labels_of, one, nothing, never, both, either, maybe, more, Makes, unfold_tree}
 use Rattle.fst_compile.specs.Positions.{size, Last, Follows, Chain, Accepts, Spells, IsLabelled}

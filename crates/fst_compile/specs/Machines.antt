@@ -37,12 +37,15 @@ pub record AreRows (labels : List Label) (ends : List ℕ) (edges : List Edge) :
 pub record AreRowsOf (labels : List Label) (rows ends : List ℕ) (edges : List Edge) (index : ℕ) : Type 0 where
   pub count : length ends ≡ index
   pub are : AreRows labels ends edges
-  pub exact : (state : ℕ) → state < index → (k : ℕ) → Contains (map target (list_at ends edges state)) k ↔ Has (slice_index rows state) k
+  pub exact : (state : ℕ) → state < index → (k : ℕ)
+      → Contains (map target (list_at ends edges state)) k ↔ Has (slice_index rows state) k
 
 -- the edges between all states of the tree, and its final states
 pub record IsWhole (tree : Tree Item) (rows : List ℕ) (finals : ℕ) : Type 0 where
-  pub edges : (from to : ℕ) → HasEdge rows from to ↔ (((from ≡ 0) × First (unfold_tree tree false) 1 to) ⊎ Follows (unfold_tree tree false) 1 from to)
-  pub ends : (state : ℕ) → Has finals state ↔ (((state ≡ 0) × CanBeEmpty (unfold_tree tree false)) ⊎ Last (unfold_tree tree false) 1 state)
+  pub edges : (from to : ℕ) → HasEdge rows from to ↔ (((from ≡ 0) × First (unfold_tree tree false) 1 to)
+      ⊎ Follows (unfold_tree tree false) 1 from to)
+  pub ends : (state : ℕ) → Has finals state ↔ (((state ≡ 0) × CanBeEmpty (unfold_tree tree false))
+      ⊎ Last (unfold_tree tree false) 1 state)
   pub targets : (from to : ℕ) → HasEdge rows from to → (0 < to) × (to ≤ unfolded_leaves tree)
   pub end_states : (state : ℕ) → Has finals state → state ≤ unfolded_leaves tree
   pub long : length rows ≡ unfolded_leaves tree + 1

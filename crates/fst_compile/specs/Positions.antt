@@ -48,7 +48,8 @@ abbrev pub Follows : Shape → ℕ → ℕ → ℕ → Type 0
 Follows (one l captured) o j k = ⊥
 Follows nothing o j k = ⊥
 Follows never o j k = ⊥
-Follows (both a b) o j k = Follows a o j k ⊎ (Follows b (o + size a) j k ⊎ (Last a o j × First b (o + size a) k))
+Follows (both a b) o j k = Follows a o j k ⊎ (Follows b (o + size a) j k ⊎ (Last a o j
+    × First b (o + size a) k))
 Follows (either a b) o j k = Follows a o j k ⊎ Follows b (o + size a) j k
 Follows (maybe a) o j k = Follows a o j k
 Follows (more a) o j k = Follows a o j k ⊎ (Last a o j × First a o k)
@@ -76,8 +77,10 @@ Spells Reads (k ∷ word) input output =
 -- each position reads what its leaf reads
 abbrev pub IsLabelled : List (Link Item) → (ℕ → Item → List Item → Type 0) → Shape → ℕ → Type 0
 IsLabelled links Reads (one l captured) o =
-    ((t : Item) (output : List Item) → Reads o t output → Matches links l t × WritesAt links l captured t output)
-    × ((t : Item) (output : List Item) → Matches links l t → WritesAt links l captured t output → Reads o t output)
+    ((t : Item) (output : List Item) → Reads o t output → Matches links l t
+        × WritesAt links l captured t output)
+    × ((t : Item) (output : List Item) → Matches links l t → WritesAt links l captured t output
+        → Reads o t output)
 IsLabelled links Reads nothing o = Unit {0}
 IsLabelled links Reads never o = Unit {0}
 IsLabelled links Reads (both a b) o = IsLabelled links Reads a o × IsLabelled links Reads b (o + size a)

@@ -66,7 +66,8 @@ InTurns Made turns input output =
     × AllByRecursion (λ turn. Made turn.input turn.output) turns
 
 -- what the first makes, and then the second
-abbrev pub InOrder : (List Item → List Item → Type 0) → (List Item → List Item → Type 0) → List Item → List Item → Type 0
+abbrev pub InOrder : (List Item → List Item → Type 0) → (List Item → List Item → Type 0) → List Item
+    → List Item → Type 0
 InOrder First Second input output =
     (input1 : List Item) × (input2 : List Item) × (output1 : List Item) × (output2 : List Item)
     × (input ≡ input1 ++ input2) × (output ≡ output1 ++ output2)
@@ -74,10 +75,13 @@ InOrder First Second input output =
 
 -- the shape makes the output from the whole input
 abbrev pub Makes : List (Link Item) → Shape → List Item → List Item → Type 0
-Makes links (one l captured) input output = (t : Item) × (input ≡ t ∷ []) × Matches links l t × WritesAt links l captured t output
+Makes links (one l captured) input output = (t : Item) × (input ≡ t ∷ []) × Matches links l t
+    × WritesAt links l captured t output
 Makes links nothing input output = (input ≡ []) × (output ≡ [])
 Makes links never input output = ⊥
-Makes links (both a b) input output = InOrder (λ i o. Makes links a i o) (λ i o. Makes links b i o) input output
+Makes links (both a b) input output = InOrder (λ i o. Makes links a i o)
+    (λ i o. Makes links b i o) input output
 Makes links (either a b) input output = Makes links a input output ⊎ Makes links b input output
 Makes links (maybe a) input output = ((input ≡ []) × (output ≡ [])) ⊎ Makes links a input output
-Makes links (more a) input output = (turns : List (Turn Item)) × (1 ≤ length turns) × InTurns (λ i o. Makes links a i o) turns input output
+Makes links (more a) input output = (turns : List (Turn Item)) × (1 ≤ length turns) × InTurns
+    (λ i o. Makes links a i o) turns input output

@@ -6,7 +6,8 @@ use Rattle.state_bits.specs.Members.{Has}
 use Rattle.mine_model.specs.declared.item.Item.{Item}
 use Rattle.mine_model.specs.declared.expression.Expr.{Expr}
 use Rattle.mine_model.specs.Hierarchy.{Link}
-use Rattle.mine_model.specs.Expression.{Tree, leaf_of}
+use Rattle.mine_model.specs.Expression.{Tree}
+use Rattle.mine_model.specs.Numbered.{leaf_of}
 use Rattle.mine_model.specs.Generation.{Matches, WritesAt, Generates}
 use Rattle.fst_compile.specs.declared.edge.Edge.{Edge}
 use Rattle.fst_compile.specs.declared.edge.Label.{Label}
@@ -38,7 +39,8 @@ pub record Enters (labels : List Label) (edge : Edge) : Type 0 where
   pub number : ℕ
   pub to : edge.to.0 ≡ suc number
   pub within : number < length labels
-  pub label : (default : Label) → slice_index_or labels number default ≡ record { leaf = edge.leaf; captured = edge.captured }
+  pub label : (default : Label)
+      → slice_index_or labels number default ≡ record { leaf = edge.leaf; captured = edge.captured }
 
 abbrev pub entry_of : Label → Entry
 entry_of label = record { leaf = leaf_of label.leaf; captured = label.captured }
@@ -58,11 +60,15 @@ Leads machine from to = (edge : Edge) × Contains (edges_from machine from) edge
 -- The transducer is the position automaton (Glushkov) of the expression with its repetitions written out.
 pub record IsPositionAutomaton (machine : Transducer) (tree : Tree Item) : Type 0 where
   pub labels : map entry_of machine.labels ≡ labels_of (unfold_tree tree false)
-  pub labelled : (state : ℕ) (edge : Edge) → Contains (edges_from machine state) edge → Enters machine.labels edge
-  pub edges : (from to : ℕ) → Leads machine from to ↔ (((from ≡ 0) × First (unfold_tree tree false) 1 to) ⊎ Follows (unfold_tree tree false) 1 from to)
-  pub finals : (state : ℕ) → Has machine.finals state ↔ (((state ≡ 0) × CanBeEmpty (unfold_tree tree false)) ⊎ Last (unfold_tree tree false) 1 state)
+  pub labelled : (state : ℕ) (edge : Edge) → Contains (edges_from machine state) edge
+      → Enters machine.labels edge
+  pub edges : (from to : ℕ) → Leads machine from to ↔ (((from ≡ 0) × First (unfold_tree tree false) 1 to)
+      ⊎ Follows (unfold_tree tree false) 1 from to)
+  pub finals : (state : ℕ) → Has machine.finals state ↔ (((state ≡ 0) × CanBeEmpty (unfold_tree tree false))
+      ⊎ Last (unfold_tree tree false) 1 state)
 
 -- what the paths from the start write is what the expression generates, whatever the hierarchy
 abbrev pub IsTransducerOf : Transducer → Tree Item → Type 0
 IsTransducerOf machine tree =
-    (links : List (Link Item)) (input output : List Item) → IsPath links machine 0 input output ↔ Generates links tree false input output
+    (links : List (Link Item)) (input output : List Item)
+        → IsPath links machine 0 input output ↔ Generates links tree false input output

@@ -1,7 +1,8 @@
 ghost use Rattle.std.specs.Prelude.{◌≡◌, ℕ, ◌<◌, ◌≤◌, ◌⊎◌, ◌↔◌, ◌+◌, length, slice_index, IfOk, IsTrue, All, Contains};
 ghost use Rattle.state_bits.specs.Members.{Has};
 ghost use Rattle.mine_model.specs.Limits.{most_leaves};
-ghost use Rattle.mine_model.specs.Expression.{tree_of, unfolded_leaves};
+ghost use Rattle.mine_model.specs.Expression.{unfolded_leaves};
+ghost use Rattle.mine_model.specs.Numbered.{tree_of};
 ghost use Rattle.fst_compile.specs.Machines.{IsWhole};
 ghost use Rattle.fst_compile.specs.Transducer.{IsPositionAutomaton, IsTransducerOf};
 

@@ -1,5 +1,5 @@
 ghost use Rattle.std.specs.Prelude.{◌≡◌, IfOk};
-ghost use Rattle.mine_model.specs.Expression.{tree_of};
+ghost use Rattle.mine_model.specs.Numbered.{tree_of};
 
 use mine_model::{Expr, NoMemory};
 use std::alloc::Global;

@@ -1,7 +1,7 @@
 ghost use Rattle.std.specs.Prelude.{◌≡◌, ℕ, ◌+◌, ◌-◌, ◌<◌, ◌≤◌, ◌↔◌, length, vec_len, IfOk, IsTrue, Contains, slice_index_or};
 ghost use Rattle.state_bits.specs.Members.{Has};
 ghost use Rattle.mine_model.specs.Ancestry.{start_of};
-ghost use Rattle.mine_model.specs.Expression.{tree_of};
+ghost use Rattle.mine_model.specs.Numbered.{tree_of};
 
 use super::edge::{Edge, Label, State};
 use super::rowing::edges_of_rows;

@@ -1,5 +1,5 @@
 ghost use Rattle.std.specs.Prelude.{◌≡◌, ◌++◌, map, OnOk};
-ghost use Rattle.mine_model.specs.Expression.{tree_of};
+ghost use Rattle.mine_model.specs.Numbered.{tree_of};
 ghost use Rattle.fst_compile.specs.Shape.{labels_of, unfold_tree};
 ghost use Rattle.fst_compile.specs.Transducer.{entry_of};
 

@@ -1,5 +1,6 @@
 ghost use Rattle.std.specs.Prelude.{◌≡◌, ◌+◌, ◌≤◌, length, IfOk};
-ghost use Rattle.mine_model.specs.Expression.{tree_of, unfolded_leaves};
+ghost use Rattle.mine_model.specs.Expression.{unfolded_leaves};
+ghost use Rattle.mine_model.specs.Numbered.{tree_of};
 ghost use Rattle.fst_compile.specs.Fragments.{IsBuilt};
 
 use super::fragment::Fragment;

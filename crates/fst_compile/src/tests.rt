@@ -1,5 +1,6 @@
 ghost use Rattle.std.specs.Prelude.{◌≡◌, ◌+◌, ◌*◌, ◌<◌, ◌≤◌, IfOk};
-ghost use Rattle.mine_model.specs.Expression.{tree_of, unfolded_leaves, unfolded_times};
+ghost use Rattle.mine_model.specs.Expression.{unfolded_leaves, unfolded_times};
+ghost use Rattle.mine_model.specs.Numbered.{tree_of};
 
 use super::{Fst, State, compile, outputs};
 use mine_model::{Expr, Hierarchy, Item, Leaf, NoMemory};

@@ -2,7 +2,8 @@ ghost use Rattle.std.specs.Prelude.{◌≡◌, ℕ, ◌<◌, ◌↔◌, [], ◌�
 ghost use Rattle.mine_model.specs.declared.item.Item.{Item};
 ghost use Rattle.mine_model.specs.Ancestry.{AreRising};
 ghost use Rattle.mine_model.specs.Hierarchy.{IsAncestor};
-ghost use Rattle.mine_model.specs.Expression.{leaf_of, named_by};
+ghost use Rattle.mine_model.specs.Expression.{named_by};
+ghost use Rattle.mine_model.specs.Numbered.{leaf_of};
 ghost use Rattle.mine_model.specs.Generation.{Matches, MayWrite};
 
 use mine_model::{Hierarchy, Item, Leaf, NoMemory};

@@ -31,8 +31,8 @@ IsCloseRefusal items rows TooManyAncestors =
     IsAcyclic (links_of rows) × HasMoreAncestors most_ancestors (links_of rows) (λ t. t.0 < items)
 IsCloseRefusal items rows NoMemory = Unit {0}
 
--- The hierarchy is that of the rows of so many items: it has these items, and each has the ancestors that the links of
--- the rows lead to. These have no cycle, and the items not too many ancestors.
+-- The hierarchy is that of the rows of so many items: it has these items, and each has the ancestors that the
+-- links of the rows lead to. These have no cycle, and the items not too many ancestors.
 pub record Closes (items : ℕ) (rows : List EdgeRow) (h : Ancestry) : Type 0 where
   pub items_are : h.items ≡ items
   pub ancestors : (w t : Item) → (IsAncestor h.links w t ↔ IsAncestor (links_of rows) w t)
@@ -41,4 +41,5 @@ pub record Closes (items : ℕ) (rows : List EdgeRow) (h : Ancestry) : Type 0 wh
 
 -- the links of the rows by the names of their items, each with its line
 abbrev pub named_rows : List (List ℕ) → List EdgeRow → List (PlacedLink (List ℕ))
-named_rows names rows = map (λ row. record { link = link_by (name_of names) (link_of row); line = row.line }) rows
+named_rows names rows = map
+    (λ row. record { link = link_by (name_of names) (link_of row); line = row.line }) rows

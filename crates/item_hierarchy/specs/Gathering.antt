@@ -16,7 +16,8 @@ pub record AreStamped (stamp : ℕ) (seen : List ℕ) (gathered : List Item) : T
 
 -- each stamp is for one of the items, or there is none
 abbrev pub AreFor : List Item → List ℕ → Type 0
-AreFor items seen = (n : ℕ) → (slice_index seen n ≡ 0) ⊎ ((t : Item) × Contains items t × (slice_index seen n ≡ t.0 + 1))
+AreFor items seen = (n : ℕ) → (slice_index seen n ≡ 0) ⊎ ((t : Item) × Contains items t
+    × (slice_index seen n ≡ t.0 + 1))
 
 -- the item and ancestors of it are gathered, and with each other one all ancestors of that
 pub record HoldsAncestors (links : List (Link Item)) (t : Item) (gathered : List Item) : Type 0 where
@@ -33,7 +34,8 @@ abbrev pub list_in : List Part → List Item → ℕ → List Item
 list_in parts lists n = slice_range lists (part_at parts n).from (part_at parts n).to
 
 -- the list of the item is that of its ancestors
-pub record IsGathered (links : List (Link Item)) (parts : List Part) (lists : List Item) (t : Item) : Type 0 where
+pub record IsGathered (links : List (Link Item)) (parts : List Part) (lists : List Item)
+    (t : Item) : Type 0 where
   pub inside : t.0 < length parts
   pub forward : (part_at parts t.0).from ≤ (part_at parts t.0).to
   pub within : (part_at parts t.0).to ≤ length lists
@@ -44,15 +46,18 @@ pub record IsGathered (links : List (Link Item)) (parts : List Part) (lists : Li
 pub record ArePairs (links : List (Link Item)) (items : List Item) (pairs : List (Link Item)) : Type 0 where
   pub once : AllPairs (λ p q. p ≢ q) pairs
   pub sound : All (λ p. Contains items p.child × IsAncestor links p.parent p.child) pairs
-  pub complete : (t w : Item) → Contains items t → IsAncestor links w t → Contains pairs (record { child = t; parent = w })
+  pub complete : (t w : Item) → Contains items t → IsAncestor links w t
+      → Contains pairs (record { child = t; parent = w })
 
 -- the lists of the items are gathered, and the lists hold nothing else
-pub record AreGathered (links : List (Link Item)) (items : List Item) (parts : List Part) (lists : List Item) : Type 0 where
+pub record AreGathered (links : List (Link Item)) (items : List Item) (parts : List Part)
+    (lists : List Item) : Type 0 where
   pub each : All (λ t. IsGathered links parts lists t) items
   pub together : (pairs : List (Link Item)) × ArePairs links items pairs × (length pairs ≡ length lists)
 
 -- the list of one more item stands behind the lists
-pub record Adds (links : List (Link Item)) (t : Item) (old : List Part) (old_lists : List Item) (new : List Part) (new_lists : List Item) : Type 0 where
+pub record Adds (links : List (Link Item)) (t : Item) (old : List Part) (old_lists : List Item)
+    (new : List Part) (new_lists : List Item) : Type 0 where
   pub size : length new ≡ length old
   pub gathered : IsGathered links new new_lists t
   pub others : (n : ℕ) → (n ≢ t.0) → part_at new n ≡ part_at old n
@@ -75,4 +80,5 @@ pub record IsPart (parts : List Part) (lists : List Item) (n : ℕ) : Type 0 whe
 abbrev pub AreFew : List Part → List Item → Type 0
 AreFew parts lists =
     (pairs : List (Link Item)) × (length pairs ≤ most_ancestors)
-    × ((t w : Item) → t.0 < length parts → Contains (list_in parts lists t.0) w → Contains pairs (record { child = t; parent = w }))
+    × ((t w : Item) → t.0 < length parts → Contains (list_in parts lists t.0) w
+        → Contains pairs (record { child = t; parent = w }))

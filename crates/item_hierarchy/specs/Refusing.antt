@@ -12,9 +12,10 @@ use Rattle.mine_model.specs.Refusal.{IsTooLarge, IsTextRefusal, HasMoreNames, na
 abbrev pub IsLineRefusal : List (List ℕ) → List (List ℕ) → List ℕ → Fault → Type 0
 IsLineRefusal known before text =
     FirstOf (IsTextRefusal Hierarchy (length before + 1) text)
-    (λ fault. HasMoreNames most_items (known ++ names_of (before ++ text ∷ [])) × (fault ≡ TooManyItems Hierarchy (length before + 1)))
+    (λ fault. HasMoreNames most_items (known ++ names_of (before ++ text ∷ []))
+        × (fault ≡ TooManyItems Hierarchy (length before + 1)))
 
--- the first refusal of the text and the names of the file; where no name is known before, that is the first part of
--- the refusals of a hierarchy file
+-- the first refusal of the text and the names of the file; where no name is known before, that is the first
+-- part of the refusals of a hierarchy file
 abbrev pub IsReadRefusal : List (List ℕ) → List ℕ → Fault → Type 0
 IsReadRefusal known bytes = FirstOf (IsTooLarge Hierarchy bytes) (FirstAmong (IsLineRefusal known) [] (lines_of bytes))

@@ -14,7 +14,8 @@ use Rattle.item_hierarchy.specs.Edges.{AreWithin, named_rows}
 -- the first item of a line stands below each other one
 abbrev pub rows_of_line : ℕ → List Item → List EdgeRow
 rows_of_line line [] = []
-rows_of_line line (child ∷ parents) = map (λ parent. record { child = child; parent = parent; line = line }) parents
+rows_of_line line (child ∷ parents) = map
+    (λ parent. record { child = child; parent = parent; line = line }) parents
 
 -- the line became rows
 pub record TookLine (before : Reading) (number : ℕ) (text : List ℕ) (after : Reading) : Type 0 where
@@ -32,11 +33,13 @@ IsLineFault before number text ReadFault = ⊥
 IsLineFault before number text TooLarge = ⊥
 IsLineFault before number text (BadByte line column) = ⊥
 IsLineFault before number text (NameTooLong line column) = ⊥
-IsLineFault before number text (TooManyItems line) = (line ≡ number) × HasMoreNames most_items (before.names ++ fields_of text)
+IsLineFault before number text (TooManyItems line) = (line ≡ number) × HasMoreNames most_items (before.names
+    ++ fields_of text)
 IsLineFault before number text NoMemory = Unit {0}
 
 -- the line was refused, and the old names stay in front
-pub record RefusedLine (before : Reading) (number : ℕ) (text : List ℕ) (fault : HierarchyFault) (after : Reading)
+pub record RefusedLine (before : Reading) (number : ℕ) (text : List ℕ) (fault : HierarchyFault)
+    (after : Reading)
     : Type 0 where
   pub why : IsLineFault before number text fault
   pub added : List (List ℕ)

@@ -21,10 +21,12 @@ pub record IsParentsFirst (links : List (Link Item)) (items : ℕ) (order : List
   pub complete : (t : Item) → t.0 < items → Contains order t
   pub once : AllPairs (λ t w. t ≢ w) order
   pub first : (k : ℕ) (d : Item) (parent : Item) → k < length order
-      → Contains links (record { child = slice_index_or order k d; parent = parent }) → Contains (take k order) parent
+      → Contains links (record { child = slice_index_or order k d; parent = parent })
+          → Contains (take k order) parent
 
 -- the open items lead from each to the next by a link; what is done stands behind its parents
-pub record IsWalking (links : List (Link Item)) (items : ℕ) (marks : List Mark) (open_items order : List Item) : Type 0 where
+pub record IsWalking (links : List (Link Item)) (items : ℕ) (marks : List Mark)
+    (open_items order : List Item) : Type 0 where
   pub size : length marks ≡ items
   pub are_open : All (λ t. IsMarked marks t Open) open_items
   pub all_open : (t : Item) → IsMarked marks t Open → Contains open_items t
@@ -35,14 +37,16 @@ pub record IsWalking (links : List (Link Item)) (items : ℕ) (marks : List Mark
   pub all_done : (t : Item) → IsMarked marks t Done → Contains order t
   pub once : AllPairs (λ t w. t ≢ w) order
   pub first : (k : ℕ) (d : Item) (parent : Item) → k < length order
-      → Contains links (record { child = slice_index_or order k d; parent = parent }) → Contains (take k order) parent
+      → Contains links (record { child = slice_index_or order k d; parent = parent })
+          → Contains (take k order) parent
 
 -- of each item the rows before its next one lead to what is done, or stand on a later line
 abbrev pub HavePassed : ℕ → List ℕ → List EdgeRow → ℕ → List Mark → List ℕ → Type 0
 HavePassed items starts rows line marks next =
     (n : ℕ) → n < items
     → (slice_index starts n ≤ slice_index next n) × (slice_index next n ≤ slice_index starts (n + 1))
-    × ((k : ℕ) (d : EdgeRow) → slice_index starts n ≤ k → k < slice_index next n → (slice_index_or rows k d).line ≤ line
+    × ((k : ℕ) (d : EdgeRow) → slice_index starts n ≤ k → k < slice_index next n
+        → (slice_index_or rows k d).line ≤ line
     → IsMarked marks (slice_index_or rows k d).parent Done)
 
 abbrev pub is_new : Mark → Bool
@@ -55,7 +59,8 @@ abbrev pub steps_left : List Mark → List Item → ℕ
 steps_left marks open_items = 2 * count_by is_new marks + length open_items
 
 -- a walk up the rows to a line, in the midst of it: the rows by child, and how far it has come
-pub record Walks (items : ℕ) (starts : List ℕ) (rows : List EdgeRow) (line : ℕ) (marks : List Mark) (next : List ℕ) (open_items order : List Item) : Type 0 where
+pub record Walks (items : ℕ) (starts : List ℕ) (rows : List EdgeRow) (line : ℕ) (marks : List Mark)
+    (next : List ℕ) (open_items order : List Item) : Type 0 where
   pub sorted : AreByChild items starts rows
   pub within : AreWithin items rows
   pub walking : IsWalking (links_upto line rows) items marks open_items order

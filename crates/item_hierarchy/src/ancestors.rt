@@ -23,8 +23,8 @@ pub(crate) struct Part {
     pub(crate) to: u32,
 }
 
-// The lists of ancestors of the items so far, one behind the other, what is gathered of the next list, and for each
-// item the last one whose list it was gathered for, counted from 1.
+// The lists of ancestors of the items so far, one behind the other, what is gathered of the next list, and
+// for each item the last one whose list it was gathered for, counted from 1.
 #[derive(Debug, Drop)]
 pub(crate) struct Ancestors {
     pub(crate) parts: Vec<Part>,
@@ -82,13 +82,16 @@ impl Ancestors {
         requires items { length self.old.parts.items < 2 ^ 32 }
         requires seen { length self.old.seen.items ≡ length self.old.parts.items }
         requires new { (n : ℕ) → slice_index self.old.seen.items n ≡ t.0 + 1 → ⊥ }
-        requires parents { (parent : Item) → Contains (links_of rows.now) (record { child = t; parent = parent })
+        requires parents { (parent : Item)
+            → Contains (links_of rows.now) (record { child = t; parent = parent })
             → IsGathered (links_of rows.now) self.old.parts.items self.old.lists.items parent }
         requires few { length self.old.lists.items ≤ most_ancestors }
-        ensures adds { IfOk result (λ fits. IsTrue fits → Adds (links_of rows.now) t self.old.parts.items self.old.lists.items
+        ensures adds { IfOk result (λ fits. IsTrue fits
+            → Adds (links_of rows.now) t self.old.parts.items self.old.lists.items
             self.new.parts.items self.new.lists.items) }
         ensures few { IfOk result (λ fits. IsTrue fits → length self.new.lists.items ≤ most_ancestors) }
-        ensures overflows { IfOk result (λ fits. fits ≡ false → Overflows (links_of rows.now) t (length self.old.lists.items)) }
+        ensures overflows { IfOk result (λ fits. fits ≡ false
+            → Overflows (links_of rows.now) t (length self.old.lists.items)) }
         ensures size { OnOk result (length self.new.seen.items ≡ length self.old.seen.items) }
         ensures seen { OnOk result ((n : ℕ) → (slice_index self.new.seen.items n ≡ t.0 + 1)
             ⊎ (slice_index self.new.seen.items n ≡ slice_index self.old.seen.items n)) }
@@ -108,8 +111,8 @@ impl Ancestors {
         Ok(true)
     }
 
-    // Gathers the ancestors of an item behind the item itself, from the lists of its parents. False where there is
-    // no room for all.
+    // Gathers the ancestors of an item behind the item itself, from the lists of its parents. False where
+    // there is no room for all.
     fn gather_parents(
         &mut self,
         starts: &[usize],
@@ -123,13 +126,15 @@ impl Ancestors {
         requires inside { t.0 < length self.old.parts.items }
         requires items { length self.old.parts.items < 2 ^ 32 }
         requires seen { length self.old.seen.items ≡ length self.old.parts.items }
-        requires parents { (parent : Item) → Contains (links_of rows.now) (record { child = t; parent = parent })
+        requires parents { (parent : Item)
+            → Contains (links_of rows.now) (record { child = t; parent = parent })
             → IsGathered (links_of rows.now) self.old.parts.items self.old.lists.items parent }
         requires stamped { AreStamped (t.0 + 1) self.old.seen.items self.old.gathered.items }
         requires own { self.old.gathered.items ≡ t ∷ [] }
         requires room { 1 ≤ room }
         ensures stamped { OnOk result (AreStamped (t.0 + 1) self.new.seen.items self.new.gathered.items) }
-        ensures sound { OnOk result ((w : Item) → Contains self.new.gathered.items w → IsAncestor (links_of rows.now) w t) }
+        ensures sound { OnOk result ((w : Item) → Contains self.new.gathered.items w
+            → IsAncestor (links_of rows.now) w t) }
         ensures room { OnOk result (length self.new.gathered.items ≤ room) }
         ensures all { IfOk result (λ fits. IsTrue fits → (w : Item) → IsAncestor (links_of rows.now) w t
             → Contains self.new.gathered.items w) }
@@ -150,8 +155,8 @@ impl Ancestors {
         Ok(true)
     }
 
-    // Gathers the list of a parent, unless the parent is gathered and so its list is. False where there is no room
-    // for all of it.
+    // Gathers the list of a parent, unless the parent is gathered and so its list is. False where there is no
+    // room for all of it.
     fn gather_parent(&mut self, parent: Item, stamp: u32, room: usize) -> Result<bool, NoMemory>
         requires inside { parent.0 < length self.old.parts.items }
         requires seen { length self.old.seen.items ≡ length self.old.parts.items }
@@ -162,12 +167,15 @@ impl Ancestors {
         requires stamped { AreStamped stamp self.old.seen.items self.old.gathered.items }
         requires room { length self.old.gathered.items ≤ room }
         ensures stamped { OnOk result (AreStamped stamp self.new.seen.items self.new.gathered.items) }
-        ensures kept { OnOk result ((w : Item) → Contains self.old.gathered.items w → Contains self.new.gathered.items w) }
-        ensures from { OnOk result ((w : Item) → Contains self.new.gathered.items w → Contains self.old.gathered.items w
+        ensures kept { OnOk result ((w : Item) → Contains self.old.gathered.items w
+            → Contains self.new.gathered.items w) }
+        ensures from { OnOk result ((w : Item) → Contains self.new.gathered.items w
+            → Contains self.old.gathered.items w
             ⊎ Contains (list_in self.old.parts.items self.old.lists.items parent.0) w) }
         ensures room { OnOk result (length self.new.gathered.items ≤ room) }
         ensures all { IfOk result (λ fits. IsTrue fits → Contains self.old.gathered.items parent
-            ⊎ All (λ w. Contains self.new.gathered.items w) (list_in self.old.parts.items self.old.lists.items parent.0)) }
+            ⊎ All
+                (λ w. Contains self.new.gathered.items w) (list_in self.old.parts.items self.old.lists.items parent.0)) }
         ensures full { IfOk result (λ fits. fits ≡ false → (w : Item)
             × Contains (list_in self.old.parts.items self.old.lists.items parent.0) w
             × (Contains self.new.gathered.items w → ⊥) × (length self.new.gathered.items ≡ room)) }
@@ -192,7 +200,8 @@ impl Ancestors {
         requires few { length self.old.lists.items + length self.old.gathered.items ≤ most_ancestors }
         ensures lists { OnOk result (self.new.lists.items ≡ self.old.lists.items ++ self.old.gathered.items) }
         ensures size { length self.new.parts.items ≡ length self.old.parts.items }
-        ensures others { OnOk result ((n : ℕ) → (n ≢ t.0) → part_at self.new.parts.items n ≡ part_at self.old.parts.items n) }
+        ensures others { OnOk result ((n : ℕ) → (n ≢ t.0)
+            → part_at self.new.parts.items n ≡ part_at self.old.parts.items n) }
         ensures from { OnOk result ((part_at self.new.parts.items t.0).from ≡ length self.old.lists.items) }
         ensures to { OnOk result ((part_at self.new.parts.items t.0).to
             ≡ length self.old.lists.items + length self.old.gathered.items) }

@@ -46,8 +46,10 @@ fn starts_of(alloc: Global, items: u32, rows: &[EdgeRow]) -> Result<Vec<usize>, 
 fn end_of_run(rows: &[EdgeRow], from: usize, child: u32) -> usize
     requires { from ≤ length rows.now }
     ensures range { (from ≤ result) × (result ≤ length rows.now) }
-    ensures run { (k : ℕ) (d : EdgeRow) → from ≤ k → k < result → (slice_index_or rows.now k d).child.0 ≡ child }
-    ensures end { (d : EdgeRow) → result < length rows.now → (slice_index_or rows.now result d).child.0 ≡ child → ⊥ }
+    ensures run { (k : ℕ) (d : EdgeRow) → from ≤ k → k < result
+        → (slice_index_or rows.now k d).child.0 ≡ child }
+    ensures end { (d : EdgeRow) → result < length rows.now
+        → (slice_index_or rows.now result d).child.0 ≡ child → ⊥ }
 {
     let mut at = from;
     while at < rows.len() && rows[at].child.0 == child {

@@ -61,8 +61,8 @@ fn add_rows(rows: &mut Vec<EdgeRow>, items: &[Item], line: u64) -> Result<(), No
     Ok(())
 }
 
-/// The rows of a hierarchy file, by the numbers of their names. A new name gets the next number. After a refusal the
-/// names that were met so far are held as well.
+/// The rows of a hierarchy file, by the numbers of their names. A new name gets the next number. After a
+/// refusal the names that were met so far are held as well.
 pub fn read<F: Files>(
     alloc: Global,
     files: &mut F,
@@ -81,7 +81,8 @@ pub fn read<F: Files>(
 
     ensures refused { (fault : HierarchyFault) → result ≡ Err fault
         → fault ≢ HierarchyFault.ReadFault → fault ≢ HierarchyFault.NoMemory
-        → IfSome (F.holds files.old name.now) (λ bytes. IsReadRefusal names.old bytes (fault_of_hierarchy fault)) }
+        → IfSome (F.holds files.old name.now)
+            (λ bytes. IsReadRefusal names.old bytes (fault_of_hierarchy fault)) }
     ensures failed { result ≡ Err HierarchyFault.ReadFault → Rose (F.faults files.old) (F.faults files.new) }
     ensures kept { (added : List (List ℕ)) × (names.new ≡ names.old ++ added) }
 

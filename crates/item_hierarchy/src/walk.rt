@@ -18,8 +18,8 @@ pub(crate) enum Mark {
     Done,
 }
 
-// A walk up the rows to a line: which row it goes on with at each item, the items that it is in, from the first
-// one up, and those that it is done with, each behind its parents.
+// A walk up the rows to a line: which row it goes on with at each item, the items that it is in, from the
+// first one up, and those that it is done with, each behind its parents.
 #[derive(Debug, Drop)]
 pub(crate) struct Walk {
     marks: Vec<Mark>,
@@ -28,7 +28,8 @@ pub(crate) struct Walk {
     order: Vec<Item>,
 }
 
-/// The items in an order in which parents come first, by the rows up to a line. None where these have a cycle.
+/// The items in an order in which parents come first, by the rows up to a line. None where these have a
+/// cycle.
 pub(crate) fn parents_first(
     alloc: Global,
     items: u32,
@@ -77,11 +78,13 @@ impl Walk {
             self.old.marks.items self.old.next.items self.old.open_items.items self.old.order.items }
         requires idle { self.old.open_items.items ≡ [] }
         requires item { item.0 < length self.old.marks.items }
-        ensures walks { IfOk result (λ on. IsTrue on → Walks (length self.old.marks.items) starts.now rows.now line
+        ensures walks { IfOk result (λ on. IsTrue on
+            → Walks (length self.old.marks.items) starts.now rows.now line
             self.new.marks.items self.new.next.items self.new.open_items.items self.new.order.items) }
         ensures idle { IfOk result (λ on. IsTrue on → self.new.open_items.items ≡ []) }
         ensures item { IfOk result (λ on. IsTrue on → IsMarked self.new.marks.items item Mark.New → ⊥) }
-        ensures fewer { (t : Item) → IsMarked self.new.marks.items t Mark.New → IsMarked self.old.marks.items t Mark.New }
+        ensures fewer { (t : Item) → IsMarked self.new.marks.items t Mark.New
+            → IsMarked self.old.marks.items t Mark.New }
         ensures cycle { IfOk result (λ on. on ≡ false → HasCycle (links_upto line rows.now)) }
         ensures size { length self.new.marks.items ≡ length self.old.marks.items }
     {
@@ -97,8 +100,8 @@ impl Walk {
         Ok(true)
     }
 
-    // One step from the last open item: up to a parent, or out of it where all its parents are done. False where
-    // the parent is open, too.
+    // One step from the last open item: up to a parent, or out of it where all its parents are done. False
+    // where the parent is open, too.
     fn step(
         &mut self,
         starts: &[usize],
@@ -107,12 +110,16 @@ impl Walk {
         top: Item,
     ) -> Result<bool, NoMemory>
         requires walks { Walks (length self.old.marks.items) starts.now rows.now line
-            self.old.marks.items self.old.next.items (self.old.open_items.items ++ top ∷ []) self.old.order.items }
-        ensures walks { IfOk result (λ on. IsTrue on → Walks (length self.old.marks.items) starts.now rows.now line
+            self.old.marks.items self.old.next.items (self.old.open_items.items ++ top
+                ∷ []) self.old.order.items }
+        ensures walks { IfOk result (λ on. IsTrue on
+            → Walks (length self.old.marks.items) starts.now rows.now line
             self.new.marks.items self.new.next.items self.new.open_items.items self.new.order.items) }
-        ensures nearer { IfOk result (λ on. IsTrue on → steps_left self.new.marks.items self.new.open_items.items
+        ensures nearer { IfOk result (λ on. IsTrue on
+            → steps_left self.new.marks.items self.new.open_items.items
             < steps_left self.old.marks.items (self.old.open_items.items ++ top ∷ [])) }
-        ensures fewer { (t : Item) → IsMarked self.new.marks.items t Mark.New → IsMarked self.old.marks.items t Mark.New }
+        ensures fewer { (t : Item) → IsMarked self.new.marks.items t Mark.New
+            → IsMarked self.old.marks.items t Mark.New }
         ensures cycle { IfOk result (λ on. on ≡ false → HasCycle (links_upto line rows.now)) }
         ensures size { length self.new.marks.items ≡ length self.old.marks.items }
     {
@@ -136,8 +143,10 @@ impl Walk {
     fn enter(&mut self, item: Item) -> Result<(), NoMemory>
         requires { item.0 < length self.old.marks.items }
         ensures marks { OnOk result (self.new.marks.items ≡ slice_set self.old.marks.items item.0 Mark.Open) }
-        ensures open_items { OnOk result (self.new.open_items.items ≡ self.old.open_items.items ++ item ∷ []) }
-        ensures fewer { (t : Item) → IsMarked self.new.marks.items t Mark.New → IsMarked self.old.marks.items t Mark.New }
+        ensures open_items { OnOk result (self.new.open_items.items ≡ self.old.open_items.items ++ item
+            ∷ []) }
+        ensures fewer { (t : Item) → IsMarked self.new.marks.items t Mark.New
+            → IsMarked self.old.marks.items t Mark.New }
         ensures size { length self.new.marks.items ≡ length self.old.marks.items }
         ensures next { self.new.next ≡ self.old.next }
         ensures order { self.new.order ≡ self.old.order }
@@ -151,7 +160,8 @@ impl Walk {
         requires { item.0 < length self.old.marks.items }
         ensures marks { OnOk result (self.new.marks.items ≡ slice_set self.old.marks.items item.0 Mark.Done) }
         ensures order { OnOk result (self.new.order.items ≡ self.old.order.items ++ item ∷ []) }
-        ensures fewer { (t : Item) → IsMarked self.new.marks.items t Mark.New → IsMarked self.old.marks.items t Mark.New }
+        ensures fewer { (t : Item) → IsMarked self.new.marks.items t Mark.New
+            → IsMarked self.old.marks.items t Mark.New }
         ensures size { length self.new.marks.items ≡ length self.old.marks.items }
         ensures next { self.new.next ≡ self.old.next }
         ensures open_items { self.new.open_items ≡ self.old.open_items }

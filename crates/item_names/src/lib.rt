@@ -14,7 +14,8 @@ use std::marker::Model;
 /// As many names may be held.
 pub const MOST_NAMES: u32 = 1_048_576;
 
-/// Names, each with a number: the first name has the number 0, and each new one the next. A name keeps its number.
+/// Names, each with a number: the first name has the number 0, and each new one the next. A name keeps its
+/// number.
 ///
 /// Each name is stored once, and is found by its hash.
 #[derive(Debug, Drop)]
@@ -31,7 +32,8 @@ impl Model for Names {
 
     ghost view = { λ n. map (λ name. name.items) n.names.keys };
 
-    ghost invariant = { λ n. (length n.names.keys ≤ most_items) × AreDistinct (map (λ name. name.items) n.names.keys) };
+    ghost invariant = { λ n. (length n.names.keys ≤ most_items) × AreDistinct (map
+        (λ name. name.items) n.names.keys) };
 }
 
 impl Names {

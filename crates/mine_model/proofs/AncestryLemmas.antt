@@ -1,14 +1,14 @@
 -- What the lists of a hierarchy say is what its links say.
-use Rattle.std.proofs.Common.{◌≡◌, ◌≢◌, ℕ, zero, suc, ◌+◌, ◌-◌, ◌≤◌, ◌<◌, ◌==◌, ◌⊎◌, inl, inr, Bool, true, false, not, cond, List, [], ◌∷◌, ◌++◌, map, filter, length, get_or, take, drop, refl, sym, ap, ◌∙◌, subst, arith, true≢false, eq-eqb, add-one, add-zero, zero-add}
+use Rattle.std.proofs.Common.{◌≡◌, ◌≢◌, ℕ, zero, suc, ◌+◌, ◌-◌, ◌≤◌, ◌<◌, ◌==◌, ◌⊎◌, inl, inr, true, false, not, List, [], ◌∷◌, ◌++◌, filter, length, get_or, take, drop, refl, sym, ap, ◌∙◌, subst, arith, eq-eqb, add-one, add-zero, zero-add}
 use Rattle.std.specs.List.{slice_range, slice_index, All, Contains}
-use Rattle.std.proofs.lemmas.List.{take-append-le, drop-append-le, length_push, get_or_push, get_or_append_left, get_or_default, length-take, length-drop, drop_at, take_all, length-append}
+use Rattle.std.proofs.lemmas.List.{length_push, get_or_push, get_or_append_left, get_or_default, length-take, drop_at, take_all, length-append}
 use Rattle.std.proofs.lemmas.List.Elements.{Contains-append_left, Contains-append_right, Contains-append_cases}
 use Rattle.std.proofs.lemmas.Bool.{cases_eq, cases_lt}
 use Rattle.std.proofs.lemmas.Bool.Decides.{Decides-eqb}
 use Rattle.mine_model.specs.declared.item.Item.{Item}
 use Rattle.mine_model.specs.Hierarchy.{Link, IsWalk, IsAncestor}
 use Rattle.mine_model.specs.Ancestry.{item_at, start_of, list_at, AreCut, AreRising, Lists, AreAncestorLists, links_from_item, links_from_number}
-use Rattle.mine_model.proofs.ListLemmas.{slice_range-append, Contains-cases, Contains-first, Contains-other, Contains-none, Contains-by, Contains-from, Contains-filter, filter-Contains}
+use Rattle.mine_model.proofs.ListLemmas.{slice_range-append, Contains-cases, Contains-first, Contains-none, Contains-by, Contains-from, Contains-filter, filter-Contains}
 
 -- items with one number are one
 pub Item-same : (t w : Item) → t.0 ≡ w.0 → t ≡ w

@@ -5,17 +5,18 @@ use Rattle.std.proofs.lemmas.List.{append-nil}
 use Rattle.std.proofs.lemmas.List.Elements.{filter-append}
 use Rattle.std.proofs.lemmas.Bool.Decides.{nat_tests}
 use Rattle.mine_model.specs.Bytes.{comma}
-use Rattle.mine_model.specs.Tokens.{Each, is_free, is_digit}
+use Rattle.mine_model.specs.Tokens.{Each, is_free}
+use Rattle.std.specs.Char.{is_ascii_digit}
 use Rattle.mine_model.specs.Grammar.{IsPadded, IsRepeat, value_of_digits}
 use Rattle.mine_model.specs.Bounds.{is_comma, before_comma, behind_comma, bound_in, upper_of, most_from, least_of, most_of}
 
-pub free_no_digit : (b : ℕ) → is_free b ≡ true → is_digit b ≡ false
+pub free_no_digit : (b : ℕ) → is_free b ≡ true → is_ascii_digit b ≡ false
 free_no_digit b h = grind (arith, nat_tests)
 
 free_no_comma : (b : ℕ) → is_free b ≡ true → is_comma b ≡ false
 free_no_comma b h = grind (arith, nat_tests)
 
-pub digit_no_comma : (b : ℕ) → is_digit b ≡ true → is_comma b ≡ false
+pub digit_no_comma : (b : ℕ) → is_ascii_digit b ≡ true → is_comma b ≡ false
 digit_no_comma b h = grind (arith, nat_tests)
 
 pub each-map : (f g : ℕ → Bool) (x y : Bool) → ((b : ℕ) → f b ≡ x → g b ≡ y) → (bytes : List ℕ) → Each f x bytes → Each g y bytes
@@ -34,26 +35,26 @@ filter-none : (f : ℕ → Bool) (bytes : List ℕ) → Each f false bytes → f
 filter-none f [] each = refl
 filter-none f (b ∷ bytes) each = rw each.0 (filter-none f bytes each.1)
 
-free-digits : (bytes : List ℕ) → Each is_free true bytes → filter is_digit bytes ≡ []
-free-digits bytes free = filter-none is_digit bytes (each-map is_free is_digit true false free_no_digit bytes free)
+free-digits : (bytes : List ℕ) → Each is_free true bytes → filter is_ascii_digit bytes ≡ []
+free-digits bytes free = filter-none is_ascii_digit bytes (each-map is_free is_ascii_digit true false free_no_digit bytes free)
 
 pub free-commas : (bytes : List ℕ) → Each is_free true bytes → Each is_comma false bytes
 free-commas bytes free = each-map is_free is_comma true false free_no_comma bytes free
 
 -- what is padded has its digits, and no comma
 padded : (bytes : List ℕ) (n : ℕ) → IsPadded bytes n
-    → Each is_comma false bytes × (bound_in bytes ≡ n) × (upper_of (filter is_digit bytes) ≡ Some n)
+    → Each is_comma false bytes × (bound_in bytes ≡ n) × (upper_of (filter is_ascii_digit bytes) ≡ Some n)
 padded bytes n (before, digits, after, same, free, free', (are, some, value)) =
     let no_comma : Each is_comma false (before ++ digits ++ after) =
     each-append is_comma false (before ++ digits) after
-    (each-append is_comma false before digits (free-commas before free) (each-map is_digit is_comma true false digit_no_comma digits are)) (free-commas after free') in
-    let digits_are : filter is_digit bytes ≡ digits =
-    ap (filter is_digit) same ∙ filter-append is_digit (before ++ digits) after
-    ∙ ap (λ xs. filter is_digit (before ++ digits) ++ xs) (free-digits after free')
-    ∙ append-nil (filter is_digit (before ++ digits))
-    ∙ filter-append is_digit before digits
-    ∙ ap (λ xs. xs ++ filter is_digit digits) (free-digits before free)
-    ∙ filter-all is_digit digits are in (
+    (each-append is_comma false before digits (free-commas before free) (each-map is_ascii_digit is_comma true false digit_no_comma digits are)) (free-commas after free') in
+    let digits_are : filter is_ascii_digit bytes ≡ digits =
+    ap (filter is_ascii_digit) same ∙ filter-append is_ascii_digit (before ++ digits) after
+    ∙ ap (λ xs. filter is_ascii_digit (before ++ digits) ++ xs) (free-digits after free')
+    ∙ append-nil (filter is_ascii_digit (before ++ digits))
+    ∙ filter-append is_ascii_digit before digits
+    ∙ ap (λ xs. xs ++ filter is_ascii_digit digits) (free-digits before free)
+    ∙ filter-all is_ascii_digit digits are in (
       subst (Each is_comma false) (sym same) no_comma,
       ap value_of_digits digits_are ∙ value,
       ap upper_of digits_are ∙ upper digits n some value,
@@ -80,7 +81,7 @@ behind-cut [] right none = refl
 behind-cut (b ∷ left) right none = rw none.0 (behind-cut left right none.1)
 
 cut-bounds : (between left right : List ℕ) (least : ℕ) (most : Option ℕ) → between ≡ left ++ comma ∷ right → Each is_comma false left
-    → bound_in left ≡ least → upper_of (filter is_digit right) ≡ most → (least_of between ≡ least) × (most_of between ≡ most)
+    → bound_in left ≡ least → upper_of (filter is_ascii_digit right) ≡ most → (least_of between ≡ least) × (most_of between ≡ most)
 cut-bounds between left right least most same none p q = (
   ap least_of same ∙ ap bound_in (before-cut left right none) ∙ p,
   ap most_of same ∙ ap (most_from (least_of (left ++ comma ∷ right))) (behind-cut left right none) ∙ q,

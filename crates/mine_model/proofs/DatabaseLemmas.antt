@@ -1,10 +1,9 @@
 -- Lemmas on how the sequences of a database lie in memory.
-use Rattle.std.proofs.Common.{◌≡◌, ℕ, zero, suc, ◌+◌, ◌-◌, ◌≤◌, ◌<◌, List, [], ◌∷◌, ◌++◌, length, take, drop, get_or, refl, sym, ap, ◌∙◌, subst, arith, length-append, length-drop, length-take, All}
-use Rattle.std.proofs.lemmas.List.{take-append-le, drop-append-le, drop_at, take_all, length_push}
+use Rattle.std.proofs.Common.{◌≡◌, ℕ, zero, suc, ◌+◌, ◌-◌, ◌≤◌, ◌<◌, List, [], ◌∷◌, ◌++◌, length, get_or, refl, sym, ap, ◌∙◌, subst, arith, length-append, length-take}
+use Rattle.std.proofs.lemmas.List.{drop_at, take_all, length_push}
 use Rattle.std.specs.List.{slice_range, AllByRecursion}
 use Rattle.mine_model.specs.declared.item.Item.{Item}
 use Rattle.mine_model.specs.declared.database.Entry.{Entry}
-use Rattle.mine_model.specs.Support.{Sequence}
 use Rattle.mine_model.specs.Limits.{most_sequences, most_length, most_weight}
 use Rattle.mine_model.proofs.ListLemmas.{slice_range-append}
 use Rattle.mine_model.specs.Database.{sequence_at, IsWithinLimits, sequences_from, IsEntry, AreEntries, start_of, IsFlat}

@@ -1,5 +1,5 @@
 -- The answer by names, from the frequent patterns by the numbers of names.
-use Rattle.std.proofs.Common.{◌≡◌, ℕ, ◌≤◌, ◌↔◌, inl, inr, List, [], ◌∷◌, sym, ap, ◌∙◌, subst, map, Contains, arith}
+use Rattle.std.proofs.Common.{◌≡◌, ℕ, ◌≤◌, ◌↔◌, List, sym, ap, subst, map, Contains, arith}
 use Rattle.std.specs.List.{AllByRecursion}
 use Rattle.mine_model.specs.declared.item.Item.{Item}
 use Rattle.mine_model.specs.declared.row.Row.{Row}
@@ -7,7 +7,7 @@ use Rattle.mine_model.specs.Hierarchy.{Link}
 use Rattle.mine_model.specs.Expression.{tree_by}
 use Rattle.mine_model.specs.Answer.{Data, IsFrequent, NamedRow, Rises, IsAnswer}
 use Rattle.mine_model.specs.Names.{name_of, HasName, sequence_by, named_row, AreNamed}
-use Rattle.mine_model.proofs.ListLemmas.{Contains-cases, Contains-first, Contains-other, Contains-none, Contains-by, Contains-from}
+use Rattle.mine_model.proofs.ListLemmas.{Contains-by, Contains-from}
 use Rattle.mine_model.proofs.NumberingLemmas.{Renames, map-none, counts-forth, counts-back, supported-in, supported-back}
 
 -- the data under the names, over links between names

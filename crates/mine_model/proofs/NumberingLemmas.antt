@@ -1,13 +1,13 @@
 -- What an expression generates, under other names of the items.
-use Rattle.std.proofs.Common.{◌≡◌, ℕ, ◌+◌, ◌≤◌, inl, inr, Bool, true, false, List, [], ◌∷◌, ◌++◌, refl, sym, ap, ◌∙◌, subst, map, length, Contains, arith, suc}
+use Rattle.std.proofs.Common.{◌≡◌, ℕ, ◌≤◌, inl, inr, Bool, true, false, List, [], ◌∷◌, ◌++◌, refl, sym, ap, ◌∙◌, subst, map, length, arith, suc}
 use Rattle.std.specs.List.{AllByRecursion, flat_map}
 use Rattle.std.proofs.lemmas.List.{map-append, length-map}
 use Rattle.mine_model.specs.Hierarchy.{Link, IsAncestor}
 use Rattle.mine_model.specs.Expression.{Leaf, under, exact, climb, forced, any, any_climb, not_under, not_exact, Tree, leaf, cat, alt, rep, cap, named_by, named_in, leaf_by, tree_by}
 use Rattle.mine_model.specs.Generation.{Matches, MayWrite, WritesAt, Turn, IsAtMost, Generates, IsPatternOf}
-use Rattle.mine_model.specs.Support.{Sequence, Counts, HasSupport}
+use Rattle.mine_model.specs.Support.{Sequence, HasSupport}
 use Rattle.mine_model.specs.Names.{sequence_by}
-use Rattle.mine_model.proofs.ListLemmas.{front_of_both, back_of_both, of_both}
+use Rattle.mine_model.proofs.ListLemmas.{front_of_both, back_of_both}
 use Rattle.mine_model.proofs.GenerationLemmas.{Generates-items}
 use Rattle.mine_model.proofs.SupportLemmas.{Counts-some}
 

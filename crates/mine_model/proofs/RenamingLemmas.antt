@@ -1,10 +1,10 @@
 -- Links under other names: what leads where, cycles and how many ancestors there are stay the same.
-use Rattle.std.proofs.Common.{◌≡◌, ◌≢◌, ℕ, ◌<◌, Bool, true, false, cond, List, [], ◌∷◌, map, filter, length, get_or, refl, sym, ap, ◌∙◌, subst, arith, nat_le, suc}
+use Rattle.std.proofs.Common.{◌≡◌, ◌≢◌, ℕ, ◌<◌, true, false, cond, List, [], ◌∷◌, map, filter, length, get_or, refl, sym, ap, ◌∙◌, subst, arith, nat_le}
 use Rattle.std.specs.List.{All, AllPairs, Contains}
 use Rattle.std.proofs.lemmas.List.{length-map, get_or_default}
 use Rattle.std.proofs.lemmas.List.Elements.{All-contains, All-head, All-tail, All-cons, Contains-get_or}
 use Rattle.std.proofs.lemmas.List.Kept.{AllPairs-cons}
-use Rattle.mine_model.specs.Hierarchy.{Link, PlacedLink, IsWalk, IsAncestor, HasCycle, IsAcyclic, links_through, IsCycleLine, HasMoreAncestors}
+use Rattle.mine_model.specs.Hierarchy.{Link, PlacedLink, IsWalk, IsAncestor, HasCycle, links_through, IsCycleLine, HasMoreAncestors}
 use Rattle.mine_model.specs.Names.{link_by}
 use Rattle.mine_model.proofs.ListLemmas.{Contains-by, Contains-from, AllPairs-head, AllPairs-tail}
 use Rattle.mine_model.proofs.NumberingLemmas.{Renames}

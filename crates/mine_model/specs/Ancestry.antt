@@ -33,8 +33,8 @@ AreRising items = AllPairs (λ first second. first.0 < second.0) items
 abbrev pub Lists : List ℕ → List Item → Item → Item → Type 0
 Lists ends lists t w = (t.0 < length ends) × Contains (list_at ends lists t.0) w
 
--- Each list could be that of the ancestors of its item: it holds the item itself and the list of each of its members,
--- and different items are not in each other's lists.
+-- Each list could be that of the ancestors of its item: it holds the item itself and the list of each of its
+-- members, and different items are not in each other's lists.
 pub record AreAncestorLists (ends : List ℕ) (lists : List Item) : Type 0 where
   pub cut : AreCut ends (length lists)
   pub rising : (number : ℕ) → number < length ends → AreRising (list_at ends lists number)
@@ -52,7 +52,8 @@ links_from_item t list =
 abbrev pub links_from_number : ℕ → ℕ → List ℕ → List Item → List (Link Item)
 links_from_number number start [] lists = []
 links_from_number number start (end ∷ ends) lists =
-    links_from_item (item_at number) (slice_range lists start end) ++ links_from_number (number + 1) end ends lists
+    links_from_item (item_at number) (slice_range lists start end)
+        ++ links_from_number (number + 1) end ends lists
 
 abbrev pub ancestry_of : List ℕ → List Item → Ancestry
 ancestry_of ends lists = record { items = length ends; links = links_from_number 0 0 ends lists }

@@ -1,16 +1,14 @@
 -- The answer: the frequent patterns in their order. From the DESQ article; the order is this program's own.
-use Rattle.std.specs.Prelude.{◌≡◌, ◌≢◌, ℕ, ◌≤◌, ◌<◌, ◌⊎◌, ◌↔◌, List, [], ◌∷◌, AllPairs, Contains}
+use Rattle.std.specs.Prelude.{◌≡◌, ◌≢◌, ℕ, ◌≤◌, ◌<◌, ◌⊎◌, ◌↔◌, List, [], ◌∷◌, Contains}
 use Rattle.std.specs.List.{AllByRecursion}
 use Rattle.std.specs.Ordering.{nat_cmp}
 use Rattle.std.specs.Cmp.Lexicographic.{slice_cmp}
 use Rattle.std.specs.declared.cmp.Ordering.TheVariants.{Less}
-use Rattle.mine_model.specs.declared.item.Item.{Item}
-use Rattle.mine_model.specs.declared.row.Row.{Row}
 use Rattle.mine_model.specs.Hierarchy.{Link}
 use Rattle.mine_model.specs.Expression.{Tree}
 use Rattle.mine_model.specs.Support.{Sequence, HasSupport}
 
--- The data of one run: over names where a promise speaks of them, over the numbers of names inside the program.
+-- The data of one run: over names in the promise, over the numbers of names inside the program.
 pub record Data (A : Type 0) : Type 0 where
   pub links : List (Link A)
   pub sequences : List (Sequence A)
@@ -34,8 +32,7 @@ ComeEarlier names others = slice_cmp (slice_cmp nat_cmp) names others ≡ Less
 
 -- the first row comes before the second: by falling support, then by names
 abbrev pub ComesBefore : NamedRow → NamedRow → Type 0
-ComesBefore first second =
-    (second.support < first.support)
+ComesBefore first second = (second.support < first.support)
     ⊎ ((first.support ≡ second.support) × ComeEarlier first.pattern second.pattern)
 
 -- each row comes before all later ones
@@ -47,8 +44,3 @@ Rises (row ∷ rows) = AllByRecursion (ComesBefore row) rows × Rises rows
 pub record IsAnswer (d : Data (List ℕ)) (answer : List NamedRow) : Type 0 where
   pub ordered : Rises answer
   pub frequent : (row : NamedRow) → Contains answer row ↔ IsFrequent d row.pattern row.support
-
--- the rows are exactly the frequent patterns, each once, in any order
-pub record AreFrequent (d : Data Item) (rows : List Row) : Type 0 where
-  pub once : AllPairs (λ first second. first.pattern ≢ second.pattern) rows
-  pub frequent : (row : Row) → Contains rows row ↔ IsFrequent d row.pattern row.support

@@ -2,7 +2,7 @@
 use Rattle.std.specs.Prelude.{ℕ, Bool, ◌==◌, if◌then◌else◌, Option, Some, None, List, [], ◌∷◌}
 use Rattle.std.specs.List.{filter}
 use Rattle.mine_model.specs.Bytes.{comma}
-use Rattle.mine_model.specs.Tokens.{is_digit}
+use Rattle.std.specs.Char.{is_ascii_digit}
 use Rattle.mine_model.specs.Grammar.{value_of_digits}
 
 abbrev pub is_comma : ℕ → Bool
@@ -17,7 +17,7 @@ behind_comma [] = None
 behind_comma (b ∷ bytes) = if is_comma b then Some bytes else behind_comma bytes
 
 abbrev pub bound_in : List ℕ → ℕ
-bound_in bytes = value_of_digits (filter is_digit bytes)
+bound_in bytes = value_of_digits (filter is_ascii_digit bytes)
 
 abbrev pub upper_of : List ℕ → Option ℕ
 upper_of [] = None
@@ -25,7 +25,7 @@ upper_of (d ∷ digits) = Some (value_of_digits (d ∷ digits))
 
 abbrev pub most_from : ℕ → Option (List ℕ) → Option ℕ
 most_from least None = Some least
-most_from least (Some right) = upper_of (filter is_digit right)
+most_from least (Some right) = upper_of (filter is_ascii_digit right)
 
 abbrev pub least_of : List ℕ → ℕ
 least_of between = bound_in (before_comma between)

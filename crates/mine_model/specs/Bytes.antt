@@ -16,15 +16,6 @@ space = 32
 abbrev pub exclamation_mark : ℕ
 exclamation_mark = 33
 
-abbrev pub number_sign : ℕ
-number_sign = 35
-
-abbrev pub percent_sign : ℕ
-percent_sign = 37
-
-abbrev pub ampersand : ℕ
-ampersand = 38
-
 abbrev pub quote : ℕ
 quote = 39
 
@@ -49,32 +40,14 @@ dash = 45
 abbrev pub full_stop : ℕ
 full_stop = 46
 
-abbrev pub slash : ℕ
-slash = 47
-
 abbrev pub digit_zero : ℕ
 digit_zero = 48
-
-abbrev pub digit_nine : ℕ
-digit_nine = 57
-
-abbrev pub colon : ℕ
-colon = 58
 
 abbrev pub equals_sign : ℕ
 equals_sign = 61
 
 abbrev pub question_mark : ℕ
 question_mark = 63
-
-abbrev pub at_sign : ℕ
-at_sign = 64
-
-abbrev pub capital_a : ℕ
-capital_a = 65
-
-abbrev pub capital_z : ℕ
-capital_z = 90
 
 abbrev pub open_square : ℕ
 open_square = 91
@@ -84,15 +57,6 @@ close_square = 93
 
 abbrev pub circumflex : ℕ
 circumflex = 94
-
-abbrev pub underscore : ℕ
-underscore = 95
-
-abbrev pub small_a : ℕ
-small_a = 97
-
-abbrev pub small_z : ℕ
-small_z = 122
 
 abbrev pub open_brace : ℕ
 open_brace = 123

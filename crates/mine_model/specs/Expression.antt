@@ -1,11 +1,6 @@
 -- Pattern expressions as trees, over what their leaves name. From the DESQ article; the item expressions are
 -- this program's own.
 use Rattle.std.specs.Prelude.{ℕ, ◌+◌, ◌*◌, max, Option, Some, None, List, [], ◌∷◌, ◌++◌}
-use Rattle.mine_model.specs.declared.item.Item.{Item}
-use Rattle.mine_model.specs.declared.expression.Leaf.{Leaf as ItemLeaf}
-use Rattle.mine_model.specs.declared.expression.Leaf.TheVariants.{Under, Exact, Climb, Forced, Any, AnyClimb, Not, NotExact}
-use Rattle.mine_model.specs.declared.expression.Expr.{Expr}
-use Rattle.mine_model.specs.declared.expression.Expr.TheVariants.{Leaf as LeafExpr, Cat', Alt', Rep', Cap'}
 
 -- the item expressions: w, w=, w^, w^=, a dot, a dot and ^, !w, !w=
 pub data Leaf (A : Type 0) : Type 0 where
@@ -25,23 +20,6 @@ pub data Tree (A : Type 0) : Type 0 where
   alt : Tree A → Tree A → Tree A
   rep : Tree A → ℕ → Option ℕ → Tree A
   cap : Tree A → Tree A
-
-abbrev pub leaf_of : ItemLeaf → Leaf Item
-leaf_of (Under w) = under w
-leaf_of (Exact w) = exact w
-leaf_of (Climb w) = climb w
-leaf_of (Forced w) = forced w
-leaf_of Any = any
-leaf_of AnyClimb = any_climb
-leaf_of (Not w) = not_under w
-leaf_of (NotExact w) = not_exact w
-
-abbrev pub tree_of : Expr → Tree Item
-tree_of (LeafExpr l) = leaf (leaf_of l)
-tree_of (Cat' p left q right) = cat (tree_of left) (tree_of right)
-tree_of (Alt' p left q right) = alt (tree_of left) (tree_of right)
-tree_of (Rep' p inner least most) = rep (tree_of inner) least most
-tree_of (Cap' p inner) = cap (tree_of inner)
 
 -- how often a repetition counts: its upper bound, or without one its lower bound but at least once
 abbrev pub unfolded_times : ℕ → Option ℕ → ℕ

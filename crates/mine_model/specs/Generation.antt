@@ -1,5 +1,5 @@
 -- What an expression generates from a sequence. From the DESQ article, the meaning of pattern expressions.
-use Rattle.std.specs.Prelude.{◌≡◌, ◌≢◌, ℕ, ◌≤◌, Bool, true, false, ◌⊎◌, List, [], ◌∷◌, ◌++◌, length, Option, Some, None}
+use Rattle.std.specs.Prelude.{◌≡◌, ◌≢◌, ℕ, ◌≤◌, Bool, true, false, ◌⊎◌, List, [], ◌∷◌, ◌++◌, length, Option, IfSome}
 use Rattle.std.specs.List.{AllByRecursion, flat_map}
 use Rattle.mine_model.specs.Hierarchy.{Link, IsAncestor}
 use Rattle.mine_model.specs.Expression.{Leaf, under, exact, climb, forced, any, any_climb, not_under, not_exact, Tree, leaf, cat, alt, rep, cap}
@@ -10,21 +10,17 @@ Matches links (under w) t = IsAncestor links w t
 Matches links (exact w) t = t ≡ w
 Matches links (climb w) t = IsAncestor links w t
 Matches links (forced w) t = IsAncestor links w t
-Matches links any t = Unit {0}
-Matches links any_climb t = Unit {0}
 Matches links (not_under w) t = IsAncestor links w t → ⊥
 Matches links (not_exact w) t = t ≢ w
+Matches links _ t = Unit {0}
 
--- at t the leaf may write v, inside a capture
+-- at t the leaf may write v, inside a capture: what it names, what stands between, or t itself
 abbrev pub MayWrite : {A : Type 0} → List (Link A) → Leaf A → A → A → Type 0
-MayWrite links (under w) t v = v ≡ t
 MayWrite links (exact w) t v = v ≡ w
 MayWrite links (climb w) t v = IsAncestor links v t × IsAncestor links w v
 MayWrite links (forced w) t v = v ≡ w
-MayWrite links any t v = v ≡ t
 MayWrite links any_climb t v = IsAncestor links v t
-MayWrite links (not_under w) t v = v ≡ t
-MayWrite links (not_exact w) t v = v ≡ t
+MayWrite links _ t v = v ≡ t
 
 -- what the leaf writes at t: one item inside a capture, nothing outside
 abbrev pub WritesAt : {A : Type 0} → List (Link A) → Leaf A → Bool → A → List A → Type 0
@@ -37,8 +33,7 @@ pub record Turn (A : Type 0) : Type 0 where
   pub output : List A
 
 abbrev pub IsAtMost : ℕ → Option ℕ → Type 0
-IsAtMost n None = Unit {0}
-IsAtMost n (Some most) = n ≤ most
+IsAtMost n most = IfSome most (λ most. n ≤ most)
 
 -- The tree generates the output from the whole input, inside a capture or outside.
 abbrev pub Generates : {A : Type 0} → List (Link A) → Tree A → Bool → List A → List A → Type 0
@@ -58,4 +53,4 @@ Generates links (cap inner) captured input output = Generates links inner true i
 
 -- a pattern of the sequence: a non-empty output that the expression generates from it
 abbrev pub IsPatternOf : {A : Type 0} → List (Link A) → Tree A → List A → List A → Type 0
-IsPatternOf links expression sequence pattern = (pattern ≢ []) × Generates links expression false sequence pattern
+IsPatternOf links tree sequence pattern = (pattern ≢ []) × Generates links tree false sequence pattern

@@ -8,8 +8,8 @@ pub record Link (A : Type 0) : Type 0 where
 
 -- the steps, one link each, lead from an item up to another
 abbrev pub IsWalk : {A : Type 0} → List (Link A) → A → List A → A → Type 0
-IsWalk links from [] to = from ≡ to
-IsWalk links from (next ∷ steps) to = Contains links (record { child = from; parent = next }) × IsWalk links next steps to
+IsWalk links t [] w = t ≡ w
+IsWalk links t (up ∷ steps) w = Contains links (record { child = t; parent = up }) × IsWalk links up steps w
 
 -- w is t or stands above t: w is in anc(t), and t is in desc(w)
 abbrev pub IsAncestor : {A : Type 0} → List (Link A) → A → A → Type 0
@@ -34,11 +34,9 @@ links_through line placed = map (λ p. p.link) (filter (λ p. nat_le p.line line
 -- the least line whose links together with those before it have a cycle
 abbrev pub IsCycleLine : {A : Type 0} → List (PlacedLink A) → ℕ → Type 0
 IsCycleLine placed line =
-    HasCycle (links_through line placed) × ((earlier : ℕ) → earlier < line → IsAcyclic (links_through earlier placed))
+    HasCycle (links_through line placed) × ((n : ℕ) → n < line → IsAcyclic (links_through n placed))
 
 -- these items have more than n ancestors, summed over the items
 abbrev pub HasMoreAncestors : {A : Type 0} → ℕ → List (Link A) → (A → Type 0) → Type 0
-HasMoreAncestors {A} n links IsItem =
-    (pairs : List (Link A)) × AllPairs (λ p q. p ≢ q) pairs
-    × All (λ p. IsItem p.child × IsAncestor links p.parent p.child) pairs
-    × (n < length pairs)
+HasMoreAncestors {A} n links IsItem = (pairs : List (Link A)) × AllPairs (λ p q. p ≢ q) pairs
+    × All (λ p. IsItem p.child × IsAncestor links p.parent p.child) pairs × (n < length pairs)

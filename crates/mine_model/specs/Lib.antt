@@ -14,13 +14,13 @@ pub mod First
 pub mod Refusal
 pub mod Status
 -- what crates share
+pub mod Numbered
 pub mod Names
 pub mod Ancestry
 pub mod Labels
 pub mod Database
 pub mod Cover
 pub mod Faults
-pub mod PatexFaults
 -- what the proofs keep
 pub mod Machine
 pub mod Holding

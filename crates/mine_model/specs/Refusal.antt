@@ -1,4 +1,4 @@
--- What is refused of an expression and of the files, and which refusal comes first. This program's own format.
+-- What is refused of an expression and of the files, and which refusal comes first. This program's own.
 use Rattle.std.specs.Prelude.{◌≡◌, ◌≢◌, ℕ, ◌+◌, ◌≤◌, ◌<◌, min, ◌⊎◌, Bool, true, false, List, [], ◌∷◌, ◌++◌, map, length, All, AllPairs, Contains, Option, Some}
 use Rattle.std.specs.List.{flat_map}
 use Rattle.mine_model.specs.declared.fault.Fault.{Fault}
@@ -11,7 +11,7 @@ use Rattle.mine_model.specs.Hierarchy.{Link, PlacedLink, IsCycleLine, HasMoreAnc
 use Rattle.mine_model.specs.Text.{lines_of, fields_of, placed_fields_of, Field, bad_byte, long_name, IsFirstTextFault}
 use Rattle.mine_model.specs.Expression.{Tree, unfolded_leaves}
 use Rattle.mine_model.specs.Support.{Sequence}
-use Rattle.mine_model.specs.Tokens.{Token, name, sign, repeat, open_repeat, Placed, AreTokens, IsBadToken}
+use Rattle.mine_model.specs.Tokens.{Token, sign, repeat, open_repeat, Placed, AreTokens, IsBadToken}
 use Rattle.mine_model.specs.Grammar.{Use, value_of_digits, IsDecimal, IsRepeat, expression, Reads, Begins}
 use Rattle.mine_model.specs.First.{FirstOf, FirstAmong}
 
@@ -19,21 +19,16 @@ use Rattle.mine_model.specs.First.{FirstOf, FirstAmong}
 
 -- the token is a repeat of no right form, or its bounds, both within the limit, are the wrong way round
 abbrev pub IsBadRepeat : Token → Type 0
-IsBadRepeat (name text) = ⊥
-IsBadRepeat (sign b) = ⊥
-IsBadRepeat (repeat between) =
-    ((least : ℕ) (most : Option ℕ) → IsRepeat between least most → ⊥)
+IsBadRepeat (repeat between) = ((least : ℕ) (most : Option ℕ) → IsRepeat between least most → ⊥)
     ⊎ ((least most : ℕ) × IsRepeat between least (Some most) × (least ≤ most_times) × (most < least))
 IsBadRepeat (open_repeat behind) = Unit {0}
+IsBadRepeat _ = ⊥
 
 -- the token is a repeat with a number above the limit
 abbrev pub IsBeyondLimit : Token → Type 0
-IsBeyondLimit (name text) = ⊥
-IsBeyondLimit (sign b) = ⊥
-IsBeyondLimit (repeat between) =
-    (least : ℕ) × (most : Option ℕ) × IsRepeat between least most
+IsBeyondLimit (repeat between) = (least : ℕ) × (most : Option ℕ) × IsRepeat between least most
     × ((most_times < least) ⊎ ((m : ℕ) × (most ≡ Some m) × (most_times < m)))
-IsBeyondLimit (open_repeat behind) = ⊥
+IsBeyondLimit _ = ⊥
 
 abbrev pub IsOpening : Token → Type 0
 IsOpening token = (token ≡ sign open_round) ⊎ (token ≡ sign open_square)
@@ -43,10 +38,9 @@ IsClosing token = (token ≡ sign close_round) ⊎ (token ≡ sign close_square)
 
 -- * + ? or a repeat
 abbrev pub IsPostfixSign : Token → Type 0
-IsPostfixSign (name text) = ⊥
 IsPostfixSign (sign b) = (b ≡ asterisk) ⊎ (b ≡ plus_sign) ⊎ (b ≡ question_mark)
 IsPostfixSign (repeat between) = Unit {0}
-IsPostfixSign (open_repeat behind) = ⊥
+IsPostfixSign _ = ⊥
 
 -- n brackets are open behind the tokens
 pub data AreOpen : List Placed → ℕ → Type 0 where
@@ -60,8 +54,7 @@ pub data AreOpen : List Placed → ℕ → Type 0 where
 
 -- a bracket opens inside too many, or a postfix sign comes after too many in a row
 abbrev pub IsTooDeepAfter : List Placed → Placed → Type 0
-IsTooDeepAfter before placed =
-    (IsOpening placed.token × (n : ℕ) × AreOpen before n × (most_nested ≤ n))
+IsTooDeepAfter before placed = (IsOpening placed.token × (n : ℕ) × AreOpen before n × (most_nested ≤ n))
     ⊎ (IsPostfixSign placed.token × ((front signs : List Placed)
     × (before ≡ front ++ signs) × (length signs ≡ most_nested) × All (λ p. IsPostfixSign p.token) signs))
 
@@ -76,24 +69,22 @@ IsWrongAfter before placed = Begins (before ++ placed ∷ []) → ⊥
 
 -- the first wrong token, or the end of the text where an expression is begun and not ended
 abbrev pub IsUnexpected : List ℕ → List Placed → ℕ → Type 0
-IsUnexpected text tokens column =
-    IsFirstToken IsWrongAfter tokens column
+IsUnexpected text tokens column = IsFirstToken IsWrongAfter tokens column
     ⊎ (Begins tokens × ((tree : Tree Use) → Reads expression tokens tree → ⊥) × (column ≡ length text + 1))
 
 -- The first refusal of an expression. The kind decides, and within a kind the place.
 abbrev pub IsExpressionRefusal : List ℕ → Fault → Type 0
-IsExpressionRefusal text =
-    FirstOf (λ fault. (most_expression_bytes < length text) × (fault ≡ ExprTooLong))
-    (FirstOf (λ fault. (column : ℕ) × IsBadToken text column × (fault ≡ BadToken column))
-    (FirstOf (λ fault. (tokens : List Placed) × (column : ℕ) × AreTokens text tokens
-    × IsFirstToken (λ before placed. IsBadRepeat placed.token) tokens column × (fault ≡ BadRepeat column))
-    (FirstOf (λ fault. (tokens : List Placed) × (column : ℕ) × AreTokens text tokens
-    × IsFirstToken (λ before placed. IsBeyondLimit placed.token) tokens column × (fault ≡ RepeatLimit column))
-    (FirstOf (λ fault. (tokens : List Placed) × (column : ℕ) × AreTokens text tokens
-    × IsUnexpected text tokens column × (fault ≡ Unexpected column))
-    (FirstOf (λ fault. (tokens : List Placed) × (column : ℕ) × AreTokens text tokens
-    × IsFirstToken IsTooDeepAfter tokens column × (fault ≡ TooDeep column))
-    (λ fault. (tokens : List Placed) × (tree : Tree Use) × AreTokens text tokens × Reads expression tokens tree
+IsExpressionRefusal text = FirstOf (λ fault. (most_expression_bytes < length text)
+    × (fault ≡ ExprTooLong)) (FirstOf (λ fault. (column : ℕ) × IsBadToken text column
+    × (fault ≡ BadToken column)) (FirstOf (λ fault. (tokens : List Placed) × (column : ℕ)
+    × AreTokens text tokens × IsFirstToken (λ before placed. IsBadRepeat placed.token) tokens column
+    × (fault ≡ BadRepeat column)) (FirstOf (λ fault. (tokens : List Placed) × (column : ℕ)
+    × AreTokens text tokens × IsFirstToken (λ before placed. IsBeyondLimit placed.token) tokens column
+    × (fault ≡ RepeatLimit column)) (FirstOf (λ fault. (tokens : List Placed) × (column : ℕ)
+    × AreTokens text tokens × IsUnexpected text tokens column
+    × (fault ≡ Unexpected column)) (FirstOf (λ fault. (tokens : List Placed) × (column : ℕ)
+    × AreTokens text tokens × IsFirstToken IsTooDeepAfter tokens column × (fault ≡ TooDeep column)) (λ fault.
+    (tokens : List Placed) × (tree : Tree Use) × AreTokens text tokens × Reads expression tokens tree
     × (most_leaves < unfolded_leaves tree)
     × (fault ≡ TooManyLeaves (min (unfolded_leaves tree) most_told_leaves))))))))
 
@@ -109,15 +100,14 @@ IsTooLarge file bytes fault = (most_file_bytes < length bytes) × (fault ≡ Too
 
 -- the fault of the text of the line with this number that comes first
 abbrev pub IsTextRefusal : Which → ℕ → List ℕ → Fault → Type 0
-IsTextRefusal file line text fault =
-    (column : ℕ)
+IsTextRefusal file line text fault = (column : ℕ)
     × ((IsFirstTextFault text bad_byte column × (fault ≡ BadByte file line column))
     ⊎ (IsFirstTextFault text long_name column × (fault ≡ NameTooLong file line column)))
 
 -- among the names more than so many are different
 abbrev pub HasMoreNames : ℕ → List (List ℕ) → Type 0
-HasMoreNames n names =
-    (some : List (List ℕ)) × AllPairs (λ a b. a ≢ b) some × All (λ a. Contains names a) some × (n < length some)
+HasMoreNames n names = (some : List (List ℕ)) × AllPairs (λ a b. a ≢ b) some
+    × All (λ a. Contains names a) some × (n < length some)
 
 -- The hierarchy file
 
@@ -144,17 +134,16 @@ abbrev pub links_of : List ℕ → List (Link (List ℕ))
 links_of bytes = map (λ placed. placed.link) (placed_links_of (lines_of bytes))
 
 abbrev pub IsHierarchyLineRefusal : List (List ℕ) → List ℕ → Fault → Type 0
-IsHierarchyLineRefusal before text =
-    FirstOf (IsTextRefusal Hierarchy (length before + 1) text)
-    (λ fault. HasMoreNames most_items (names_of (before ++ text ∷ [])) × (fault ≡ TooManyItems Hierarchy (length before + 1)))
+IsHierarchyLineRefusal before text = FirstOf (IsTextRefusal Hierarchy (length before + 1) text)
+    (λ fault. HasMoreNames most_items (names_of (before ++ text ∷ []))
+    × (fault ≡ TooManyItems Hierarchy (length before + 1)))
 
 -- the first refusal of the hierarchy file
 abbrev pub IsHierarchyRefusal : List ℕ → Fault → Type 0
-IsHierarchyRefusal bytes =
-    FirstOf (IsTooLarge Hierarchy bytes)
+IsHierarchyRefusal bytes = FirstOf (IsTooLarge Hierarchy bytes)
     (FirstOf (FirstAmong IsHierarchyLineRefusal [] (lines_of bytes))
-    (FirstOf (λ fault. (line : ℕ) × IsCycleLine (placed_links_of (lines_of bytes)) line × (fault ≡ Cycle line))
-    (λ fault. HasMoreAncestors most_ancestors (links_of bytes) (λ name. Contains (names_of (lines_of bytes)) name)
+    (FirstOf (λ fault. (n : ℕ) × IsCycleLine (placed_links_of (lines_of bytes)) n × (fault ≡ Cycle n))
+    (λ fault. HasMoreAncestors most_ancestors (links_of bytes) (λ t. Contains (names_of (lines_of bytes)) t)
     × (fault ≡ TooManyAncestors))))
 
 -- The sequence file
@@ -188,8 +177,7 @@ IsBadWeight true (field ∷ fields) column = (IsWeight field.text → ⊥) × (c
 
 -- the line is refused, where these names are known from the hierarchy file
 abbrev pub IsSequenceLineRefusal : Bool → List (List ℕ) → List (List ℕ) → List ℕ → Fault → Type 0
-IsSequenceLineRefusal weighted known before text =
-    FirstOf (IsTextRefusal Sequences (length before + 1) text)
+IsSequenceLineRefusal weighted known before text = FirstOf (IsTextRefusal Sequences (length before + 1) text)
     (FirstOf (λ fault. (most_sequences ≤ length before) × (fault ≡ TooManySequences (length before + 1)))
     (FirstOf (λ fault. (column : ℕ) × IsBadWeight weighted (placed_fields_of text) column
     × (fault ≡ BadWeight (length before + 1) column))
@@ -200,6 +188,5 @@ IsSequenceLineRefusal weighted known before text =
 
 -- the first refusal of the sequence file
 abbrev pub IsSequencesRefusal : Bool → List (List ℕ) → List ℕ → Fault → Type 0
-IsSequencesRefusal weighted known bytes =
-    FirstOf (IsTooLarge Sequences bytes)
+IsSequencesRefusal weighted known bytes = FirstOf (IsTooLarge Sequences bytes)
     (FirstAmong (IsSequenceLineRefusal weighted known) [] (lines_of bytes))

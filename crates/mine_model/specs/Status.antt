@@ -7,7 +7,7 @@ use Rattle.mine_model.specs.declared.fault.Which.{Which}
 use Rattle.mine_model.specs.declared.fault.Which.TheVariants.{Hierarchy, Sequences}
 use Rattle.mine_model.specs.Bytes.{line_feed}
 
--- what is malformed has 3, what is beyond a limit 4
+-- what is malformed has 3, and what is beyond a limit 4
 abbrev pub fault_status : Fault → ℕ
 fault_status Usage = 2
 fault_status (BadToken column) = 3
@@ -17,19 +17,10 @@ fault_status (Unknown column) = 3
 fault_status (BadByte file line column) = 3
 fault_status (BadWeight line column) = 3
 fault_status (Cycle line) = 3
-fault_status ExprTooLong = 4
-fault_status (RepeatLimit column) = 4
-fault_status (TooDeep column) = 4
-fault_status (TooManyLeaves count) = 4
-fault_status (TooLarge file) = 4
-fault_status (NameTooLong file line column) = 4
-fault_status (TooManyItems file line) = 4
-fault_status TooManyAncestors = 4
-fault_status (TooManySequences line) = 4
-fault_status (SequenceTooLong line) = 4
 fault_status (Read file) = 5
 fault_status Write = 6
 fault_status NoMemory = 7
+fault_status _ = 4
 
 -- the status of a run
 abbrev pub status_of : Result (Unit {0}) Fault → ℕ

@@ -1,4 +1,4 @@
--- In sequences of which weight a pattern is generated, and an item occurs. From the DESQ article; weights are own.
+-- Support of patterns, and frequency of items. From the DESQ article; weights are own.
 use Rattle.std.specs.Prelude.{◌≡◌, ℕ, ◌+◌, ◌⊎◌, List, [], ◌∷◌, Contains}
 use Rattle.mine_model.specs.Hierarchy.{Link, IsAncestor}
 use Rattle.mine_model.specs.Expression.{Tree}
@@ -18,8 +18,7 @@ Counts Has (sequence ∷ sequences) n =
 
 -- n is the support of the pattern: a sequence counts its weight once, however often it generates the pattern
 abbrev pub HasSupport : {A : Type 0} → List (Link A) → Tree A → List (Sequence A) → List A → ℕ → Type 0
-HasSupport links expression sequences pattern n =
-    Counts (λ items. IsPatternOf links expression items pattern) sequences n
+HasSupport links tree sequences pattern n = Counts (λ items. IsPatternOf links tree items pattern) sequences n
 
 -- the items hold one that is w or stands below w
 abbrev pub HoldsUnder : {A : Type 0} → List (Link A) → A → List A → Type 0

@@ -24,7 +24,8 @@ onto_first b (piece ∷ pieces) = (b ∷ piece) ∷ pieces
 -- a line feed ends a line; the bytes after the last one, if there are any, are one more line
 abbrev pub pieces_by_feed : List ℕ → List (List ℕ)
 pieces_by_feed [] = []
-pieces_by_feed (b ∷ bytes) = if b == line_feed then [] ∷ pieces_by_feed bytes else onto_first b (pieces_by_feed bytes)
+pieces_by_feed (b ∷ bytes) = if b == line_feed then [] ∷ pieces_by_feed bytes
+    else onto_first b (pieces_by_feed bytes)
 
 -- a carriage return at the very end is dropped
 abbrev pub without_return : List ℕ → List ℕ
@@ -37,7 +38,8 @@ abbrev pub byte_order_mark : List ℕ
 byte_order_mark = 239 ∷ 187 ∷ 191 ∷ []
 
 abbrev pub without_mark : List ℕ → List ℕ
-without_mark bytes = if starts_with nat_eq bytes byte_order_mark then drop (length byte_order_mark) bytes else bytes
+without_mark bytes = if starts_with nat_eq bytes byte_order_mark then drop (length byte_order_mark) bytes
+    else bytes
 
 -- the lines of a file
 abbrev pub lines_of : List ℕ → List (List ℕ)
@@ -46,7 +48,8 @@ lines_of bytes = map without_return (pieces_by_feed (without_mark bytes))
 -- what stands between bytes of no name, empty pieces among it
 abbrev pub pieces_by_blank : List ℕ → List (List ℕ)
 pieces_by_blank [] = [] ∷ []
-pieces_by_blank (b ∷ bytes) = if is_name_byte b then onto_first b (pieces_by_blank bytes) else [] ∷ pieces_by_blank bytes
+pieces_by_blank (b ∷ bytes) = if is_name_byte b then onto_first b (pieces_by_blank bytes)
+    else [] ∷ pieces_by_blank bytes
 
 -- a field where it stands: column counts its first byte in the line, from 1
 pub record Field : Type 0 where
@@ -74,17 +77,14 @@ pub data TextFault : Type 0 where
 
 -- the fault stands at this column: a bad byte, or the first byte that is too many of a name
 abbrev pub HasTextFault : List ℕ → TextFault → ℕ → Type 0
-HasTextFault line bad_byte column =
-    (before : List ℕ) × (b : ℕ) × (after : List ℕ)
+HasTextFault line bad_byte column = (before : List ℕ) × (b : ℕ) × (after : List ℕ)
     × (line ≡ before ++ b ∷ after) × (column ≡ length before + 1) × (is_bad_byte b ≡ true)
-HasTextFault line long_name column =
-    (field : Field) × Contains (placed_fields_of line) field
+HasTextFault line long_name column = (field : Field) × Contains (placed_fields_of line) field
     × (most_name_bytes < length field.text) × (column ≡ field.column + most_name_bytes)
 
 -- the first fault of the line
 abbrev pub IsFirstTextFault : List ℕ → TextFault → ℕ → Type 0
-IsFirstTextFault line fault column =
-    HasTextFault line fault column
+IsFirstTextFault line fault column = HasTextFault line fault column
     × ((other : TextFault) (elsewhere : ℕ) → HasTextFault line other elsewhere → column ≤ elsewhere)
 
 -- nothing is wrong with the text of the line

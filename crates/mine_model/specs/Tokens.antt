@@ -1,29 +1,20 @@
 -- The tokens of the text of an expression. This program's own spelling.
-use Rattle.std.specs.Prelude.{◌≡◌, ℕ, ◌+◌, ◌==◌, ◌||◌, ◌&&◌, nat_le, Bool, true, false, if◌then◌else◌, IsTrue, ◌⊎◌, ◌≢◌, List, [], ◌∷◌, ◌++◌, length}
-use Rattle.std.specs.List.{AllByRecursion, flat_map}
-use Rattle.mine_model.specs.Bytes.{tab, line_feed, carriage_return, space, exclamation_mark, number_sign, percent_sign, ampersand, quote, open_round, close_round, asterisk, plus_sign, dash, full_stop, slash, digit_zero, digit_nine, colon, equals_sign, question_mark, at_sign, capital_a, capital_z, open_square, close_square, circumflex, underscore, small_a, small_z, open_brace, vertical_bar, close_brace, beyond_ascii}
+use Rattle.std.specs.Prelude.{◌≡◌, ℕ, ◌+◌, ◌==◌, ◌||◌, nat_le, Bool, true, false, if◌then◌else◌, IsTrue, ◌⊎◌, ◌≢◌, List, [], ◌∷◌, ◌++◌, length, codes}
+use Rattle.std.specs.Char.{is_ascii_alphanumeric}
+use Rattle.std.specs.List.{AllByRecursion, flat_map, list_any}
+use Rattle.mine_model.specs.Bytes.{tab, line_feed, carriage_return, space, quote, open_brace, close_brace, beyond_ascii}
 
 -- what stands free between tokens, and in the braces of a repeat round its numbers
 abbrev pub is_free : ℕ → Bool
 is_free b = (b == space) || (b == tab) || (b == line_feed) || (b == carriage_return)
 
-abbrev pub is_digit : ℕ → Bool
-is_digit b = nat_le digit_zero b && nat_le b digit_nine
-
 -- a byte of a bare name: letters, digits, _ - @ / : # % & and every byte beyond ASCII
 abbrev pub is_bare_byte : ℕ → Bool
-is_bare_byte b =
-    (nat_le small_a b && nat_le b small_z) || (nat_le capital_a b && nat_le b capital_z) || is_digit b
-    || (b == underscore) || (b == dash) || (b == at_sign) || (b == slash) || (b == colon)
-    || (b == number_sign) || (b == percent_sign) || (b == ampersand)
-    || nat_le beyond_ascii b
+is_bare_byte b = is_ascii_alphanumeric b || list_any (λ c. b == c) (codes "_-@/:#%&") || nat_le beyond_ascii b
 
--- the signs, the postfix signs of one byte among them: ! = ^ . ( ) [ ] | * + ?
+-- the signs, the postfix signs of one byte among them
 abbrev pub is_sign : ℕ → Bool
-is_sign b =
-    (b == exclamation_mark) || (b == equals_sign) || (b == circumflex) || (b == full_stop)
-    || (b == open_round) || (b == close_round) || (b == open_square) || (b == close_square)
-    || (b == vertical_bar) || (b == asterisk) || (b == plus_sign) || (b == question_mark)
+is_sign b = list_any (λ c. b == c) (codes "!=^.()[]|*+?")
 
 abbrev pub is_quote : ℕ → Bool
 is_quote b = b == quote
@@ -69,15 +60,11 @@ pub record Placed : Type 0 where
 -- From this column on the text is these tokens, with free bytes before each of them and behind the last, and
 -- then, from a column on, a rest, before which no byte is free.
 abbrev pub AreTokensBefore : ℕ → List ℕ → List Placed → ℕ → List ℕ → Type 0
-AreTokensBefore column text [] at rest =
-    (free : List ℕ) × (text ≡ free ++ rest) × Each is_free true free
+AreTokensBefore column text [] at rest = (free : List ℕ) × (text ≡ free ++ rest) × Each is_free true free
     × (at ≡ column + length free) × BeginsOtherwise is_free rest
 AreTokensBefore column text (first ∷ others) at rest =
-    (free : List ℕ) × (bytes : List ℕ) × (following : List ℕ)
-    × (text ≡ free ++ bytes ++ following)
-    × Each is_free true free
-    × (first.column ≡ column + length free)
-    × Spells bytes first.token following
+    (free : List ℕ) × (bytes : List ℕ) × (following : List ℕ) × (text ≡ free ++ bytes ++ following)
+    × Each is_free true free × (first.column ≡ column + length free) × Spells bytes first.token following
     × AreTokensBefore (column + length free + length bytes) following others at rest
 
 -- the text is these tokens
@@ -86,11 +73,11 @@ AreTokens text tokens = (end : ℕ) × AreTokensBefore 1 text tokens end []
 
 -- a token begins here
 abbrev pub BeginsToken : List ℕ → Type 0
-BeginsToken text =
-    (bytes : List ℕ) × (token : Token) × (following : List ℕ) × (text ≡ bytes ++ following) × Spells bytes token following
+BeginsToken text = (bytes : List ℕ) × (token : Token) × (following : List ℕ)
+    × (text ≡ bytes ++ following) × Spells bytes token following
 
--- up to this column the text is tokens, and no token begins there: a byte that begins none, or a quote that is not closed
+-- up to this column the text is tokens, and no token begins there: a byte that begins none, or a quote that
+-- is not closed
 abbrev pub IsBadToken : List ℕ → ℕ → Type 0
-IsBadToken text column =
-    (tokens : List Placed) × (rest : List ℕ) × AreTokensBefore 1 text tokens column rest
+IsBadToken text column = (tokens : List Placed) × (rest : List ℕ) × AreTokensBefore 1 text tokens column rest
     × (rest ≢ []) × (BeginsToken rest → ⊥)

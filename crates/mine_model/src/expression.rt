@@ -7,7 +7,8 @@ pub enum Leaf {
     Under(Item),
     /// `w=`: matches w alone, and writes it.
     Exact(Item),
-    /// `w^`: matches w and everything below it, and writes one of the item matched and what lies between it and w.
+    /// `w^`: matches w and everything below it, and writes one of the item matched and what lies between it
+    /// and w.
     Climb(Item),
     /// `w^=`: matches w and everything below it, and writes w.
     Forced(Item),

@@ -7,8 +7,8 @@ pub enum Which {
     Sequences,
 }
 
-/// Why a run did not end with its answer. Lines and columns count from 1, columns in bytes; the lines of a file
-/// are counted with the empty ones. `specs/Status.antt` has the status and the message of each.
+/// Why a run did not end with its answer. Lines and columns count from 1, columns in bytes; the lines of a
+/// file are counted with the empty ones. `specs/Status.antt` has the status and the message of each.
 #[derive(Clone, Copy, Debug, PartialEq, Eq)]
 pub enum Fault {
     /// The words are no command.
@@ -33,7 +33,8 @@ pub enum Fault {
     RepeatLimit { column: u32 },
     /// Too many brackets are open, or too many postfix signs follow each other.
     TooDeep { column: u32 },
-    /// The expression has too many leaves once its repetitions are written out. Greater counts are told as 1,000,000.
+    /// The expression has too many leaves once its repetitions are written out. Greater counts are told as
+    /// 1,000,000.
     TooManyLeaves { count: u32 },
     /// The file has too many bytes.
     TooLarge { file: Which },

@@ -27,7 +27,8 @@ impl Model for Hierarchy {
     ghost view = { λ h. ancestry_of h.ends.items h.lists.items };
 
     ghost invariant = { λ h. AreAncestorLists h.ends.items h.lists.items
-        × (length h.ends.items ≤ most_ancestors) × (length h.lists.items ≤ most_ancestors + length h.ends.items) };
+        × (length h.ends.items ≤ most_ancestors)
+            × (length h.lists.items ≤ most_ancestors + length h.ends.items) };
 }
 
 impl Hierarchy {
@@ -38,7 +39,8 @@ impl Hierarchy {
         ensures items { result.items ≡ length ends.items }
         ensures ancestors { (t w : Item) → t.0 < length ends.items
             → (IsAncestor result.links w t ↔ Lists ends.items lists.items t w) }
-        ensures within { All (λ link. (link.child.0 < result.items) × (link.parent.0 < result.items)) result.links }
+        ensures within { All (λ link. (link.child.0 < result.items)
+            × (link.parent.0 < result.items)) result.links }
     {
         Hierarchy { ends, lists }
     }
@@ -46,7 +48,8 @@ impl Hierarchy {
     /// The number of items. Takes no memory.
     pub fn items(&self) -> u32
         ensures number { result ≡ self.now.items }
-        ensures within { All (λ link. (link.child.0 < self.now.items) × (link.parent.0 < self.now.items)) self.now.links }
+        ensures within { All (λ link. (link.child.0 < self.now.items)
+            × (link.parent.0 < self.now.items)) self.now.links }
         ensures apart { (t w : Item) → IsAncestor self.now.links w t → IsAncestor self.now.links t w → w ≡ t }
     {
         self.ends.len() as u32

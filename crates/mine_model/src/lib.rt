@@ -1,5 +1,5 @@
-//! The meaning of the miner: the types that its crates pass to each other, and in `specs/` the definitions that
-//! every contract of the workspace cites. `docs/DEFINITIONS.md` leads through them.
+//! The meaning of the miner: the types that its crates pass to each other, and in `specs/` the definitions
+//! that every contract of the workspace cites. `docs/DEFINITIONS.md` leads through them.
 #![tactic(auto)]
 
 mod cover_laws;

@@ -47,7 +47,7 @@ impl From<NoMemory> for PatexFault {
 
 impl From<PatexFault> for Fault {
     ghost use Rattle.std.specs.Prelude.{◌≡◌};
-    ghost use Rattle.mine_model.specs.PatexFaults.{fault_of};
+    ghost use Rattle.mine_model.specs.Faults.{fault_of};
 
     ghost from_gives = { λ e fault. fault ≡ fault_of e };
 

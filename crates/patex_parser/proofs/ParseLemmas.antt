@@ -6,7 +6,7 @@ use Rattle.mine_model.specs.declared.item.Item.{Item}
 use Rattle.mine_model.specs.declared.fault.Fault.{Fault}
 use Rattle.mine_model.specs.declared.fault.Fault.TheVariants as fault
 use Rattle.mine_model.specs.declared.patex_fault.PatexFault.{PatexFault}
-use Rattle.mine_model.specs.PatexFaults.{fault_of}
+use Rattle.mine_model.specs.Faults.{fault_of}
 use Rattle.mine_model.specs.Limits.{most_expression_bytes, most_leaves, most_told_leaves}
 use Rattle.mine_model.specs.Expression.{Tree, tree_by, named_in, unfolded_leaves}
 use Rattle.mine_model.specs.Tokens.{Placed, AreTokens, IsBadToken}

@@ -4,7 +4,8 @@ use Rattle.std.specs.Prelude.{not, ◌==◌}
 use Rattle.std.proofs.lemmas.Bool.Decides.{nat_tests}
 use Rattle.std.proofs.lemmas.List.{take-append-drop, take_all, drop_more, append_assoc, append-nil}
 use Rattle.mine_model.specs.Bytes.{comma}
-use Rattle.mine_model.specs.Tokens.{Each, BeginsOtherwise, is_free, is_digit, repeat}
+use Rattle.mine_model.specs.Tokens.{Each, BeginsOtherwise, is_free, repeat}
+use Rattle.std.specs.Char.{is_ascii_digit}
 use Rattle.mine_model.specs.Grammar.{IsPadded, IsRepeat, value_of_digits}
 use Rattle.mine_model.specs.Bounds.{is_comma}
 use Rattle.mine_model.proofs.BoundLemmas.{each-map, each-append, free-commas, free_no_digit, digit_no_comma}
@@ -37,15 +38,15 @@ not-in-run test bytes count less otherwise each =
     not-each test (drop count bytes) (λ none. let wrong : get_or bytes count 0 ∷ drop (count + 1) bytes ≡ [] = sym cut ∙ none in cc) otherwise
     (back_of_both (λ b. test b ≡ true) (take count bytes) (drop count bytes) all)
 
-free-otherwise : (bytes : List ℕ) → Each is_free true bytes → BeginsOtherwise is_digit bytes
+free-otherwise : (bytes : List ℕ) → Each is_free true bytes → BeginsOtherwise is_ascii_digit bytes
 free-otherwise [] free = tt
 free-otherwise (b ∷ bytes) free = free_no_digit b free.0
 
-digits-otherwise : (digits more : List ℕ) → digits ≢ [] → Each is_digit true digits → BeginsOtherwise is_free (digits ++ more)
+digits-otherwise : (digits more : List ℕ) → digits ≢ [] → Each is_ascii_digit true digits → BeginsOtherwise is_free (digits ++ more)
 digits-otherwise [] more some each = absurd (some refl)
 digits-otherwise (d ∷ digits) more some each = digit-not-free d each.0
   where
-    digit-not-free : (d : ℕ) → is_digit d ≡ true → is_free d ≡ false
+    digit-not-free : (d : ℕ) → is_ascii_digit d ≡ true → is_free d ≡ false
     digit-not-free d h = grind (arith, nat_tests)
 
 -- what is padded is not blank
@@ -76,7 +77,7 @@ run-cut test bytes front back count p q each longest = record {
   longest = subst (BeginsOtherwise test) (sym q) longest;
 }
 
-pub part-number : (bytes free rest digits after : List ℕ) (told : ℕ) → IsCutAt is_free bytes free rest → IsCutAt is_digit rest digits after
+pub part-number : (bytes free rest digits after : List ℕ) (told : ℕ) → IsCutAt is_free bytes free rest → IsCutAt is_ascii_digit rest digits after
     → digits ≢ [] → Each is_free true after → IsCapped (value_of_digits digits) told → IsPart bytes (Number told)
 part-number bytes free rest digits after told first second some free' capped =
     (value_of_digits digits, (free, digits, after, cut, first.each, free', (second.each, some, refl)), capped)
@@ -84,19 +85,19 @@ part-number bytes free rest digits after told first second some free' capped =
     cut : bytes ≡ free ++ digits ++ after
     cut = first.whole ∙ ap (λ xs. free ++ xs) second.whole ∙ sym (append_assoc free digits after)
 
-pub part-other : (bytes free rest digits after : List ℕ) → IsCutAt is_free bytes free rest → rest ≢ [] → IsCutAt is_digit rest digits after
+pub part-other : (bytes free rest digits after : List ℕ) → IsCutAt is_free bytes free rest → rest ≢ [] → IsCutAt is_ascii_digit rest digits after
     → ((digits ≡ []) ⊎ (Each is_free true after → ⊥)) → IsPart bytes Other
 part-other bytes free rest digits after first some second wrong = (not_blank, not_number wrong)
   where
     not_blank : Each is_free true bytes → ⊥
     not_blank all = not-each is_free rest some first.longest (back_of_both (λ b. is_free b ≡ true) free rest (subst (Each is_free true) first.whole all))
 
-    parts : (digits' after' : List ℕ) → rest ≡ digits' ++ after' → Each is_digit true digits' → Each is_free true after' → (digits ≡ digits') × (after ≡ after')
+    parts : (digits' after' : List ℕ) → rest ≡ digits' ++ after' → Each is_ascii_digit true digits' → Each is_free true after' → (digits ≡ digits') × (after ≡ after')
     parts digits' after' e are free' =
-        cut-same (λ b. is_digit b ≡ true) digits digits' after after' second.each are
-        (ends-otherwise is_digit after second.longest) (ends-otherwise is_digit after' (free-otherwise after' free')) (sym second.whole ∙ e)
+        cut-same (λ b. is_ascii_digit b ≡ true) digits digits' after after' second.each are
+        (ends-otherwise is_ascii_digit after second.longest) (ends-otherwise is_ascii_digit after' (free-otherwise after' free')) (sym second.whole ∙ e)
 
-    behind : (before' digits' after' : List ℕ) → bytes ≡ before' ++ digits' ++ after' → Each is_free true before' → digits' ≢ [] → Each is_digit true digits' → rest ≡ digits' ++ after'
+    behind : (before' digits' after' : List ℕ) → bytes ≡ before' ++ digits' ++ after' → Each is_free true before' → digits' ≢ [] → Each is_ascii_digit true digits' → rest ≡ digits' ++ after'
     behind before' digits' after' e free' some' are =
         let both = cut-same (λ b. is_free b ≡ true) free before' rest (digits' ++ after') first.each free'
         (ends-otherwise is_free rest first.longest) (ends-otherwise is_free (digits' ++ after') (digits-otherwise digits' after' some' are))
@@ -140,7 +141,7 @@ padded-no-comma : (bytes : List ℕ) (n : ℕ) → IsPadded bytes n → Each is_
 padded-no-comma bytes n (before, digits, after, same, free, free', (are, some, value)) =
     subst (Each is_comma false) (sym same)
     (each-append is_comma false (before ++ digits) after
-    (each-append is_comma false before digits (free-commas before free) (each-map is_digit is_comma true false digit_no_comma digits are)) (free-commas after free'))
+    (each-append is_comma false before digits (free-commas before free) (each-map is_ascii_digit is_comma true false digit_no_comma digits are)) (free-commas after free'))
 
 no-comma-in : (left right bytes : List ℕ) → bytes ≡ left ++ comma ∷ right → Each is_comma false bytes → ⊥
 no-comma-in left right bytes same none =

@@ -5,7 +5,7 @@ use Rattle.mine_model.specs.declared.item.Item.{Item}
 use Rattle.mine_model.specs.declared.fault.Fault.{Fault}
 use Rattle.mine_model.specs.declared.patex_fault.PatexFault.{PatexFault}
 use Rattle.mine_model.specs.declared.patex_fault.PatexFault.TheVariants.{NoMemory}
-use Rattle.mine_model.specs.PatexFaults.{fault_of}
+use Rattle.mine_model.specs.Faults.{fault_of}
 use Rattle.mine_model.specs.Expression.{Tree, named_in, tree_by}
 use Rattle.mine_model.specs.Grammar.{Use, ReadsAs}
 use Rattle.patex_parser.specs.declared.parsed.NameUse.{NameUse}

@@ -1,5 +1,6 @@
 ghost use Rattle.std.specs.Prelude.{◌≤◌, true, take, drop, length, ◌≡◌};
-ghost use Rattle.mine_model.specs.Tokens.{is_free, is_bare_byte, is_digit, is_closing_brace, Each, BeginsOtherwise};
+ghost use Rattle.mine_model.specs.Tokens.{is_free, is_bare_byte, is_closing_brace, Each, BeginsOtherwise};
+ghost use Rattle.std.specs.Char.{is_ascii_digit};
 ghost use Rattle.patex_parser.specs.Classes.{test_of};
 
 // Whether the byte stands free between tokens.

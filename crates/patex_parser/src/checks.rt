@@ -1,7 +1,8 @@
 ghost use Rattle.std.specs.Prelude.{◌≡◌, ◌<◌, ◌≤◌, min, OnOk, IfErr, IfSome, IfNone};
 ghost use Rattle.std.specs.List.{AllByRecursion};
 ghost use Rattle.mine_model.specs.Limits.{most_leaves, most_told_leaves, most_nested};
-ghost use Rattle.mine_model.specs.Expression.{tree_of, unfolded_leaves};
+ghost use Rattle.mine_model.specs.Expression.{unfolded_leaves};
+ghost use Rattle.mine_model.specs.Numbered.{tree_of};
 ghost use Rattle.patex_parser.specs.Reading.{IsMarked};
 ghost use Rattle.patex_parser.specs.Checking.{IsRepeatFault, IsDepthFault, IsNotTooDeep, IsLeavesFault, IsTooDeepAt, effect_of, open_step, signs_step};
 

@@ -1,6 +1,6 @@
 ghost use Rattle.std.specs.Prelude.{ℕ, map, IfOk, OnOk, IfErr};
 ghost use Rattle.mine_model.specs.declared.fault.Fault.{Fault};
-ghost use Rattle.mine_model.specs.Expression.{tree_of};
+ghost use Rattle.mine_model.specs.Numbered.{tree_of};
 ghost use Rattle.mine_model.specs.Refusal.{IsExpressionRefusal};
 ghost use Rattle.patex_parser.specs.Parsing.{use_view, IsParsed, IsRefused};
 

@@ -1,6 +1,6 @@
 ghost use Rattle.std.specs.Prelude.{IfOk, IfErr, length};
 ghost use Rattle.std.specs.List.{AllByRecursion};
-ghost use Rattle.mine_model.specs.Expression.{tree_of};
+ghost use Rattle.mine_model.specs.Numbered.{tree_of};
 ghost use Rattle.patex_parser.specs.Reading.{IsMarked, IsReadWhole, IsUnexpectedFault};
 
 use super::machine::Machine;

@@ -1,7 +1,8 @@
 ghost use Rattle.std.specs.Prelude.{◌≡◌, ◌<◌, ℕ, map, length, IfOk, OnOk, IfErr};
 ghost use Rattle.std.specs.List.{AllByRecursion};
 ghost use Rattle.mine_model.specs.declared.fault.Fault.{Fault};
-ghost use Rattle.mine_model.specs.Expression.{leaf_of, tree_of, named_by, named_in, leaf_by, tree_by};
+ghost use Rattle.mine_model.specs.Expression.{named_by, named_in, leaf_by, tree_by};
+ghost use Rattle.mine_model.specs.Numbered.{leaf_of, tree_of};
 ghost use Rattle.mine_model.specs.Names.{name_of, HasName};
 ghost use Rattle.mine_model.specs.Refusal.{IsUnknown};
 ghost use Rattle.patex_parser.specs.Parsing.{use_view, IsRefused, named_tree, AreWithin};

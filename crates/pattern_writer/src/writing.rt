@@ -13,10 +13,10 @@ use itoa::Buffer;
 use mine_model::{Item, Row, WriteFault};
 use text_ports::{Failed, Sink, write_all};
 
-/// Writes the lines of the rows, in their order: the support in decimal, a tab, the names joined by one space,
-/// a line feed. The bytes are gathered in the room, and the sink gets them when it is full, and at the end: it
-/// is handed no empty piece. After a fault a part of the lines from their start was written, and not all. Takes
-/// no memory.
+/// Writes the lines of the rows, in their order: the support in decimal, a tab, the names joined by one
+/// space, a line feed. The bytes are gathered in the room, and the sink gets them when it is full, and at the
+/// end: it is handed no empty piece. After a fault a part of the lines from their start was written, and not
+/// all. Takes no memory.
 pub fn write<O: Sink>(
     rows: &[Row],
     names: &Names,
@@ -140,8 +140,8 @@ fn put_other<O: Sink>(
     put(out, room, behind_space, name)
 }
 
-// Copies the bytes into the room, behind what it holds, and hands the room over as often as more bytes are left
-// than it takes. Answers how many bytes it holds then.
+// Copies the bytes into the room, behind what it holds, and hands the room over as often as more bytes are
+// left than it takes. Answers how many bytes it holds then.
 fn put<O: Sink>(
     out: &mut O,
     room: &mut [u8],
@@ -153,7 +153,8 @@ fn put<O: Sink>(
     ensures fits { IfOk result (λ n. n ≤ length room.new) }
     ensures held { IfOk result (λ n. IsHeld (O.written out.old) (O.written out.new) (take n room.new)
         (take filled room.old ++ bytes.now)) }
-    ensures cut { OnErr result (IsCut (O.written out.old) (O.written out.new) (take filled room.old ++ bytes.now)) }
+    ensures cut { OnErr result (IsCut (O.written out.old) (O.written out.new) (take filled room.old
+        ++ bytes.now)) }
     ensures passed { OnOk result (O.faults out.new ≡ O.faults out.old) }
     ensures failed { OnErr result (Rose (O.faults out.old) (O.faults out.new)) }
     ensures never_falls { O.faults out.old ≤ O.faults out.new }

@@ -7,7 +7,8 @@ use Rattle.std.proofs.lemmas.Option.{same_Some, none-some}
 use Rattle.mine_model.specs.declared.item.Item.{Item}
 use Rattle.mine_model.specs.declared.expression.Leaf.{Leaf as ItemLeaf}
 use Rattle.mine_model.specs.Hierarchy.{Link}
-use Rattle.mine_model.specs.Expression.{Tree, leaf, cat, alt, rep, cap, leaf_of}
+use Rattle.mine_model.specs.Expression.{Tree, leaf, cat, alt, rep, cap}
+use Rattle.mine_model.specs.Numbered.{leaf_of}
 use Rattle.mine_model.specs.Generation.{Matches}
 use Rattle.mine_model.proofs.ListLemmas.{Contains-none}
 use Rattle.plain_evaluator.specs.declared.plan.Plan.{Plan}

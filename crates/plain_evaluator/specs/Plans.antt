@@ -4,7 +4,8 @@ use Rattle.std.specs.List.{slice_get}
 use Rattle.mine_model.specs.declared.item.Item.{Item}
 use Rattle.mine_model.specs.declared.expression.Leaf.{Leaf as ItemLeaf}
 use Rattle.mine_model.specs.Hierarchy.{Link}
-use Rattle.mine_model.specs.Expression.{Leaf as TreeLeaf, Tree, leaf_of, named_by}
+use Rattle.mine_model.specs.Expression.{Leaf as TreeLeaf, Tree, named_by}
+use Rattle.mine_model.specs.Numbered.{leaf_of}
 use Rattle.mine_model.specs.Generation.{Matches, WritesAt, Generates, IsAtMost}
 use Rattle.plain_evaluator.specs.declared.plan.Plan.{Plan}
 use Rattle.plain_evaluator.specs.declared.plan.Plan.TheVariants.{Leaf, Cat', Alt', Rep'}

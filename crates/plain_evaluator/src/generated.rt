@@ -1,7 +1,8 @@
 ghost use Rattle.std.specs.Prelude.{◌≡◌, ◌↔◌, ◌<◌, ℕ, Some, [], IfOk, Contains};
 ghost use Rattle.std.specs.List.{AllByRecursion, slice_get};
 ghost use Rattle.std.specs.List.Sorted.{IsStrictlyIncreasing};
-ghost use Rattle.mine_model.specs.Expression.{tree_of, named_in};
+ghost use Rattle.mine_model.specs.Expression.{named_in};
+ghost use Rattle.mine_model.specs.Numbered.{tree_of};
 ghost use Rattle.plain_evaluator.specs.Counts.{AreGenerated};
 
 use crate::marks::Mark;

@@ -4,8 +4,9 @@
 ghost use Rattle.std.specs.Prelude.{◌<◌, ◌≤◌, Contains, IfOk};
 ghost use Rattle.std.specs.List.{AllByRecursion};
 ghost use Rattle.mine_model.specs.declared.row.Row.{Row};
-ghost use Rattle.mine_model.specs.Expression.{tree_of, named_in};
-ghost use Rattle.mine_model.specs.Answer.{AreFrequent};
+ghost use Rattle.mine_model.specs.Expression.{named_in};
+ghost use Rattle.mine_model.specs.Numbered.{tree_of};
+ghost use Rattle.mine_model.specs.Numbered.{AreFrequent};
 
 mod counts;
 mod generated;
@@ -25,8 +26,8 @@ use std::alloc::Global;
 
 /// The frequent patterns with their supports, each once, in no stated order.
 ///
-/// Each sequence is evaluated by itself, straight by the meaning of the parts of the expression. What it takes
-/// grows with the pairs of a place and an output that may still lead to the end of the sequence.
+/// Each sequence is evaluated by itself, straight by the meaning of the parts of the expression. What it
+/// takes grows with the pairs of a place and an output that may still lead to the end of the sequence.
 pub fn frequent_rows(
     alloc: Global,
     hierarchy: &Hierarchy,

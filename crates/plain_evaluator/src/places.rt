@@ -1,6 +1,7 @@
 ghost use Rattle.std.specs.Prelude.{◌<◌, ◌↔◌, ◌⊎◌, ℕ, Bool, length, IfOk, OnOk, IsTrue, Contains};
 ghost use Rattle.std.specs.List.{AllByRecursion};
-ghost use Rattle.mine_model.specs.Expression.{tree_of, leaf_of, named_by, named_in};
+ghost use Rattle.mine_model.specs.Expression.{named_by, named_in};
+ghost use Rattle.mine_model.specs.Numbered.{tree_of, leaf_of};
 ghost use Rattle.mine_model.specs.Generation.{Matches};
 ghost use Rattle.plain_evaluator.specs.Sets.{Adds};
 ghost use Rattle.plain_evaluator.specs.Plans.{AreBefore, AreWithin, AreBeforeLeaf, MatchesBefore};

@@ -3,8 +3,8 @@ use mine_model::Leaf;
 /// An expression made ready for one sequence.
 #[derive(Debug, Drop)]
 pub(crate) enum Plan {
-    /// An item expression, whether what it matches is written, and for each item of the sequence whether it is
-    /// tried: where it matches, and the rest of the expression can match what follows.
+    /// An item expression, whether what it matches is written, and for each item of the sequence whether it
+    /// is tried: where it matches, and the rest of the expression can match what follows.
     Leaf {
         leaf: Leaf,
         captured: bool,

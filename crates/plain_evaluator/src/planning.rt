@@ -1,6 +1,7 @@
 ghost use Rattle.std.specs.Prelude.{◌≡◌, ◌<◌, ◌↔◌, ℕ, true, Some, length, IfOk, Contains};
 ghost use Rattle.std.specs.List.{AllByRecursion, slice_get};
-ghost use Rattle.mine_model.specs.Expression.{leaf, tree_of, leaf_of, named_by, named_in};
+ghost use Rattle.mine_model.specs.Expression.{leaf, named_by, named_in};
+ghost use Rattle.mine_model.specs.Numbered.{tree_of, leaf_of};
 ghost use Rattle.plain_evaluator.specs.Plans.{IsPlan, AreWithin, named_in_plan};
 
 use crate::places::{places_before, places_before_leaf, places_before_turns};

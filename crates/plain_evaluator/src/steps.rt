@@ -3,7 +3,8 @@ ghost use Rattle.std.specs.List.{AllByRecursion};
 ghost use Rattle.plain_evaluator.specs.declared.marks.Mark.{Mark};
 ghost use Rattle.plain_evaluator.specs.Points.{AreMarks, IsStep, UpTo};
 ghost use Rattle.plain_evaluator.specs.Plans.{Leads, LeadsTimes, LeadsOver, named_in_plan};
-ghost use Rattle.mine_model.specs.Expression.{leaf_of, named_by};
+ghost use Rattle.mine_model.specs.Expression.{named_by};
+ghost use Rattle.mine_model.specs.Numbered.{leaf_of};
 
 use crate::leaves::{pass_leaf, write_leaf};
 use crate::marks::{Mark, add_marks};

@@ -1,6 +1,7 @@
 ghost use Rattle.std.specs.Prelude.{◌≡◌, ◌<◌, ◌≤◌, IfOk};
 ghost use Rattle.std.specs.List.{AllByRecursion};
-ghost use Rattle.mine_model.specs.Expression.{tree_of, named_in, leaf_of, named_by};
+ghost use Rattle.mine_model.specs.Expression.{named_in, named_by};
+ghost use Rattle.mine_model.specs.Numbered.{tree_of, leaf_of};
 
 use super::*;
 use mine_model::{Item, Leaf};

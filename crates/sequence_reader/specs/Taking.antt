@@ -53,7 +53,8 @@ IsLineFault before number text (TooManyItems line) =
 IsLineFault before number text NoMemory = Unit {0}
 
 -- the line was refused, and the old names stay in front
-pub record RefusedLine (before : Reading) (number : ℕ) (text : List ℕ) (fault : SequenceFault) (after : Reading)
+pub record RefusedLine (before : Reading) (number : ℕ) (text : List ℕ) (fault : SequenceFault)
+    (after : Reading)
     : Type 0 where
   pub why : IsLineFault before number text fault
   pub added : List (List ℕ)

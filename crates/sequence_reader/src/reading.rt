@@ -57,8 +57,9 @@ impl LineVisitor for Reading {
     }
 }
 
-/// The sequences of a file, by the numbers of their names. Where lines have weights, the first field of each is
-/// its weight. A new name gets the next number. After a refusal the names that were met so far are held as well.
+/// The sequences of a file, by the numbers of their names. Where lines have weights, the first field of each
+/// is its weight. A new name gets the next number. After a refusal the names that were met so far are held as
+/// well.
 pub fn read<F: Files>(
     alloc: Global,
     files: &mut F,

@@ -4,7 +4,7 @@ ghost use Rattle.std.specs.Prelude.{◌≡◌, ℕ, ◌≤◌, Err, length, All,
 ghost use Rattle.mine_model.specs.declared.sequence_fault.SequenceFault.TheVariants.{BadWeight};
 ghost use Rattle.mine_model.specs.Limits.{most_weight};
 ghost use Rattle.mine_model.specs.Text.{fields_of, placed_fields_of};
-ghost use Rattle.mine_model.specs.Tokens.{is_digit};
+ghost use Rattle.std.specs.Char.{is_ascii_digit};
 ghost use Rattle.mine_model.specs.Grammar.{IsDecimal};
 ghost use Rattle.mine_model.specs.Refusal.{IsWeight, IsBadWeight, sequence_of};
 ghost use Rattle.text_ports.specs.Lines.{AreFields, IsWithin};
@@ -24,13 +24,6 @@ pub(crate) struct Weighed<'a> {
     pub(crate) items: &'a [Span],
 }
 
-/// Whether the byte is a decimal digit.
-fn is_digit(byte: u8) -> bool
-    ensures { result ≡ Rattle.mine_model.specs.Tokens.is_digit byte }
-{
-    byte >= b'0' && byte <= b'9'
-}
-
 /// The weight that the digits say. None where they say none.
 fn weight_in(digits: &[u8]) -> Option<u64>
     ensures { MatchOption result (IsWeight digits.now → ⊥)
@@ -41,7 +34,7 @@ fn weight_in(digits: &[u8]) -> Option<u64>
     }
     let mut value: u64 = 0;
     for digit in digits {
-        if !is_digit(*digit) {
+        if !digit.is_ascii_digit() {
             return None;
         }
         value = (value * 10 + u64::from(*digit - b'0')).min(MOST_WEIGHT + 1);
@@ -52,8 +45,8 @@ fn weight_in(digits: &[u8]) -> Option<u64>
     Some(value)
 }
 
-/// The weight of the line with this number, and its fields that are items: where lines have weights, the first
-/// field is the weight.
+/// The weight of the line with this number, and its fields that are items: where lines have weights, the
+/// first field is the weight.
 pub(crate) fn weigh<'a>(
     weighted: bool,
     number: u64,

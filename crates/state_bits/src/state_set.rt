@@ -12,9 +12,9 @@ use super::words::{are_zero, join_words, keep_words, words_meet};
 use std::hash::{Hash, Hasher};
 use std::marker::Model;
 
-/// A set of states below `64 * W`, in `W` words. It takes no memory of its own. A contract sees the number whose bit
-/// q is 1 where q is a member, whatever the width. A function over any width that holds such a set by value has to
-/// require a bound on `W`, as `W ≤ 17`: a type's size is below `2 ^ 63`.
+/// A set of states below `64 * W`, in `W` words. It takes no memory of its own. A contract sees the number
+/// whose bit q is 1 where q is a member, whatever the width. A function over any width that holds such a set
+/// by value has to require a bound on `W`, as `W ≤ 17`: a type's size is below `2 ^ 63`.
 #[derive(Clone, Copy, Debug)]
 pub struct StateSet<const W: usize> {
     words: [u64; W],

@@ -15,7 +15,8 @@ pub(crate) fn join_words(words: &mut [u64], other: &[u64])
 /// Keeps in `words` the bits that `other` has.
 pub(crate) fn keep_words(words: &mut [u64], other: &[u64])
     requires { length words.old ≡ length other.now }
-    ensures { (k : ℕ) → slice_index words.new k ≡ bit_and (slice_index words.old k) (slice_index other.now k) }
+    ensures { (k : ℕ)
+        → slice_index words.new k ≡ bit_and (slice_index words.old k) (slice_index other.now k) }
 {
     for index in 0..words.len() {
         words[index] &= other[index];
@@ -32,7 +33,8 @@ pub(crate) fn are_zero(words: &[u64]) -> bool
 /// Whether the two have a bit in common.
 pub(crate) fn words_meet(words: &[u64], other: &[u64]) -> bool
     requires { length words.now ≡ length other.now }
-    ensures { IsTrue result ↔ SomeIndex words.now (λ k. bit_and (slice_index words.now k) (slice_index other.now k) ≢ 0) }
+    ensures { IsTrue result ↔ SomeIndex words.now
+        (λ k. bit_and (slice_index words.now k) (slice_index other.now k) ≢ 0) }
 {
     words
         .iter()

@@ -16,8 +16,8 @@ enum Source<F, I> {
     Input(I),
 }
 
-/// The files of the disk by their paths, and standard input by the name `-`. Nothing is told of their bytes. A read
-/// goes into the caller's buffer with no buffer between. Before the first `open` they read as ended.
+/// The files of the disk by their paths, and standard input by the name `-`. Nothing is told of their bytes.
+/// A read goes into the caller's buffer with no buffer between. Before the first `open` they read as ended.
 #[derive(Drop)]
 pub struct DiskFiles<R: rt::Files + Input + Drop> {
     runtime: R,

@@ -19,7 +19,8 @@ pub trait Files {
     /// How many calls have failed.
     ghost faults: { Self → ℕ };
 
-    /// Opens the file of this name, to be read from its start. What was open before is closed, also on a failure.
+    /// Opens the file of this name, to be read from its start. What was open before is closed, also on a
+    /// failure.
     fn open(&mut self, name: &str) -> Result<(), Failed>
         requires { IsTrue (may self.old name.now) }
         ensures same_names { may self.new ≡ may self.old }

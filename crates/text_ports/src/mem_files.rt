@@ -5,9 +5,9 @@ use super::faults::Calls;
 use super::files::{Failed, Files};
 use super::held::{Held, MemFile};
 
-/// Files that are held in memory and tell their bytes. They give short reads, and they fail where they are told
-/// to. A missing name is a fault. A call of `open` that fails leaves nothing to read, and one of `read` takes
-/// nothing.
+/// Files that are held in memory and tell their bytes. They give short reads, and they fail where they are
+/// told to. A missing name is a fault. A call of `open` that fails leaves nothing to read, and one of `read`
+/// takes nothing.
 #[derive(Drop)]
 pub struct MemFiles {
     held: Held,
@@ -15,8 +15,8 @@ pub struct MemFiles {
 }
 
 impl MemFiles {
-    /// Of two files of one name the first counts. The calls of `open` and `read` are counted together, from 1, and
-    /// those in `fails` fail. A read gives at most `cut` bytes.
+    /// Of two files of one name the first counts. The calls of `open` and `read` are counted together, from
+    /// 1, and those in `fails` fail. A read gives at most `cut` bytes.
     pub fn new(files: Vec<MemFile>, fails: Vec<u64>, cut: usize) -> MemFiles
         requires { 0 < cut }
         ensures may { (name : List ℕ) → IsTrue (⟦<MemFiles as Files>⟧.may result name) }

@@ -6,8 +6,8 @@ use super::sink::Sink;
 use mine_model::NoMemory;
 use std::alloc::Global;
 
-/// A sink that holds what was written to it, and tells it. It makes short writes, it is full at last, and it fails
-/// where it is told to.
+/// A sink that holds what was written to it, and tells it. It makes short writes, it is full at last, and it
+/// fails where it is told to.
 #[derive(Drop)]
 pub struct MemSink {
     held: Vec<u8>,
@@ -20,8 +20,8 @@ pub struct MemSink {
 }
 
 impl MemSink {
-    /// It has room for `room` bytes, for which it takes the memory here. A write takes at most `cut` bytes of its
-    /// piece. The calls of `write` are counted from 1, and those in `fails` fail.
+    /// It has room for `room` bytes, for which it takes the memory here. A write takes at most `cut` bytes of
+    /// its piece. The calls of `write` are counted from 1, and those in `fails` fail.
     pub fn new(alloc: Global, room: usize, cut: usize, fails: Vec<u64>) -> Result<MemSink, NoMemory>
         requires { 0 < cut }
         ensures written { IfOk result (λ sink. ⟦<MemSink as Sink>⟧.written sink ≡ Some []) }

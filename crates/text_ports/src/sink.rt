@@ -11,11 +11,13 @@ pub trait Sink {
     /// How many calls have failed.
     ghost faults: { Self → ℕ };
 
-    /// Writes the first bytes of the piece and answers how many they are: at least one, where the piece is not empty.
+    /// Writes the first bytes of the piece and answers how many they are: at least one, where the piece is
+    /// not empty.
     fn write(&mut self, piece: &[u8]) -> Result<usize, Failed>
         ensures fits { IfOk result (λ n. n ≤ length piece.now) }
         ensures some { IfOk result (λ n. 0 < length piece.now → 0 < n) }
-        ensures appends { IfOk result (λ n. IfSome (written self.old) (λ before. written self.new ≡ Some (before ++ take n piece.now))) }
+        ensures appends { IfOk result (λ n. IfSome (written self.old)
+            (λ before. written self.new ≡ Some (before ++ take n piece.now))) }
         ensures passed { OnOk result (faults self.new ≡ faults self.old) }
         ensures failed { OnErr result (Rose (faults self.old) (faults self.new)) }
         ensures unchanged { OnErr result (written self.new ≡ written self.old) }

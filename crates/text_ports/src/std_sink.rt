@@ -6,8 +6,8 @@ use super::sink::Sink;
 use std::io;
 use std::io::{ErrorKind, Printer, Stderr, Write};
 
-/// A stream of the process, or another writer. Nothing is told of what was written. Each write is followed by a
-/// flush, and a stream that takes nothing of a piece that is not empty is a fault.
+/// A stream of the process, or another writer. Nothing is told of what was written. Each write is followed by
+/// a flush, and a stream that takes nothing of a piece that is not empty is a fault.
 #[derive(Drop)]
 pub struct StdSink<W> {
     stream: W,

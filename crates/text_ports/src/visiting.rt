@@ -33,7 +33,8 @@ pub enum TextFault<X> {
     NoMemory,
 }
 
-/// Opens a file, reads it to its end, and then gives its lines in order to the visitor, with the fields of each.
+/// Opens a file, reads it to its end, and then gives its lines in order to the visitor, with the fields of
+/// each.
 /// The answer is the number of lines. Nothing is given before the file is read.
 pub fn read_lines<F: Files, V: LineVisitor>(
     alloc: Global,
@@ -112,7 +113,8 @@ fn visit_lines<V: LineVisitor>(
     Ok(count)
 }
 
-/// Gives the line that begins the bytes to the visitor, under this number. The answer is where the next begins.
+/// Gives the line that begins the bytes to the visitor, under this number. The answer is where the next
+/// begins.
 fn visit_line<V: LineVisitor>(
     number: u64,
     rest: &[u8],

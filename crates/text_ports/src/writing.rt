@@ -9,8 +9,9 @@ use super::sink::Sink;
 /// The most bytes that are handed to the sink at once.
 const PIECE: usize = 65_536;
 
-/// Writes the whole text, in order, as many bytes at a time as the sink takes, and hands it at most 65,536 at once. It
-/// writes no empty piece. After a failure the sink has taken the first bytes of the text, and not all.
+/// Writes the whole text, in order, as many bytes at a time as the sink takes, and hands it at most 65,536 at
+/// once. It writes no empty piece. After a failure the sink has taken the first bytes of the text, and not
+/// all.
 pub fn write_all<S: Sink>(sink: &mut S, text: &[u8]) -> Result<(), Failed>
     ensures written { OnOk result (IfSome (S.written sink.old) (λ before.
         S.written sink.new ≡ Some (before ++ text.now))) }

@@ -1,6 +1,6 @@
 use Rattle.std.proofs.Common.{◌≡◌, Some, [], take}
 use Rattle.std.specs.List.{slice_get}
-use Rattle.mine_model.specs.Expression.{tree_of}
+use Rattle.mine_model.specs.Numbered.{tree_of}
 use Rattle.plain_evaluator.proofs.CountLemmas.{AreCounted}
 use Rattle.plain_evaluator.proofs.frequent_rows.Given as goal
 

@@ -2,7 +2,8 @@ use Rattle.std.proofs.Common.{rules, ◌≡◌, ◌⊎◌, inl, inr, ◌∙◌, 
 use Rattle.text_ports.specs.Faults.{Rose}
 use Rattle.mine_model.specs.declared.fault.Fault.{Fault}
 use Rattle.mine_model.specs.declared.fault.Fault.TheVariants.{Read, Write, NoMemory}
-use Rattle.mine_model.specs.Expression.{Tree, tree_of, tree_by, named_in}
+use Rattle.mine_model.specs.Expression.{Tree, tree_by, named_in}
+use Rattle.mine_model.specs.Numbered.{tree_of}
 use Rattle.mine_model.specs.Grammar.{Use}
 use Rattle.mine_model.specs.Refusal.{IsUnknown}
 use Rattle.command_line.specs.Commands.{command_said}

@@ -1,7 +1,7 @@
 use Rattle.std.proofs.Common.{◌≡◌, ◌∙◌, ap, length, All}
 use Rattle.std.proofs.lemmas.List.Sorted.{All-permutation}
 use Rattle.mine_model.specs.declared.row.Row.{Row}
-use Rattle.mine_model.specs.Expression.{tree_of}
+use Rattle.mine_model.specs.Numbered.{tree_of}
 use Rattle.mine_model.specs.Names.{HasName}
 use Rattle.desq_run.proofs.RowLemmas.{rows-named, rows-ordered, written_back}
 use Rattle.desq_run.proofs.rows.ordered_rows.Goals as goal

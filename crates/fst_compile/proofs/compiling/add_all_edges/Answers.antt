@@ -1,5 +1,5 @@
 use Rattle.std.proofs.Common.{arith}
-use Rattle.mine_model.specs.Expression.{tree_of}
+use Rattle.mine_model.specs.Numbered.{tree_of}
 use Rattle.fst_compile.proofs.CopyLemmas.{built_size, built_within}
 use Rattle.fst_compile.proofs.CompileLemmas.{IsWhole-built}
 use Rattle.fst_compile.proofs.compiling.add_all_edges.Goals as goal

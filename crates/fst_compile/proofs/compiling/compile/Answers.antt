@@ -1,7 +1,7 @@
 use Rattle.std.proofs.Common.{◌≡◌, arith, length, ap, ◌∙◌, false}
 use Rattle.std.proofs.lemmas.Result.{IfOk-weaker}
 use Rattle.std.proofs.lemmas.List.{take-append-le, take_all}
-use Rattle.mine_model.specs.Expression.{tree_of}
+use Rattle.mine_model.specs.Numbered.{tree_of}
 use Rattle.fst_compile.proofs.AutomatonLemmas.{automaton-generates}
 use Rattle.fst_compile.proofs.CompileLemmas.{labels_length, if_three, IsPositionAutomaton-made}
 use Rattle.fst_compile.proofs.compiling.compile.Goals as goal

@@ -1,6 +1,6 @@
 use Rattle.std.proofs.Common.{◌≡◌, map, arith, length}
 use Rattle.std.proofs.lemmas.List.{append-nil, length-map}
-use Rattle.mine_model.specs.Expression.{tree_of}
+use Rattle.mine_model.specs.Numbered.{tree_of}
 use Rattle.fst_compile.specs.Shape.{labels_of, unfold_tree}
 use Rattle.fst_compile.specs.Transducer.{entry_of}
 use Rattle.fst_compile.proofs.LabelLemmas.{copies_of-zero, labels-repeated, copied_more, copied_none}

@@ -1,5 +1,5 @@
 use Rattle.std.proofs.Common.{◌≡◌, ◌++◌, map}
-use Rattle.mine_model.specs.Expression.{tree_of}
+use Rattle.mine_model.specs.Numbered.{tree_of}
 use Rattle.fst_compile.specs.Shape.{labels_of, unfold_tree}
 use Rattle.fst_compile.specs.Transducer.{entry_of}
 use Rattle.fst_compile.proofs.LabelLemmas.{copies_of}

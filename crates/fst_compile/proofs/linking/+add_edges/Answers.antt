@@ -1,6 +1,7 @@
 use Rattle.std.proofs.Common.{◌≡◌, ◌+◌, ◌-◌, ◌*◌, ◌≤◌, length, sym, ◌∙◌, arith, rules}
 use Rattle.std.proofs.lemmas.Result.{IfOk-weaker}
-use Rattle.mine_model.specs.Expression.{tree_of, unfolded_leaves, unfolded_times}
+use Rattle.mine_model.specs.Expression.{unfolded_leaves, unfolded_times}
+use Rattle.mine_model.specs.Numbered.{tree_of}
 use Rattle.mine_model.specs.declared.expression.Expr.{the_lemmas}
 use Rattle.fst_compile.proofs.FragmentLemmas.{IsBuilt-cat, IsBuilt-alt, IsBuilt-cap, if_both}
 use Rattle.fst_compile.proofs.CopyLemmas.{IsBuilt-none, IsBuilt-bare, IsCopied-start, IsCopied-step, IsBuilt-rep, built_size, built_long, built_within, copied_within, copy_room}

@@ -1,4 +1,4 @@
-use Rattle.mine_model.specs.Expression.{tree_of}
+use Rattle.mine_model.specs.Numbered.{tree_of}
 use Rattle.fst_compile.proofs.CopyLemmas.{IsCopied}
 use Rattle.fst_compile.proofs.linking.+add_edges.Given as goal
 

@@ -1,6 +1,6 @@
 use Rattle.std.proofs.Common.{map, refl}
 use Rattle.std.proofs.lemmas.Result.{err_from_is_err_and}
-use Rattle.mine_model.specs.Expression.{tree_of}
+use Rattle.mine_model.specs.Numbered.{tree_of}
 use Rattle.patex_parser.specs.Parsing.{use_view, use_at}
 use Rattle.patex_parser.proofs.ParseLemmas.{scanned-means, repeat-refused, unexpected-refused, deep-refused, leaves-refused, none-refused, is-parsed}
 use Rattle.patex_parser.proofs.parser.parse.Goals as goal

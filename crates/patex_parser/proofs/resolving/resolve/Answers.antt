@@ -1,5 +1,5 @@
 use Rattle.std.proofs.Common.{map}
-use Rattle.mine_model.specs.Expression.{tree_of}
+use Rattle.mine_model.specs.Numbered.{tree_of}
 use Rattle.patex_parser.specs.Parsing.{use_view}
 use Rattle.patex_parser.proofs.ResolveLemmas.{resolved-names, resolved-held, all-known}
 use Rattle.patex_parser.proofs.resolving.resolve.Goals as goal

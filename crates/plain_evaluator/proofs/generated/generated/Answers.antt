@@ -1,6 +1,6 @@
 use Rattle.std.proofs.Common.{length, []}
 use Rattle.std.proofs.lemmas.Option.{slice_get_within}
-use Rattle.mine_model.specs.Expression.{tree_of}
+use Rattle.mine_model.specs.Numbered.{tree_of}
 use Rattle.plain_evaluator.proofs.PlaceLemmas.{within_one}
 use Rattle.plain_evaluator.proofs.LeafLemmas.{one_mark}
 use Rattle.plain_evaluator.proofs.GeneratedLemmas.{AreAt, are_generated}

@@ -3,7 +3,8 @@ use Rattle.std.proofs.lemmas.Bool.{eqb-true}
 use Rattle.std.proofs.lemmas.Map.Steps.{length-le_from_distinct_below}
 use Rattle.std.proofs.lemmas.Result.{IfOk-weaker}
 use Rattle.mine_model.specs.declared.expression.Expr.{the_lemmas}
-use Rattle.mine_model.specs.Expression.{tree_of, named_in, leaf_of}
+use Rattle.mine_model.specs.Expression.{named_in}
+use Rattle.mine_model.specs.Numbered.{tree_of, leaf_of}
 use Rattle.mine_model.proofs.ListLemmas.{front_of_both, back_of_both}
 use Rattle.indexmap.proofs.CallerLemmas.{Contains-list_any}
 use Rattle.plain_evaluator.proofs.PlaceLemmas.{IfOk-both, within_added, within_none, within_both, rest_places, within_rest, leaf_before, leaf_within, cat_before, alt_before, cap_before, rep_before, before_more, before_none, before_all}

@@ -1,5 +1,5 @@
 use Rattle.std.proofs.Common.{ℕ, ◌+◌, ◌-◌, Bool, length, take, Contains}
-use Rattle.mine_model.specs.Expression.{tree_of}
+use Rattle.mine_model.specs.Numbered.{tree_of}
 use Rattle.plain_evaluator.specs.Plans.{AreBefore, AreWithin}
 use Rattle.plain_evaluator.proofs.places.+places.Given as goal
 

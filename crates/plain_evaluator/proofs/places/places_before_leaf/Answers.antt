@@ -1,7 +1,7 @@
 use Rattle.std.proofs.Common.{◌∙◌, sym}
 use Rattle.std.proofs.lemmas.Bool.{false≢true}
 use Rattle.std.proofs.lemmas.List.{take_more}
-use Rattle.mine_model.specs.Expression.{leaf_of}
+use Rattle.mine_model.specs.Numbered.{leaf_of}
 use Rattle.plain_evaluator.proofs.PlaceLemmas.{leaf_none, leaf_push, leaf_skip}
 use Rattle.plain_evaluator.proofs.places.places_before_leaf.Goals as goal
 use Rattle.plain_evaluator.proofs.places.places_before_leaf.Goals.{then-is_behind_match+in_ok-push, else-is_behind_match}

@@ -1,5 +1,5 @@
 use Rattle.std.proofs.Common.{take}
-use Rattle.mine_model.specs.Expression.{leaf_of}
+use Rattle.mine_model.specs.Numbered.{leaf_of}
 use Rattle.plain_evaluator.specs.Plans.{AreBeforeLeaf}
 use Rattle.plain_evaluator.proofs.places.places_before_leaf.Given as goal
 

@@ -1,7 +1,8 @@
 use Rattle.std.proofs.Common.{◌<◌, rules}
 use Rattle.std.proofs.lemmas.Result.{IfOk-weaker}
 use Rattle.mine_model.specs.declared.expression.Expr.{the_lemmas}
-use Rattle.mine_model.specs.Expression.{tree_of, named_in}
+use Rattle.mine_model.specs.Expression.{named_in}
+use Rattle.mine_model.specs.Numbered.{tree_of}
 use Rattle.mine_model.proofs.ListLemmas.{front_of_both, back_of_both, of_both}
 use Rattle.plain_evaluator.specs.Plans.{IsPlan, named_in_plan}
 use Rattle.plain_evaluator.proofs.PlanningLemmas.{cat_is_plan, alt_is_plan, cap_is_plan, rep_is_plan}

@@ -1,4 +1,4 @@
-use Rattle.mine_model.specs.Expression.{leaf_of}
+use Rattle.mine_model.specs.Numbered.{leaf_of}
 use Rattle.plain_evaluator.specs.declared.plan.Plan.TheVariants.{Leaf}
 use Rattle.plain_evaluator.proofs.PlaceLemmas.{leaf_within_below}
 use Rattle.plain_evaluator.proofs.PlanningLemmas.{leaf_is_plan}

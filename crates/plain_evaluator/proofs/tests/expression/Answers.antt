@@ -1,7 +1,8 @@
 use Rattle.std.proofs.Common.{◌<◌, [], ◌∷◌}
 use Rattle.std.specs.List.{AllByRecursion}
 use Rattle.mine_model.specs.declared.expression.Expr.{Expr}
-use Rattle.mine_model.specs.Expression.{tree_of, named_in}
+use Rattle.mine_model.specs.Expression.{named_in}
+use Rattle.mine_model.specs.Numbered.{tree_of}
 use Rattle.mine_model.proofs.ListLemmas.{of_both}
 use Rattle.plain_evaluator.proofs.tests.expression.Goals as goal
 

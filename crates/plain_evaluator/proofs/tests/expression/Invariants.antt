@@ -1,6 +1,7 @@
 use Rattle.std.proofs.Common.{◌<◌}
 use Rattle.std.specs.List.{AllByRecursion}
-use Rattle.mine_model.specs.Expression.{tree_of, named_in}
+use Rattle.mine_model.specs.Expression.{named_in}
+use Rattle.mine_model.specs.Numbered.{tree_of}
 use Rattle.plain_evaluator.proofs.tests.expression.Given as goal
 
 abbrev pub invariant-loop-op : goal.invariant-loop-op

@@ -1,6 +1,4 @@
-use Rattle.std.proofs.Common.{◌≡◌, ℕ, ◌<◌, ◌+◌, ◌++◌, [], ◌∷◌, length, arith, ap, ◌∙◌, sym, refl, length-append}
-use Rattle.std.specs.Result.{is_ok}
-use Rattle.mine_model.specs.Database.{sequences_from}
+use Rattle.std.proofs.Common.{◌≡◌, ◌<◌, ◌+◌, ◌++◌, [], ◌∷◌, length, arith, ap}
 use Rattle.mine_model.proofs.DatabaseLemmas.{length-sequences_from, sequences_from-push, IsFlat-push}
 use Rattle.mine_model.proofs.database.Db.push_weighted.Goals as goal
 

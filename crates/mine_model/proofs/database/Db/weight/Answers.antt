@@ -1,4 +1,4 @@
-use Rattle.std.proofs.Common.{◌≡◌, ◌≤◌, ◌<◌, List, length, arith, ap, ◌∙◌, sym}
+use Rattle.std.proofs.Common.{◌<◌, List, length, arith, ap, ◌∙◌, sym}
 use Rattle.mine_model.specs.declared.item.Item.{Item}
 use Rattle.mine_model.specs.declared.database.Entry.{Entry}
 use Rattle.mine_model.specs.Support.{Sequence}
