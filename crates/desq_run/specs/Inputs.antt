@@ -68,7 +68,9 @@ pub record AreRows (names : List (List ℕ)) (h : Ancestry) (db : List (Sequence
   pub same : tree_by (name_of names) expression ≡ tree
   pub named : AllByRecursion (HasName names) (named_in expression)
   pub frequent : (row : Row) → Contains rows row
-      ↔ IsFrequent (record { links = h.links; sequences = db; expression = expression; threshold = threshold }) row.pattern row.support
+      ↔ IsFrequent
+          (record { links = h.links; sequences = db; expression = expression; threshold = threshold })
+          row.pattern row.support
   pub rises : Rises (map (named_row names) rows)
 
 -- The rows are in the order of their names, the words name an expression that is not refused, and where the
@@ -87,5 +89,7 @@ pub record AreOrdered (names : List (List ℕ)) (h : Ancestry) (db : List (Seque
     (expression : Tree Item) (threshold : ℕ)
     (rows : List Row) : Type 0 where
   pub frequent : (row : Row) → Contains rows row
-      ↔ IsFrequent (record { links = h.links; sequences = db; expression = expression; threshold = threshold }) row.pattern row.support
+      ↔ IsFrequent
+          (record { links = h.links; sequences = db; expression = expression; threshold = threshold })
+          row.pattern row.support
   pub rises : Rises (map (named_row names) rows)

@@ -37,7 +37,8 @@ fn mine<F: Files>(alloc: Global, command: &Command, files: &mut F) -> Result<Min
     requires support { 1 ≤ command.now.support }
     ensures mined { (words : List (List ℕ)) → IsCommand words (command_said command.now)
         → IfOk result
-            (λ mined. IsMined words (F.holds files.old) (command_said command.now) mined.names mined.rows.items) }
+            (λ mined. IsMined words (F.holds files.old) (command_said command.now)
+            mined.names mined.rows.items) }
     ensures named { IfOk result (λ mined. All
         (λ row. All (HasName mined.names) row.pattern) mined.rows.items) }
     ensures ends { (words : List (List ℕ)) → IsCommand words (command_said command.now)

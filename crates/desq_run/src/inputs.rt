@@ -115,7 +115,8 @@ fn read_hierarchy<F: Files>(
     ensures items { IfOk result (λ h. h.items ≡ length names.new) }
     ensures within { IfOk result (λ h. AreLinksWithin h) }
     ensures fails { IfErr result (λ fault.
-        FailsBy (bytes_named (F.holds files.old) (option_map string_bytes name.now)) IsHierarchyRefusal OfHierarchy
+        FailsBy (bytes_named (F.holds files.old) (option_map string_bytes name.now))
+        IsHierarchyRefusal OfHierarchy
         (IsSome (option_map string_bytes name.now)) (Rose (F.faults files.old) (F.faults files.new)) fault) }
     ensures same_names { F.may files.new ≡ F.may files.old }
     ensures same_files { F.holds files.new ≡ F.holds files.old }

@@ -194,7 +194,8 @@ fn message(outcome: &Result<(), Fault>) -> Text
 
 /// Writes the message of an outcome. A fault of the sink leaves its first bytes, and is told to nobody.
 pub(crate) fn report<E: Sink>(err: &mut E, outcome: &Result<(), Fault>)
-    ensures reported { IsReported (E.written err.old) (E.written err.new) (Rose (E.faults err.old) (E.faults err.new))
+    ensures reported { IsReported (E.written err.old) (E.written err.new)
+        (Rose (E.faults err.old) (E.faults err.new))
         (message_of outcome.now) }
     ensures never_falls { E.faults err.old ≤ E.faults err.new }
 {

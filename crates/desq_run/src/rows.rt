@@ -59,7 +59,8 @@ pub(crate) fn rows_of(
     requires items { inputs.now.hierarchy.items ≡ length inputs.now.names }
     requires sequences { AllByRecursion
         (λ s. AllByRecursion (HasName inputs.now.names) s.items) inputs.now.db }
-    requires within { AreWithin (length (map use_view parsed.now.uses.items)) (named_in (tree_of parsed.now.tree)) }
+    requires within { AreWithin (length (map use_view parsed.now.uses.items))
+        (named_in (tree_of parsed.now.tree)) }
     ensures rows { IfOk result (λ rows. AreRows inputs.now.names inputs.now.hierarchy inputs.now.db
         (named_tree (map use_view parsed.now.uses.items) (tree_of parsed.now.tree)) support rows.items) }
     ensures named { IfOk result (λ rows. All (λ row. All (HasName inputs.now.names) row.pattern) rows.items) }

@@ -52,7 +52,8 @@ abbrev pub IsCopyAdded : ℕ → Option ℕ → ℕ → Fragment → Fragment �
 IsCopyAdded least None index copy rest result =
     MatchBool (nat_lt (index + 1) least) (IsJoined copy rest (copy.empty && rest.empty) result)
     (IsAlike copy (copy.empty || nat_eq least 0) result)
-IsCopyAdded least (Some most) index copy rest result = IsJoined copy rest ((copy.empty && rest.empty) || nat_le least index) result
+IsCopyAdded least (Some most) index copy rest result =
+    IsJoined copy rest ((copy.empty && rest.empty) || nat_le least index) result
 
 -- the states to which the last states of that copy lead
 abbrev pub behind_copy : ℕ → Option ℕ → ℕ → Fragment → Fragment → List ℕ
@@ -67,7 +68,8 @@ AddsCopy least most index copy rest before after =
 -- the copies of a repetition from an index on
 abbrev pub copies_from : Shape → ℕ → Option ℕ → ℕ → Shape
 copies_from shape least (Some most) index = between (least - index) (most - index) shape
-copies_from shape least None index = cond (nat_lt index (max least 1)) (at_least (least - index) shape) nothing
+copies_from shape least None index =
+    cond (nat_lt index (max least 1)) (at_least (least - index) shape) nothing
 
 -- whether a repetition has room for its lower bound
 abbrev pub is_enough : ℕ → Option ℕ → Bool

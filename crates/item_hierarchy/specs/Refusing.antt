@@ -18,4 +18,5 @@ IsLineRefusal known before text =
 -- the first refusal of the text and the names of the file; where no name is known before, that is the first
 -- part of the refusals of a hierarchy file
 abbrev pub IsReadRefusal : List (List ℕ) → List ℕ → Fault → Type 0
-IsReadRefusal known bytes = FirstOf (IsTooLarge Hierarchy bytes) (FirstAmong (IsLineRefusal known) [] (lines_of bytes))
+IsReadRefusal known bytes =
+    FirstOf (IsTooLarge Hierarchy bytes) (FirstAmong (IsLineRefusal known) [] (lines_of bytes))

@@ -32,7 +32,8 @@ pub record IsWalking (links : List (Link Item)) (items : ℕ) (marks : List Mark
   pub all_open : (t : Item) → IsMarked marks t Open → Contains open_items t
   pub apart : AllPairs (λ t w. t ≢ w) open_items
   pub leads : (k : ℕ) (d : Item) → k + 1 < length open_items
-      → Contains links (record { child = slice_index_or open_items k d; parent = slice_index_or open_items (k + 1) d })
+      → Contains links
+        (record { child = slice_index_or open_items k d; parent = slice_index_or open_items (k + 1) d })
   pub are_done : All (λ t. IsMarked marks t Done) order
   pub all_done : (t : Item) → IsMarked marks t Done → Contains order t
   pub once : AllPairs (λ t w. t ≢ w) order

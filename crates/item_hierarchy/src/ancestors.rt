@@ -160,7 +160,8 @@ impl Ancestors {
     fn gather_parent(&mut self, parent: Item, stamp: u32, room: usize) -> Result<bool, NoMemory>
         requires inside { parent.0 < length self.old.parts.items }
         requires seen { length self.old.seen.items ≡ length self.old.parts.items }
-        requires forward { (part_at self.old.parts.items parent.0).from ≤ (part_at self.old.parts.items parent.0).to }
+        requires forward {
+            (part_at self.old.parts.items parent.0).from ≤ (part_at self.old.parts.items parent.0).to }
         requires end { (part_at self.old.parts.items parent.0).to ≤ length self.old.lists.items }
         requires within { All (λ w. w.0 < length self.old.seen.items)
             (list_in self.old.parts.items self.old.lists.items parent.0) }
@@ -174,8 +175,8 @@ impl Ancestors {
             ⊎ Contains (list_in self.old.parts.items self.old.lists.items parent.0) w) }
         ensures room { OnOk result (length self.new.gathered.items ≤ room) }
         ensures all { IfOk result (λ fits. IsTrue fits → Contains self.old.gathered.items parent
-            ⊎ All
-                (λ w. Contains self.new.gathered.items w) (list_in self.old.parts.items self.old.lists.items parent.0)) }
+            ⊎ All (λ w. Contains self.new.gathered.items w)
+            (list_in self.old.parts.items self.old.lists.items parent.0)) }
         ensures full { IfOk result (λ fits. fits ≡ false → (w : Item)
             × Contains (list_in self.old.parts.items self.old.lists.items parent.0) w
             × (Contains self.new.gathered.items w → ⊥) × (length self.new.gathered.items ≡ room)) }

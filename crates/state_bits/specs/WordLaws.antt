@@ -10,8 +10,8 @@ pub words_of-joined : (words : List ℕ) → ((k : ℕ) → get_or words k 0 < 2
 unfolding joined words_of
 words_of-joined [] fit = refl
 words_of-joined (word ∷ words) fit =
-    rw (mod-mul-add (joined words) (2 ^ 64) word (fit 0), div-mul-add (joined words) (2 ^ 64) word (fit 0)) (ap
-        (λ ws. word ∷ ws) (words_of-joined words (λ k. fit (suc k))))
+    rw (mod-mul-add (joined words) (2 ^ 64) word (fit 0), div-mul-add (joined words) (2 ^ 64) word (fit 0))
+        (ap (λ ws. word ∷ ws) (words_of-joined words (λ k. fit (suc k))))
 
 -- for words of a set
 pub words_of_set : (width : ℕ) (words : List ℕ) → AreWords width words → words_of width (joined words) ≡ words
