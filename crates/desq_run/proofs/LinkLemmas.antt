@@ -9,6 +9,7 @@ use Rattle.mine_model.specs.Names.{name_of, HasName, AreDistinct}
 use Rattle.mine_model.specs.Ancestry.{Ancestry}
 use Rattle.mine_model.specs.Refusal.{names_of, links_of_line, links_from, placed_links_of, links_of}
 use Rattle.mine_model.proofs.ListLemmas.{Contains-cases, Contains-first, Contains-other, Contains-none, Contains-by, Contains-from}
+use Rattle.mine_model.proofs.AncestryLemmas.{Item-same}
 use Rattle.mine_model.proofs.NumberingLemmas.{Renames}
 use Rattle.desq_run.specs.Inputs.{IsHierarchyOf}
 
@@ -103,9 +104,6 @@ name-front names added w held = by names w.0 held
     by (first ∷ names) zero less = refl
     by (first ∷ names) (suc n) less = by names n (omega (arith, less))
 
-same_item : (x y : Item) → x.0 ≡ y.0 → x ≡ y
-same_item x y same = ap (λ n. let made : Item = record { 0 = n } in made) same
-
 module _ (bytes : List ℕ) (known added : List (List ℕ)) (h : Ancestry) (distinct : AreDistinct (known ++ added))
     (read : IsHierarchyOf bytes known h)
     (within : All (λ (link : Link Item). (link.child.0 < h.items) × (link.parent.0 < h.items)) h.links) where
@@ -136,7 +134,7 @@ module _ (bytes : List ℕ) (known added : List (List ℕ)) (h : Ancestry) (dist
   ancestor-back : (w t : Item) → HasName (known ++ added) w → HasName (known ++ added) t
       → IsAncestor (links_of bytes) (name_of (known ++ added) w) (name_of (known ++ added) t) → IsAncestor h.links w t
   ancestor-back w t w_held t_held up = elim (ancestor-cases (links_of bytes) (name_of (known ++ added) w) (name_of (known ++ added) t) up) [
-    | inl same ↦ ([], same_item t w (distinct t.0 w.0 t_held w_held same))
+    | inl same ↦ ([], Item-same t w (distinct t.0 w.0 t_held w_held same))
     | inr ends ↦
         let t_known : HasName known t = known_number t t_held (links-among bytes (record { child = name_of (known ++ added) t; parent = ends.0.0 }) ends.0.1).0 in
         let w_known : HasName known w = known_number w w_held (links-among bytes (record { child = ends.1.0; parent = name_of (known ++ added) w }) ends.1.1).1 in
@@ -149,7 +147,7 @@ module _ (bytes : List ℕ) (known added : List (List ℕ)) (h : Ancestry) (dist
   -- the numbers of the names rename what the file says
   pub names-rename : Renames h.links (links_of bytes) (HasName (known ++ added)) (name_of (known ++ added))
   names-rename = record {
-    one_to_one = λ x y x_held y_held same. same_item x y (distinct x.0 y.0 x_held y_held same);
+    one_to_one = λ x y x_held y_held same. Item-same x y (distinct x.0 y.0 x_held y_held same);
     forth = ancestor-forth;
     back = ancestor-back;
     up = λ v t up held. elim (ancestor-cases h.links v t up) [

@@ -4,4 +4,3 @@ pub mod GatheringLemmas
 pub mod ClosingLemmas
 pub mod TextLemmas
 pub mod TakingLemmas
-pub mod NamedLemmas

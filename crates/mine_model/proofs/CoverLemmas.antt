@@ -5,7 +5,7 @@ use Rattle.std.proofs.lemmas.Bool.{lt-ltb, le-ltb, cond-true, cond-false, cases_
 use Rattle.std.proofs.lemmas.List.{append-nil}
 use Rattle.std.proofs.lemmas.List.Sums.{sum_by-cons, sum_by-append}
 use Rattle.mine_model.specs.Labels.{SameLabels}
-use Rattle.mine_model.proofs.ElementLemmas.{held-cases, held-first, held-other, held-none}
+use Rattle.mine_model.proofs.ListLemmas.{Contains-cases, Contains-first, Contains-other, Contains-none}
 use Rattle.mine_model.specs.Cover.{GrowByOne, Covers, Balanced}
 
 pub sum_by-flat_map : {X Y : Type 0} (f : Y → ℕ) (g : X → List Y) (xs : List X) → sum_by f (flat_map g xs) ≡ sum_by (λ x. sum_by f (g x)) xs
@@ -16,16 +16,16 @@ sum_by-flat_map f g (x ∷ xs) = omega (arith, sum_by-append f (g x) (flat_map g
 pub sum_by-same : {X : Type 0} (f g : X → ℕ) (xs : List X) → ((x : X) → Contains xs x → f x ≡ g x) → sum_by f xs ≡ sum_by g xs
 sum_by-same f g [] same = refl
 sum_by-same f g (x ∷ xs) same =
-    omega (arith, sum_by-cons f x xs, sum_by-cons g x xs, same x (held-first x xs), sum_by-same f g xs (λ y is. same y (held-other x xs y is)))
+    omega (arith, sum_by-cons f x xs, sum_by-cons g x xs, same x (Contains-first x xs), sum_by-same f g xs (λ y is. same y (Contains-other x xs y is)))
 
 pub sum_by-most : {X : Type 0} (f g : X → ℕ) (xs : List X) → ((x : X) → Contains xs x → f x ≤ g x) → sum_by f xs ≤ sum_by g xs
 sum_by-most f g [] most = omega arith
 sum_by-most f g (x ∷ xs) most =
-    omega (arith, sum_by-cons f x xs, sum_by-cons g x xs, most x (held-first x xs), sum_by-most f g xs (λ y is. most y (held-other x xs y is)))
+    omega (arith, sum_by-cons f x xs, sum_by-cons g x xs, most x (Contains-first x xs), sum_by-most f g xs (λ y is. most y (Contains-other x xs y is)))
 
 pub sum_by-none : {X : Type 0} (f : X → ℕ) (xs : List X) → ((x : X) → Contains xs x → f x ≡ 0) → sum_by f xs ≡ 0
 sum_by-none f [] none = refl
-sum_by-none f (x ∷ xs) none = omega (arith, sum_by-cons f x xs, none x (held-first x xs), sum_by-none f xs (λ y is. none y (held-other x xs y is)))
+sum_by-none f (x ∷ xs) none = omega (arith, sum_by-cons f x xs, none x (Contains-first x xs), sum_by-none f xs (λ y is. none y (Contains-other x xs y is)))
 
 -- the weight of the labels that are shorter than n
 pub below : ℕ → (List ℕ → ℕ) → List ℕ → ℕ
@@ -45,10 +45,10 @@ reach labels = sum_by (λ label. suc (length label)) labels
 
 in_reach : (labels : List (List ℕ)) (label : List ℕ) → Contains labels label → length label < reach labels
 unfolding reach
-in_reach [] label is = absurd (held-none label is)
+in_reach [] label is = absurd (Contains-none label is)
 in_reach (first ∷ rest) label is =
     let whole : sum_by (λ l. suc (length l)) (first ∷ rest) ≡ suc (length first) + sum_by (λ l. suc (length l)) rest = sum_by-cons (λ l. suc (length l)) first rest in
-    elim (held-cases first rest label is) [
+    elim (Contains-cases first rest label is) [
       | inl here ↦ let same : length label ≡ length first = ap length here in omega arith
       | inr there ↦ let less : length label < sum_by (λ l. suc (length l)) rest = in_reach rest label there in omega arith
     ]

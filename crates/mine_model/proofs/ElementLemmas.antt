@@ -1,25 +1,12 @@
 -- Elements of a list, and of a list of pieces.
 use Rattle.std.proofs.Common.{◌≡◌, ℕ, zero, suc, ◌<◌, ◌⊎◌, inl, inr, Bool, true, false, Some, List, [], ◌∷◌, slice_get, length, refl, sym, subst, arith, Contains, flat_map}
+use Rattle.mine_model.proofs.ListLemmas.{Contains-cases, Contains-first, Contains-other, Contains-none}
 use Rattle.std.proofs.lemmas.List.Elements.{Contains-append_left, Contains-append_right, Contains-append_cases}
 
 -- a test is passed or not
 pub tells : (b : Bool) → (b ≡ true) ⊎ (b ≡ false)
 tells true = inl refl
 tells false = inr refl
-
--- an element is the first or one of the others
-pub held-cases : {X : Type 0} (x : X) (xs : List X) (y : X) → Contains (x ∷ xs) y → (y ≡ x) ⊎ Contains xs y
-held-cases x xs y (zero, lt, is) = inl (sym is)
-held-cases x xs y (suc k, lt, is) = inr (k, omega arith, is)
-
-pub held-first : {X : Type 0} (x : X) (xs : List X) → Contains (x ∷ xs) x
-held-first x xs = (0, omega arith, refl)
-
-pub held-other : {X : Type 0} (x : X) (xs : List X) (y : X) → Contains xs y → Contains (x ∷ xs) y
-held-other x xs y (k, lt, is) = (suc k, omega arith, is)
-
-pub held-none : {X : Type 0} (y : X) → Contains [] y → ⊥
-held-none y (k, lt, is) = omega arith
 
 pub get-some : {X : Type 0} (xs : List X) (i : ℕ) → i < length xs → (x : X) × (slice_get xs i ≡ Some x)
 get-some [] i l = absurd (omega arith)
@@ -28,24 +15,24 @@ get-some (x ∷ xs) (suc i) l = get-some xs i (omega arith)
 
 pub get-held : {X : Type 0} (xs : List X) (i : ℕ) (x : X) → slice_get xs i ≡ Some x → Contains xs x
 get-held [] i x is = absurd (cc)
-get-held (y ∷ xs) zero x is = let same : y ≡ x = cc in subst (Contains (y ∷ xs)) same (held-first y xs)
-get-held (y ∷ xs) (suc i) x is = held-other y xs x (get-held xs i x is)
+get-held (y ∷ xs) zero x is = let same : y ≡ x = cc in subst (Contains (y ∷ xs)) same (Contains-first y xs)
+get-held (y ∷ xs) (suc i) x is = Contains-other y xs x (get-held xs i x is)
 
 -- an element of the pieces is one of a piece
 pub flat-cases : {X Y : Type 0} (f : X → List Y) (xs : List X) (y : Y) → Contains (flat_map f xs) y → (x : X) × Contains xs x × Contains (f x) y
-flat-cases f [] y is = absurd (held-none y is)
+flat-cases f [] y is = absurd (Contains-none y is)
 flat-cases f (x ∷ xs) y is = elim (Contains-append_cases (f x) (flat_map f xs) y is) [
-  | inl here ↦ (x, held-first x xs, here)
-  | inr there ↦ let (z, held, part) = flat-cases f xs y there in (z, held-other x xs z held, part)
+  | inl here ↦ (x, Contains-first x xs, here)
+  | inr there ↦ let (z, held, part) = flat-cases f xs y there in (z, Contains-other x xs z held, part)
 ]
 
 pub flat-held : {X Y : Type 0} (f : X → List Y) (xs : List X) (x : X) (y : Y) → Contains xs x → Contains (f x) y → Contains (flat_map f xs) y
-flat-held f [] x y held part = absurd (held-none x held)
-flat-held f (z ∷ xs) x y held part = elim (held-cases z xs x held) [
+flat-held f [] x y held part = absurd (Contains-none x held)
+flat-held f (z ∷ xs) x y held part = elim (Contains-cases z xs x held) [
   | inl here ↦ Contains-append_left (f z) (flat_map f xs) y (subst (λ v. Contains (f v) y) here part)
   | inr there ↦ Contains-append_right (f z) (flat_map f xs) y (flat-held f xs x y there part)
 ]
 
 pub no_members : {X : Type 0} (xs : List X) → ((x : X) → Contains xs x → ⊥) → xs ≡ []
 no_members [] none = refl
-no_members (x ∷ xs) none = absurd (none x (held-first x xs))
+no_members (x ∷ xs) none = absurd (none x (Contains-first x xs))

@@ -5,7 +5,7 @@ use Rattle.std.proofs.Math.Dec.{eqb}
 use Rattle.std.proofs.lemmas.Bool.{eq-eqb}
 use Rattle.std.proofs.lemmas.List.{same_from_push, length_push}
 use Rattle.std.proofs.lemmas.List.Sums.{sum_by-cons}
-use Rattle.mine_model.proofs.ElementLemmas.{held-cases, held-first, held-other, held-none}
+use Rattle.mine_model.proofs.ListLemmas.{Contains-cases, Contains-first, Contains-other, Contains-none}
 use Rattle.mine_model.specs.Cover.{GrowByOne, IsOnce, AreApart}
 use Rattle.mine_model.proofs.OnceLemmas.{one, times-one, one-cases, one-found, one-most}
 
@@ -14,10 +14,10 @@ abbrev pub kids_of : (List ℕ → List ℕ) → List ℕ → List (List ℕ)
 kids_of ranks label = map (λ rank. label ++ rank ∷ []) (ranks label)
 
 map-cases : (label ranks kid : List ℕ) → Contains (map (λ rank. label ++ rank ∷ []) ranks) kid → (rank : ℕ) × Contains ranks rank × (kid ≡ label ++ rank ∷ [])
-map-cases label [] kid is = absurd (held-none kid is)
-map-cases label (r ∷ ranks) kid is = elim (held-cases (label ++ r ∷ []) (map (λ rank. label ++ rank ∷ []) ranks) kid is) [
-  | inl here ↦ (r, held-first r ranks, here)
-  | inr there ↦ let (rank, held, same) = map-cases label ranks kid there in (rank, held-other r ranks rank held, same)
+map-cases label [] kid is = absurd (Contains-none kid is)
+map-cases label (r ∷ ranks) kid is = elim (Contains-cases (label ++ r ∷ []) (map (λ rank. label ++ rank ∷ []) ranks) kid is) [
+  | inl here ↦ (r, Contains-first r ranks, here)
+  | inr there ↦ let (rank, held, same) = map-cases label ranks kid there in (rank, Contains-other r ranks rank held, same)
 ]
 
 kids-cases : (ranks : List ℕ → List ℕ) (label kid : List ℕ) → Contains (kids_of ranks label) kid → (rank : ℕ) × Contains (ranks label) rank × (kid ≡ label ++ rank ∷ [])
@@ -30,8 +30,8 @@ kids_grow ranks label kid is =
     omega (arith, length_push label rank)
 
 all-other : (rank : ℕ) (ranks : List ℕ) → AllByRecursion (λ y. eqb rank y ≡ false) ranks → Contains ranks rank → ⊥
-all-other rank [] all is = held-none rank is
-all-other rank (r ∷ ranks) all is = elim (held-cases r ranks rank is) [
+all-other rank [] all is = Contains-none rank is
+all-other rank (r ∷ ranks) all is = elim (Contains-cases r ranks rank is) [
   | inl here ↦ true≢false (sym (eq-eqb rank r here) ∙ all.0)
   | inr there ↦ all-other rank ranks all.1 there
 ]
@@ -56,7 +56,7 @@ map-once label (r ∷ ranks) kid apart =
 
 not-empty-parent : (ranks : List ℕ → List ℕ) → ranks [] ≡ [] → (parent kid : List ℕ) → Contains (kids_of ranks parent) kid → length kid ≡ 1 → ⊥
 not-empty-parent ranks none [] kid is short =
-    let (rank, held, same) = kids-cases ranks [] kid is in held-none rank (subst (λ (l : List ℕ). Contains l rank) none held)
+    let (rank, held, same) = kids-cases ranks [] kid is in Contains-none rank (subst (λ (l : List ℕ). Contains l rank) none held)
 not-empty-parent ranks none (x ∷ parent) kid is short =
     let long : length kid ≡ suc (suc (length parent)) = kids_grow ranks (x ∷ parent) kid is in absurd (omega arith)
 

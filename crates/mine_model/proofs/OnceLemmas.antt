@@ -4,7 +4,8 @@ use Rattle.std.specs.Str.{bytes_eq}
 use Rattle.std.proofs.lemmas.Slice.Eq.{bytes_eq-Decides}
 use Rattle.std.proofs.lemmas.Bool.{cond-true, cond-false, cases_lt}
 use Rattle.std.proofs.lemmas.List.Sums.{sum_by-cons, sum_by-append}
-use Rattle.mine_model.proofs.ElementLemmas.{held-cases, held-first, held-other, held-none, tells}
+use Rattle.mine_model.proofs.ListLemmas.{Contains-cases, Contains-first, Contains-other, Contains-none}
+use Rattle.mine_model.proofs.ElementLemmas.{tells}
 use Rattle.mine_model.specs.Cover.{GrowByOne, Covers, down_to, level, IsTree, times, IsOnce, AreApart}
 use Rattle.mine_model.proofs.CoverLemmas.{kids_weight, kids-weight, flat-weight, sum_by-most}
 
@@ -32,16 +33,16 @@ one-most label other = elim (tells (bytes_eq label other)) [ inl is ↦ omega (a
 some-part : {X : Type 0} (f : X → ℕ) (xs : List X) → (sum_by f xs ≡ 0) ⊎ ((x : X) × Contains xs x × (1 ≤ f x))
 some-part f [] = inl refl
 some-part f (x ∷ xs) = elim (cases_lt 0 (f x)) [
-  | inl more ↦ inr (x, held-first x xs, omega arith)
+  | inl more ↦ inr (x, Contains-first x xs, omega arith)
   | inr none ↦ elim (some-part f xs) [
     | inl nothing ↦ inl (omega (arith, sum_by-cons f x xs))
-    | inr part ↦ let (y, is, more) = part in inr (y, held-other x xs y is, more)
+    | inr part ↦ let (y, is, more) = part in inr (y, Contains-other x xs y is, more)
   ]
 ]
 
 part-most : {X : Type 0} (f : X → ℕ) (xs : List X) (x : X) → Contains xs x → f x ≤ sum_by f xs
-part-most f [] x is = absurd (held-none x is)
-part-most f (y ∷ xs) x is = elim (held-cases y xs x is) [
+part-most f [] x is = absurd (Contains-none x is)
+part-most f (y ∷ xs) x is = elim (Contains-cases y xs x is) [
   | inl here ↦ let same : f x ≡ f y = ap f here in omega (arith, sum_by-cons f y xs)
   | inr there ↦ omega (arith, sum_by-cons f y xs, part-most f xs x there)
 ]

@@ -7,7 +7,8 @@ use Rattle.std.proofs.lemmas.List.FromFn.{length-range_with_len, get_or-range_wi
 use Rattle.std.proofs.lemmas.Bool.{cond-true, cond-false, eqb-true, eq-eqb}
 use Rattle.std.proofs.lemmas.Option.{slice_get_within}
 use Rattle.std.proofs.lemmas.List.Elements.{Contains-append_right, Contains-append_cases}
-use Rattle.mine_model.proofs.ElementLemmas.{held-cases, held-first, held-other, held-none, get-held, flat-cases, flat-held, get-some, tells}
+use Rattle.mine_model.proofs.ListLemmas.{Contains-cases, Contains-first, Contains-other, Contains-none}
+use Rattle.mine_model.proofs.ElementLemmas.{get-held, flat-cases, flat-held, get-some, tells}
 use Rattle.mine_model.specs.Cover.{Covers}
 use Rattle.pool_schedule.specs.State.{Load, State, IsBalanced}
 use Rattle.pool_schedule.specs.Steps.{Step, IsQuiet}
@@ -25,11 +26,11 @@ range-held n w l =
     (w, omega arith, omega arith)
 
 any-cases : (labels : List (List ℕ)) (event other : Event) → Contains (where_any labels event) other → (label : List ℕ) × (rest : List (List ℕ)) × (other ≡ event) × (labels ≡ label ∷ rest)
-any-cases [] event other is = absurd (held-none other is)
-any-cases (label ∷ rest) event other is = elim (held-cases event [] other is) [ inl same ↦ (label, rest, same, refl) | inr not ↦ absurd (held-none other not) ]
+any-cases [] event other is = absurd (Contains-none other is)
+any-cases (label ∷ rest) event other is = elim (Contains-cases event [] other is) [ inl same ↦ (label, rest, same, refl) | inr not ↦ absurd (Contains-none other not) ]
 
 any-held : (labels rest : List (List ℕ)) (label : List ℕ) (event : Event) → labels ≡ label ∷ rest → Contains (where_any labels event) event
-any-held labels rest label event is = subst (λ (l : List (List ℕ)). Contains (where_any l event) event) (sym is) (held-first event [])
+any-held labels rest label event is = subst (λ (l : List (List ℕ)). Contains (where_any l event) event) (sym is) (Contains-first event [])
 
 pub not-same : (v w : ℕ) → v ≢ w → (v == w) ≡ false
 not-same v w other = elim (tells (v == w)) [ inl same ↦ absurd (other (eqb-true v w same)) | inr is ↦ is ]
@@ -38,9 +39,9 @@ not-same v w other = elim (tells (v == w)) [ inl same ↦ absurd (other (eqb-tru
 
 steal-from-cases : (w v : ℕ) (found : Option Load) (event : Event) → Contains (steal_from w v found) event
     → (worker : Load) × (label : List ℕ) × (rest : List (List ℕ)) × (event ≡ Steal w v) × (v ≢ w) × (found ≡ Some worker) × (worker.deque ≡ label ∷ rest)
-steal-from-cases w v None event is = absurd (held-none event is)
+steal-from-cases w v None event is = absurd (Contains-none event is)
 steal-from-cases w v (Some victim) event is = elim (tells (v == w)) [
-  | inl same ↦ absurd (held-none event (subst (λ (l : List Event). Contains l event) (cond-true (v == w) [] (where_any victim.deque (Steal w v)) same) is))
+  | inl same ↦ absurd (Contains-none event (subst (λ (l : List Event). Contains l event) (cond-true (v == w) [] (where_any victim.deque (Steal w v)) same) is))
   | inr other ↦
       let held : Contains (where_any victim.deque (Steal w v)) event = subst (λ (l : List Event). Contains l event) (cond-false (v == w) [] (where_any victim.deque (Steal w v)) other) is in
       let (label, rest, same, deque) = any-cases victim.deque (Steal w v) event held in
@@ -72,20 +73,20 @@ next-of kids machine event other after same s = (after, subst (λ e. Step kids e
 own-enabled : (kids : List ℕ → List (List ℕ)) (machine : State) (w : ℕ) (worker : Load) → slice_get machine.workers w ≡ Some worker
     → (pending : Option (List ℕ)) (hand deque : List (List ℕ)) → worker.pending ≡ pending → worker.hand ≡ hand → worker.deque ≡ deque
     → (event : Event) → Contains (own_events w pending hand deque (steals machine.workers w)) event → Next kids event machine
-own-enabled kids machine w worker at (Some label) hand deque p h d event is = elim (held-cases (Post w) [] event is) [
+own-enabled kids machine w worker at (Some label) hand deque p h d event is = elim (Contains-cases (Post w) [] event is) [
   | inl same ↦ next-of kids machine event (Post w) (record { workers = set machine.workers w (record { deque = worker.deque; hand = worker.hand; pending = None }); posted = machine.posted ++ label ∷ [] }) same
       (record { worker = worker; label = label; at = at; pending = p; workers = refl; posted = refl })
-  | inr not ↦ absurd (held-none event not)
+  | inr not ↦ absurd (Contains-none event not)
 ]
-own-enabled kids machine w worker at None (label ∷ others) deque p h d event is = elim (held-cases (Grow w) (Put w ∷ []) event is) [
+own-enabled kids machine w worker at None (label ∷ others) deque p h d event is = elim (Contains-cases (Grow w) (Put w ∷ []) event is) [
   | inl same ↦
       let (rest, last, e) = has_last label others in
       next-of kids machine event (Grow w) (record { workers = set machine.workers w (record { deque = worker.deque; hand = rest ++ kids last; pending = Some last }); posted = machine.posted }) same
       (record { worker = worker; rest = rest; label = last; at = at; pending = p; hand = h ∙ e; workers = refl; posted = refl })
-  | inr later ↦ elim (held-cases (Put w) [] event later) [
+  | inr later ↦ elim (Contains-cases (Put w) [] event later) [
     | inl same ↦ next-of kids machine event (Put w) (record { workers = set machine.workers w (record { deque = worker.deque ++ label ∷ []; hand = others; pending = None }); posted = machine.posted }) same
         (record { worker = worker; rest = others; label = label; at = at; pending = p; hand = h; workers = refl; posted = refl })
-    | inr not ↦ absurd (held-none event not)
+    | inr not ↦ absurd (Contains-none event not)
   ]
 ]
 own-enabled kids machine w worker at None [] deque p h d event is = elim (Contains-append_cases (where_any deque (Take w)) (steals machine.workers w) event is) [
@@ -102,7 +103,7 @@ own-enabled kids machine w worker at None [] deque p h d event is = elim (Contai
 
 worker-enabled : (kids : List ℕ → List (List ℕ)) (machine : State) (w : ℕ) (found : Option Load) → slice_get machine.workers w ≡ found
     → (event : Event) → Contains (events_of machine.workers w found) event → Next kids event machine
-worker-enabled kids machine w None at event is = absurd (held-none event is)
+worker-enabled kids machine w None at event is = absurd (Contains-none event is)
 worker-enabled kids machine w (Some worker) at event is = own-enabled kids machine w worker at worker.pending worker.hand worker.deque refl refl refl event is
 
 pub listed_enabled : (kids : List ℕ → List (List ℕ)) (machine : State) (event : Event) → Contains (enabled machine) event → (after : State) × Step kids event machine after
@@ -131,17 +132,17 @@ own-at w worker others pending hand deque event p h d is =
 
 pub enabled_listed : (kids : List ℕ → List (List ℕ)) (machine : State) (event : Event) (after : State) → Step kids event machine after → Contains (enabled machine) event
 enabled_listed kids machine (Post w) after s = own-listed machine w s.worker (Post w) s.at
-    (own-at w s.worker (steals machine.workers w) (Some s.label) s.worker.hand s.worker.deque (Post w) s.pending refl refl (held-first (Post w) []))
+    (own-at w s.worker (steals machine.workers w) (Some s.label) s.worker.hand s.worker.deque (Post w) s.pending refl refl (Contains-first (Post w) []))
 enabled_listed kids machine (Grow w) after s =
     let (first, others, e) = snoc-cons s.rest s.label in
     own-listed machine w s.worker (Grow w) s.at
-    (own-at w s.worker (steals machine.workers w) None (first ∷ others) s.worker.deque (Grow w) s.pending (s.hand ∙ e) refl (held-first (Grow w) (Put w ∷ [])))
+    (own-at w s.worker (steals machine.workers w) None (first ∷ others) s.worker.deque (Grow w) s.pending (s.hand ∙ e) refl (Contains-first (Grow w) (Put w ∷ [])))
 enabled_listed kids machine (Put w) after s = own-listed machine w s.worker (Put w) s.at
-    (own-at w s.worker (steals machine.workers w) None (s.label ∷ s.rest) s.worker.deque (Put w) s.pending s.hand refl (held-other (Grow w) (Put w ∷ []) (Put w) (held-first (Put w) [])))
+    (own-at w s.worker (steals machine.workers w) None (s.label ∷ s.rest) s.worker.deque (Put w) s.pending s.hand refl (Contains-other (Grow w) (Put w ∷ []) (Put w) (Contains-first (Put w) [])))
 enabled_listed kids machine (Take w) after s =
     let (first, others, e) = snoc-cons s.rest s.label in
     own-listed machine w s.worker (Take w) s.at
-    (own-at w s.worker (steals machine.workers w) None [] (first ∷ others) (Take w) s.pending s.hand (s.deque ∙ e) (held-first (Take w) (steals machine.workers w)))
+    (own-at w s.worker (steals machine.workers w) None [] (first ∷ others) (Take w) s.pending s.hand (s.deque ∙ e) (Contains-first (Take w) (steals machine.workers w)))
 enabled_listed kids machine (Steal w from) after s = own-listed machine w s.worker (Steal w from) s.at
     (own-at w s.worker (steals machine.workers w) None [] s.worker.deque (Steal w from) s.pending s.hand refl
     (Contains-append_right (where_any s.worker.deque (Take w)) (steals machine.workers w) (Steal w from) (steals-held machine.workers w from s.victim s.label s.rest s.at_victim s.other s.deque)))
@@ -172,7 +173,7 @@ first_no_put machine event is =
     worker-first machine.workers w (slice_get machine.workers w) event first
 
 pub quiet_from_none : (kids : List ℕ → List (List ℕ)) (machine : State) → enabled machine ≡ [] → IsQuiet kids machine
-quiet_from_none kids machine none event (after, s) = held-none event (subst (λ (l : List Event). Contains l event) none (enabled_listed kids machine event after s))
+quiet_from_none kids machine none event (after, s) = Contains-none event (subst (λ (l : List Event). Contains l event) none (enabled_listed kids machine event after s))
 
 -- a schedule ends with a cover
 pub schedule_covers : (roots : List (List ℕ)) (kids : List ℕ → List (List ℕ)) (choices : List ℕ) (machine : State) (events : List Event) (last : State)

@@ -3,7 +3,8 @@ use Rattle.std.proofs.Common.{◌≡◌, ℕ, zero, suc, ◌<◌, inl, inr, Bool
 use Rattle.std.specs.Prelude.{ltb}
 use borrow.Author.Tests.{ltb-true}
 use Rattle.mine_model.specs.Cover.{Covers, level, down_to}
-use Rattle.mine_model.proofs.ElementLemmas.{held-cases, held-none, flat-cases, tells}
+use Rattle.mine_model.proofs.ListLemmas.{Contains-cases, Contains-none}
+use Rattle.mine_model.proofs.ElementLemmas.{flat-cases, tells}
 use Rattle.mine_model.proofs.DepthLemmas.{short_tree}
 use Rattle.mine_model.proofs.GrowthLemmas.{kids_grow}
 use Rattle.pool_schedule.specs.Trial.{kids_by, large_ranks}
@@ -13,13 +14,13 @@ below-five label kid held = elim (tells (ltb (length label) 5)) [
   | inl short ↦ ltb-true (length label) 5 short
   | inr long ↦
       let none : kids_by large_ranks label ≡ [] = ap (λ (b : Bool). map (λ (rank : ℕ). label ++ rank ∷ []) (cond b (1 ∷ 2 ∷ 3 ∷ 4 ∷ []) [])) long in
-      absurd (held-none kid (subst (λ (l : List (List ℕ)). Contains l kid) none held))
+      absurd (Contains-none kid (subst (λ (l : List (List ℕ)). Contains l kid) none held))
 ]
 
 level-short : (depth : ℕ) (label : List ℕ) → Contains (level ((0 ∷ []) ∷ []) (kids_by large_ranks) depth) label → length label < 6
-level-short zero label held = elim (held-cases (0 ∷ []) [] label held) [
+level-short zero label held = elim (Contains-cases (0 ∷ []) [] label held) [
   | inl root ↦ let one : length label ≡ 1 = ap length root in omega arith
-  | inr none ↦ absurd (held-none label none)
+  | inr none ↦ absurd (Contains-none label none)
 ]
 level-short (suc depth) label held =
     let (parent, above, kid) = flat-cases (kids_by large_ranks) (level ((0 ∷ []) ∷ []) (kids_by large_ranks) depth) label held in
