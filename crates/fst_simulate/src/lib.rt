@@ -1,0 +1,10 @@
+//! What can still come of each place of a sequence: which states lead to its end, and what may be written there.
+#![tactic(auto)]
+
+mod bound;
+mod grids;
+mod job;
+
+pub use bound::Bound;
+pub use grids::Grids;
+pub use job::Job;
