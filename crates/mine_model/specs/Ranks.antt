@@ -1,5 +1,5 @@
 -- Frequent items and their ranks, the f-list of the DESQ article. The order of items of one frequency is own.
-use Rattle.std.specs.Prelude.{◌≡◌, ◌≢◌, ℕ, ◌-◌, ◌≤◌, ◌<◌, ◌↔◌, List, length, AllPairs, Contains}
+use Rattle.std.specs.Prelude.{◌≡◌, ◌≢◌, ℕ, ◌-◌, ◌^◌, ◌≤◌, ◌<◌, ◌↔◌, List, length, All, AllPairs, Contains}
 use Rattle.std.specs.List.{AllByRecursion, slice_get, slice_index}
 use Rattle.std.specs.Ordering.{nat_cmp}
 use Rattle.std.specs.Cmp.Lexicographic.{slice_cmp}
@@ -66,3 +66,11 @@ AreTiesByName names ranking =
 pub record IsRankTable (order : List Item) (table : List ℕ) : Type 0 where
   pub ranked : (w : Item) → (slice_index table w.0 ≡ 0 → ⊥) → HasRank order w (slice_index table w.0)
   pub unranked : (w : Item) → slice_index table w.0 ≡ 0 → Contains order w → ⊥
+
+-- the order, its table and the frequencies belong together
+pub record AreKept (order : List Item) (table frequencies : List ℕ) : Type 0 where
+  pub ranks : IsRankTable order table
+  pub whole : length table ≡ length frequencies
+  pub different : AllPairs (λ v w. v ≢ w) order
+  pub within : All (λ w. w.0 < length frequencies) order
+  pub few : length frequencies < 2 ^ 32

@@ -1,4 +1,4 @@
-ghost use Rattle.std.specs.Prelude.{◌≡◌, ◌≢◌, ◌^◌, ◌≤◌, ◌<◌, ◌↔◌, length, All, AllPairs, Contains, IsNone, IfSome, IfOk};
+ghost use Rattle.std.specs.Prelude.{◌≡◌, ◌≢◌, ◌^◌, ◌≤◌, ◌<◌, ◌↔◌, length, slice_index, All, AllPairs, Contains, IsNone, IfSome, IfOk};
 ghost use Rattle.mine_model.specs.declared.item.Item.{Item};
 ghost use Rattle.mine_model.specs.Ranks.{HasRank, frequency_in, IsRankTable};
 
@@ -18,16 +18,13 @@ pub struct Ranks {
 }
 
 impl Model for Ranks {
-    ghost use Rattle.std.specs.Prelude.{◌≡◌, ◌≢◌, ◌^◌, ◌<◌, length, All, AllPairs};
-    ghost use Rattle.mine_model.specs.Ranks.{Ranking, IsRankTable};
+    ghost use Rattle.mine_model.specs.Ranks.{Ranking, AreKept};
 
     ghost Value = { Ranking };
 
     ghost view = { λ r. record { order = r.order.items; frequencies = r.frequencies.items } };
 
-    ghost invariant = { λ r. IsRankTable r.order.items r.table.items × (length r.table.items ≡ length r.frequencies.items)
-        × AllPairs (λ v w. v ≢ w) r.order.items × All (λ w. w.0 < length r.frequencies.items) r.order.items
-        × (length r.frequencies.items < 2 ^ 32) };
+    ghost invariant = { λ r. AreKept r.order.items r.table.items r.frequencies.items };
 }
 
 impl Ranks {
@@ -53,10 +50,8 @@ impl Ranks {
         ensures rank { IfSome result (λ rank. HasRank self.now.order item rank) }
         ensures most { IfSome result (λ rank. rank ≤ length self.now.order) }
     {
-        match self.table.get(item.0 as usize).copied() {
-            None | Some(0) => None,
-            Some(rank) => Some(rank),
-        }
+        let rank = entry(self.table.as_slice(), item.0 as usize);
+        if rank == 0 { None } else { Some(rank) }
     }
 
     /// The item with a rank, counted from 1. Takes no memory.
@@ -87,6 +82,13 @@ impl Ranks {
     {
         self.frequencies[item.0 as usize]
     }
+}
+
+// What the table has at this number, 0 past its end.
+fn entry(table: &[u32], number: usize) -> u32
+    ensures { result ≡ slice_index table.now number }
+{
+    table.get(number).copied().unwrap_or(0)
 }
 
 // The rank of each item by its number, where there are so many items.
