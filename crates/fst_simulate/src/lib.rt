@@ -2,9 +2,11 @@
 #![tactic(auto)]
 
 mod bound;
+mod grid;
 mod grids;
 mod job;
 
 pub use bound::Bound;
+pub use grid::Grid;
 pub use grids::Grids;
 pub use job::Job;
