@@ -26,3 +26,5 @@ pub mod ShiftLemmas
 pub mod NameLemmas
 pub mod RenamingLemmas
 pub mod RankLemmas
+pub mod AboveLemmas
+pub mod FrequencyLemmas
