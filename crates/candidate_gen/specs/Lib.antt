@@ -1,0 +1,5 @@
+-- what the proofs keep
+pub mod Paths
+pub mod Order
+pub mod Places
+pub mod Walk
