@@ -25,3 +25,4 @@ pub mod GrowthLemmas
 pub mod ShiftLemmas
 pub mod NameLemmas
 pub mod RenamingLemmas
+pub mod RankLemmas

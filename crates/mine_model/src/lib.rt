@@ -15,6 +15,7 @@ mod laws;
 mod memory;
 mod names_fault;
 mod patex_fault;
+mod ranks;
 mod row;
 mod sequence_fault;
 mod write_fault;
@@ -35,6 +36,7 @@ pub use laws::{
 pub use memory::NoMemory;
 pub use names_fault::NamesFault;
 pub use patex_fault::PatexFault;
+pub use ranks::Ranks;
 pub use row::Row;
 pub use sequence_fault::SequenceFault;
 pub use write_fault::WriteFault;
