@@ -25,3 +25,6 @@ pub mod GrowthLemmas
 pub mod ShiftLemmas
 pub mod NameLemmas
 pub mod RenamingLemmas
+pub mod RankLemmas
+pub mod AboveLemmas
+pub mod FrequencyLemmas

@@ -1,0 +1,47 @@
+-- The candidates of a sequence: its patterns of frequent items. From the DESQ article; their order is own.
+use Rattle.std.specs.Prelude.{◌≡◌, ℕ, ◌↔◌, List, [], ◌∷◌, AllPairs, Contains}
+use Rattle.std.specs.Ordering.{nat_cmp}
+use Rattle.std.specs.Cmp.Lexicographic.{slice_cmp}
+use Rattle.std.specs.declared.cmp.Ordering.TheVariants.{Less}
+use Rattle.mine_model.specs.declared.item.Item.{Item}
+use Rattle.mine_model.specs.Expression.{tree_of}
+use Rattle.mine_model.specs.Ranks.{HasRank, IsFrequentItem, IsCandidateOf}
+use Rattle.fst_simulate.specs.Problems.{Problem, items_of}
+
+-- a pattern of frequent items that the expression generates from the sequence with this number
+abbrev pub IsCandidate : Problem → ℕ → List Item → Type 0
+IsCandidate problem seq pattern =
+    IsCandidateOf problem.hierarchy.links (tree_of problem.machine.expression)
+    (IsFrequentItem problem.hierarchy.links problem.sequences problem.threshold) (items_of problem seq) pattern
+
+-- the items have these ranks, one by one
+abbrev pub AreRanked : List Item → List Item → List ℕ → Type 0
+AreRanked order [] [] = Unit {0}
+AreRanked order [] (rank ∷ ranks) = ⊥
+AreRanked order (v ∷ items) [] = ⊥
+AreRanked order (v ∷ items) (rank ∷ ranks) = HasRank order v rank × AreRanked order items ranks
+
+-- the first list of ranks comes earlier: rank by rank, a proper prefix first
+abbrev pub IsEarlier : List ℕ → List ℕ → Type 0
+IsEarlier first second = slice_cmp nat_cmp first second ≡ Less
+
+-- the lists are exactly the ranks of the candidates of the sequence, rising, so each once
+pub record AreCandidateRanks (problem : Problem) (seq : ℕ) (listed : List (List ℕ)) : Type 0 where
+  pub rises : AllPairs IsEarlier listed
+  pub exact : (ranks : List ℕ) → Contains listed ranks
+      ↔ ((pattern : List Item) × IsCandidate problem seq pattern × AreRanked problem.ranking.order pattern ranks)
+
+-- the ranks of the first pattern come earlier than those of the second
+abbrev pub ComesEarlier : List Item → List Item → List Item → Type 0
+ComesEarlier order first second =
+    (left : List ℕ) × (right : List ℕ) × AreRanked order first left × AreRanked order second right × IsEarlier left right
+
+-- the patterns are exactly the candidates of the sequence, rising by their ranks, so each once
+pub record AreCandidates (problem : Problem) (seq : ℕ) (patterns : List (List Item)) : Type 0 where
+  pub rises : AllPairs (ComesEarlier problem.ranking.order) patterns
+  pub exact : (pattern : List Item) → Contains patterns pattern ↔ IsCandidate problem seq pattern
+
+-- what a list of candidates is about: the problem, and what is listed, as ranks
+pub record Listing : Type 0 where
+  pub problem : Problem
+  pub listed : List (List ℕ)

@@ -1,0 +1,6 @@
+-- the words of the promise
+pub mod Candidates
+-- what the proofs keep
+pub mod Paths
+pub mod Places
+pub mod Walk

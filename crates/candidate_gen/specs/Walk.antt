@@ -1,0 +1,30 @@
+-- The walk over the prefixes of one sequence's candidates.
+use Rattle.std.specs.Prelude.{◌≡◌, ◌≢◌, ℕ, ◌+◌, ◌<◌, ◌≤◌, ◌⊎◌, ◌↔◌, Bool, IsTrue, List, [], ◌∷◌, ◌++◌, length, Contains}
+use Rattle.candidate_gen.specs.declared.place.Place.{Place}
+use Rattle.candidate_gen.specs.Paths.{Space, Writes}
+use Rattle.candidate_gen.specs.Order.{IsEarlier, RisesByRanks}
+use Rattle.candidate_gen.specs.Places.{Follows, FollowsOf, FollowsFound, IsOf, prefix_of}
+
+-- a path through the whole sequence writes these ranks, and something
+abbrev pub IsWritten : Space → List ℕ → Type 0
+IsWritten space ranks = (ranks ≢ []) × Writes space space.sequence 0 ranks
+
+-- the ranks are still to come: a place waits from which a path writes what is behind its prefix
+abbrev pub IsToCome : Space → List ℕ → List Place → List ℕ → Type 0
+IsToCome space path waiting ranks =
+    (place : Place) × (more : List ℕ) × Contains waiting place × (ranks ≡ prefix_of path place ++ more) × Follows space place more
+
+-- what was listed and what is to come are together what is written, and what was listed comes first
+pub record IsListed (space : Space) (path : List ℕ) (waiting : List Place) (listed : List (List ℕ)) : Type 0 where
+  pub rises : RisesByRanks listed
+  pub earlier : (first second : List ℕ) → Contains listed first → IsToCome space path waiting second → IsEarlier first second
+  pub exact : (ranks : List ℕ) → IsWritten space ranks ↔ (Contains listed ranks ⊎ IsToCome space path waiting ranks)
+
+-- The places of one prefix were taken away, and those of the prefixes that are longer by one were found.
+pub record Takes (space : Space) (depth rank : ℕ) (before after longer : List Place) (stops : Bool) : Type 0 where
+  pub rest : (place : Place) → Contains after place → Contains before place × (IsOf depth rank place → ⊥)
+  pub parts : (place : Place) → Contains before place → Contains after place ⊎ IsOf depth rank place
+  pub ends : IsTrue stops ↔ FollowsOf space depth rank before []
+  pub found : (next : ℕ) (others : List ℕ)
+      → FollowsOf space depth rank before (next ∷ others) ↔ FollowsFound space longer next others
+  pub depths : (place : Place) → Contains longer place → (place.depth ≡ depth + 1) × (place.position ≤ length space.sequence)

@@ -1,0 +1,92 @@
+ghost use Rattle.std.specs.Prelude.{◌≡◌, ◌≤◌, ◌<◌, [], length, All, IfOk, OnOk, Some, slice_get};
+ghost use Rattle.candidate_gen.specs.Candidates.{AreCandidateRanks};
+
+use super::rank_lists::RankLists;
+use super::view::View;
+use super::walk::Walk;
+use fst_simulate::{Bound, Grids, Job};
+use mine_model::NoMemory;
+use std::alloc::Global;
+use std::marker::Model;
+
+/// The candidates of one sequence of a job after another, as lists of ranks in one flat buffer, which each sequence
+/// uses again.
+#[derive(Drop)]
+pub struct CandidateList<'a> {
+    job: &'a Job,
+    grids: Grids<'a>,
+    walk: Walk,
+    listed: RankLists,
+}
+
+impl<'a> Model for CandidateList<'a> {
+    ghost use Rattle.candidate_gen.specs.Candidates.{Listing};
+    ghost use Rattle.candidate_gen.specs.Walk.{IsGridOf};
+
+    ghost Value = { Listing };
+
+    ghost use Rattle.mine_model.specs.contracts.expression.Expr as e;
+    ghost use Rattle.std.specs.Coded.{codes};
+
+    ghost coded = { Prim.hlevel (codes, e.the_row.coded) };
+
+    ghost view = { λ c. record { problem = c.job.now; listed = c.listed } };
+
+    ghost invariant = { λ c. IsGridOf c.job.now c.grids };
+}
+
+impl<'a> CandidateList<'a> {
+    /// Nothing listed yet.
+    pub fn new(alloc: Global, job: &'a Job) -> Result<CandidateList<'a>, NoMemory>
+        ensures { IfOk result (λ list. list ≡ record { problem = job.now; listed = [] }) }
+    {
+        let bound = Bound {
+            top: job.ranks().count(),
+            need: None,
+        };
+        Ok(CandidateList {
+            job,
+            grids: Grids::new(alloc, job, bound)?,
+            walk: Walk::new(alloc),
+            listed: RankLists::new(alloc),
+        })
+    }
+
+    /// Lists the candidates of a sequence, in place of what was listed. After want of memory some of them may be
+    /// listed.
+    pub fn fill(&mut self, seq: u32) -> Result<(), NoMemory>
+        requires { seq < length self.old.problem.sequences }
+        ensures problem { self.new.problem ≡ self.old.problem }
+        ensures candidates { OnOk result (AreCandidateRanks self.old.problem seq self.new.listed) }
+        ensures within { OnOk result (All (All (λ rank. (1 ≤ rank)
+            × (rank ≤ length self.old.problem.ranking.order))) self.new.listed) }
+    {
+        self.listed.clear();
+        self.grids.clear();
+        self.grids.push(seq)?;
+        let view = View::new(self.job, &self.grids, seq);
+        self.walk.list(&view, &mut self.listed)
+    }
+
+    /// How many candidates are listed. Takes no memory.
+    pub fn len(&self) -> usize
+        ensures { result ≡ length self.now.listed }
+    {
+        self.listed.len()
+    }
+
+    /// Whether none is listed. Takes no memory.
+    pub fn is_empty(&self) -> bool
+        ensures { result ≡ (length self.now.listed == 0) }
+    {
+        self.listed.len() == 0
+    }
+
+    /// The ranks of a candidate, by its place in the list, counted from 0. Takes no memory.
+    pub fn get(&self, i: usize) -> &[u32]
+        requires { i < length self.now.listed }
+        ensures { slice_get self.now.listed i ≡ Some result.now }
+    {
+        self.listed.get(i)
+    }
+}

@@ -1,0 +1,142 @@
+ghost use Rattle.std.specs.Prelude.{◌≡◌, ℕ, ◌+◌, ◌*◌, ◌≤◌, ◌<◌, ◌↔◌, length, [], ◌∷◌, ◌++◌, IfOk, OnOk, OnErr, IsTrue, Contains, Some, slice_get};
+ghost use Rattle.mine_model.specs.declared.item.Item.{Item};
+ghost use Rattle.fst_simulate.specs.Grids.{Completes, Ends, Reads, WritesRank, HasBit, items_at, rest_at};
+
+use super::bound::Bound;
+use super::job::Job;
+use fst_compile::State;
+use mine_model::NoMemory;
+use std::alloc::Global;
+use std::marker::Model;
+
+/// Grids of sequences of a job under one bound: which states can still lead to the end of a sequence at each place
+/// of it, and what may be written there. What was found out for one sequence serves the next ones.
+#[derive(Drop)]
+pub struct Grids<'a> {
+    job: &'a Job,
+    bound: Bound,
+    sequences: Vec<u32>,
+}
+
+impl<'a> Model for Grids<'a> {
+    ghost use Rattle.fst_simulate.specs.Grids.{GridList};
+
+    ghost Value = { GridList };
+
+    ghost use Rattle.mine_model.specs.contracts.expression.Expr as e;
+    ghost use Rattle.std.specs.Coded.{codes};
+
+    ghost coded = { Prim.hlevel (codes, e.the_row.coded) };
+
+    ghost view = { λ g. record { problem = g.job.now; bound = g.bound; sequences = g.sequences.items } };
+
+    ghost invariant = { λ g. ⊥ };
+}
+
+impl<'a> Grids<'a> {
+    /// No grids yet.
+    pub fn new(alloc: Global, job: &'a Job, bound: Bound) -> Result<Grids<'a>, NoMemory>
+        ensures { IfOk result (λ grids. grids ≡ record { problem = job.now; bound = bound; sequences = [] }) }
+    {
+        let _alloc = alloc;
+        let _job = job;
+        let _bound = bound;
+        Err(NoMemory)
+    }
+
+    /// Makes the grid of a sequence, behind the others.
+    pub fn push(&mut self, seq: u32) -> Result<(), NoMemory>
+        requires { seq < length self.old.problem.sequences }
+        ensures ok { OnOk result (self.new ≡ record self.old { sequences = self.old.sequences ++ seq ∷ [] }) }
+        ensures err { OnErr result (self.new ≡ self.old) }
+    {
+        let _sequences = &self.sequences;
+        let _seq = seq;
+        Err(NoMemory)
+    }
+
+    /// Drops all grids, and keeps what serves the next ones. Takes no memory.
+    pub fn clear(&mut self)
+        ensures { self.new ≡ record self.old { sequences = [] } }
+    {
+        self.sequences.clear();
+    }
+
+    /// Whether state q completes at a position of a grid, where what is needed was seen or was not. Takes no memory.
+    pub fn completes(&self, grid: u32, pos: u32, q: State, seen: bool) -> bool
+        requires grid { grid < length self.now.sequences }
+        requires pos { pos ≤ length (items_at self.now grid) }
+        requires state { q.0 ≤ length self.now.problem.machine.labels }
+        ensures { IsTrue result
+            ↔ Completes self.now.problem self.now.bound (rest_at self.now grid pos) q.0 seen }
+    {
+        let _sequences = &self.sequences;
+        let _grid = grid;
+        let _pos = pos;
+        let _q = q;
+        let _seen = seen;
+        false
+    }
+
+    /// Whether state q ends at a position of a grid. Takes no memory.
+    pub fn ends(&self, grid: u32, pos: u32, q: State) -> bool
+        requires grid { grid < length self.now.sequences }
+        requires pos { pos ≤ length (items_at self.now grid) }
+        requires state { q.0 ≤ length self.now.problem.machine.labels }
+        ensures { IsTrue result ↔ Ends self.now.problem (rest_at self.now grid pos) q.0 }
+    {
+        let _sequences = &self.sequences;
+        let _grid = grid;
+        let _pos = pos;
+        let _q = q;
+        false
+    }
+
+    /// The states that complete at a position of a grid, as words of 64 of them. Takes no memory.
+    pub fn completing(&self, grid: u32, pos: u32, seen: bool) -> &[u64]
+        requires grid { grid < length self.now.sequences }
+        requires pos { pos ≤ length (items_at self.now grid) }
+        ensures room { length self.now.problem.machine.labels < 64 * length result.now }
+        ensures states { (state : ℕ) → state ≤ length self.now.problem.machine.labels
+            → (HasBit result.now state
+            ↔ Completes self.now.problem self.now.bound (rest_at self.now grid pos) state seen) }
+    {
+        let _sequences = &self.sequences;
+        let _grid = grid;
+        let _pos = pos;
+        let _seen = seen;
+        &[]
+    }
+
+    /// Whether the edges into state k match the item at a position of a grid and write nothing. Takes no memory.
+    pub fn is_silent(&self, grid: u32, pos: u32, k: State) -> bool
+        requires grid { grid < length self.now.sequences }
+        requires pos { pos < length (items_at self.now grid) }
+        requires start { 0 < k.0 }
+        requires state { k.0 ≤ length self.now.problem.machine.labels }
+        ensures { (t : Item) → slice_get (items_at self.now grid) pos ≡ Some t
+            → (IsTrue result ↔ Reads self.now.problem t k.0 []) }
+    {
+        let _sequences = &self.sequences;
+        let _grid = grid;
+        let _pos = pos;
+        let _k = k;
+        false
+    }
+
+    /// What the edges into state k may write at a position of a grid, as ranks. Takes no memory.
+    pub fn outputs(&self, grid: u32, pos: u32, k: State) -> &[u32]
+        requires grid { grid < length self.now.sequences }
+        requires pos { pos < length (items_at self.now grid) }
+        requires start { 0 < k.0 }
+        requires state { k.0 ≤ length self.now.problem.machine.labels }
+        ensures { (t : Item) (rank : ℕ) → slice_get (items_at self.now grid) pos ≡ Some t
+            → (Contains result.now rank ↔ WritesRank self.now.problem self.now.bound t k.0 rank) }
+    {
+        let _sequences = &self.sequences;
+        let _grid = grid;
+        let _pos = pos;
+        let _k = k;
+        &[]
+    }
+}

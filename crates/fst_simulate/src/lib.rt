@@ -1,0 +1,12 @@
+//! What can still come of each place of a sequence: which states lead to its end, and what may be written there.
+#![tactic(auto)]
+
+mod bound;
+mod grid;
+mod grids;
+mod job;
+
+pub use bound::Bound;
+pub use grid::Grid;
+pub use grids::Grids;
+pub use job::Job;
