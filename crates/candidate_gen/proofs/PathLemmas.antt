@@ -3,7 +3,8 @@ use Rattle.std.proofs.Common.{◌≡◌, ◌↔◌, ℕ, ◌⊎◌, inl, inr, Bo
 use Rattle.state_bits.specs.Members.{Has}
 use Rattle.mine_model.specs.declared.item.Item.{Item}
 use Rattle.mine_model.specs.Hierarchy.{Link}
-use Rattle.mine_model.specs.Expression.{Leaf, leaf_of}
+use Rattle.mine_model.specs.Expression.{Leaf}
+use Rattle.mine_model.specs.Numbered.{leaf_of}
 use Rattle.mine_model.specs.Generation.{MayWrite, WritesAt}
 use Rattle.mine_model.specs.Ranks.{HasRank}
 use Rattle.fst_compile.specs.declared.edge.Edge.{Edge}

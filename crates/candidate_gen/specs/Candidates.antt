@@ -4,7 +4,7 @@ use Rattle.std.specs.Ordering.{nat_cmp}
 use Rattle.std.specs.Cmp.Lexicographic.{slice_cmp}
 use Rattle.std.specs.declared.cmp.Ordering.TheVariants.{Less}
 use Rattle.mine_model.specs.declared.item.Item.{Item}
-use Rattle.mine_model.specs.Expression.{tree_of}
+use Rattle.mine_model.specs.Numbered.{tree_of}
 use Rattle.mine_model.specs.Ranks.{HasRank, IsFrequentItem, IsCandidateOf}
 use Rattle.fst_simulate.specs.Problems.{Problem, items_of}
 

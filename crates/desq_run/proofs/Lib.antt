@@ -6,6 +6,7 @@ pub mod SameRefusals
 pub mod UniqueRefusals
 pub mod EndLemmas
 pub mod FailLemmas
+pub mod LeafCountLemmas
 pub mod ReadLemmas
 pub mod RowLemmas
 pub mod MineLemmas

@@ -11,13 +11,14 @@ ghost use Rattle.command_line.specs.Commands.{command_said};
 ghost use Rattle.desq_run.specs.Ends.{Input, IsInput, IsAccepted, IsAnswerText, Ends};
 ghost use Rattle.desq_run.specs.Inputs.{IsMined};
 
-use super::inputs::read_inputs;
+use super::inputs::{Inputs, read_inputs};
 use super::rows::{read_expression, rows_of};
 use command_line::{Command, read_words};
 use item_names::Names;
 use mine_model::{Fault, NoMemory, Row, WriteFault};
 use pattern_writer::write;
 use std::alloc::Global;
+use std::thread::Threads;
 use text_ports::{Files, Sink};
 
 /// How many bytes of the answer are gathered before they are written. Each write but the last has as many.
@@ -31,7 +32,12 @@ struct Mined {
 }
 
 /// Mines as the command says. Its expression is read before a file is opened.
-fn mine<F: Files>(alloc: Global, command: &Command, files: &mut F) -> Result<Mined, Fault>
+fn mine_files<R: Threads + Sync, F: Files>(
+    rt: &R,
+    alloc: Global,
+    command: &Command,
+    files: &mut F,
+) -> Result<Mined, Fault>
     requires may { (file : List ℕ) → NamesFile (command_said command.now) file
         → IsTrue (F.may files.old file) }
     requires support { 1 ≤ command.now.support }
@@ -51,12 +57,9 @@ fn mine<F: Files>(alloc: Global, command: &Command, files: &mut F) -> Result<Min
     ensures never_falls { F.faults files.old ≤ F.faults files.new }
 {
     let parsed = read_expression(alloc, command.expression.as_bytes())?;
-    let inputs = read_inputs(alloc, command, files)?;
-    let rows = rows_of(alloc, &inputs, &parsed, command.support)?;
-    Ok(Mined {
-        names: inputs.names,
-        rows,
-    })
+    let Inputs { names, hierarchy, db } = read_inputs(alloc, command, files)?;
+    let rows = rows_of(rt, alloc, &names, hierarchy, db, &parsed, command.support)?;
+    Ok(Mined { names, rows })
 }
 
 /// Room for the bytes of the answer that wait to be written.
@@ -67,7 +70,8 @@ fn take_room(alloc: Global) -> Result<Vec<u8>, NoMemory>
 }
 
 /// Mines as the words say, and writes the answer.
-pub(crate) fn attempt<F: Files, O: Sink>(
+pub(crate) fn attempt<R: Threads + Sync, F: Files, O: Sink>(
+    rt: &R,
     alloc: Global,
     words: &[String],
     files: &mut F,
@@ -97,7 +101,7 @@ pub(crate) fn attempt<F: Files, O: Sink>(
         Some(command) => command,
         None => return Err(Fault::Usage),
     };
-    let mined = mine(alloc, &command, files)?;
+    let mined = mine_files(rt, alloc, &command, files)?;
     let mut room = take_room(alloc)?;
     match write(
         mined.rows.as_slice(),

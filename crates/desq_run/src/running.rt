@@ -13,6 +13,7 @@ use super::attempts::attempt;
 use super::messages;
 use mine_model::Gate;
 use std::alloc::Global;
+use std::thread::Threads;
 use text_ports::{Files, Sink};
 
 /// Runs the command that the words say: reads the files that they name through `files`, writes the answer to
@@ -21,7 +22,8 @@ use text_ports::{Files, Sink};
 /// 0 done, 2 the words are no command, 3 something is malformed, 4 a limit is exceeded, 5 a fault of reading,
 /// 6 a fault of writing, 7 not enough memory. A fault of `err` changes no status. `gate` is for the engines
 /// to come; none is passed so far.
-pub fn run<F: Files, O: Sink, E: Sink, G: Gate>(
+pub fn run<R: Threads + Sync, F: Files, O: Sink, E: Sink, G: Gate>(
+    rt: &R,
     alloc: Global,
     words: &[String],
     files: &mut F,
@@ -82,7 +84,7 @@ pub fn run<F: Files, O: Sink, E: Sink, G: Gate>(
     ensures never_falls { (F.faults files.old ≤ F.faults files.new) × (O.faults out.old ≤ O.faults out.new)
         × (E.faults err.old ≤ E.faults err.new) }
 {
-    let outcome = attempt(alloc, words, files, out);
+    let outcome = attempt(rt, alloc, words, files, out);
     let status = messages::status(&outcome);
     messages::report(err, &outcome);
     status

@@ -3,7 +3,7 @@ use Rattle.std.specs.Prelude.{◌≡◌, ℕ, ◌-◌, ◌/◌, ◌%◌, ◌≤�
 use Rattle.std.specs.Int.{bit_at}
 use Rattle.std.specs.List.{AllByRecursion}
 use Rattle.mine_model.specs.declared.item.Item.{Item}
-use Rattle.mine_model.specs.Expression.{leaf_of}
+use Rattle.mine_model.specs.Numbered.{leaf_of}
 use Rattle.mine_model.specs.Generation.{Matches, WritesAt}
 use Rattle.mine_model.specs.Ranks.{Ranking, HasRank}
 use Rattle.fst_compile.specs.declared.edge.Label.{Label}

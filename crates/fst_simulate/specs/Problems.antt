@@ -4,7 +4,8 @@ use Rattle.std.specs.List.{AllByRecursion}
 use Rattle.mine_model.specs.declared.item.Item.{Item}
 use Rattle.mine_model.specs.Ancestry.{Ancestry}
 use Rattle.mine_model.specs.Database.{sequence_at}
-use Rattle.mine_model.specs.Expression.{tree_of, named_in}
+use Rattle.mine_model.specs.Expression.{named_in}
+use Rattle.mine_model.specs.Numbered.{tree_of}
 use Rattle.mine_model.specs.Ranks.{Ranking, AreRanks}
 use Rattle.mine_model.specs.Support.{Sequence}
 use Rattle.fst_compile.specs.Transducer.{Transducer, IsPositionAutomaton, IsTransducerOf}

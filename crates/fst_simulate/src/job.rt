@@ -1,6 +1,7 @@
 ghost use Rattle.std.specs.Prelude.{◌≡◌, ◌≤◌, ◌<◌, length};
 ghost use Rattle.std.specs.List.{AllByRecursion};
-ghost use Rattle.mine_model.specs.Expression.{tree_of, named_in};
+ghost use Rattle.mine_model.specs.Expression.{named_in};
+ghost use Rattle.mine_model.specs.Numbered.{tree_of};
 ghost use Rattle.mine_model.specs.Ranks.{AreRanks};
 ghost use Rattle.fst_compile.specs.Transducer.{IsPositionAutomaton, IsTransducerOf};
 ghost use Rattle.fst_simulate.specs.Problems.{IsWhole};
