@@ -1,0 +1,4 @@
+pub mod TallyLemmas
+pub mod SequenceLemmas
+pub mod OrderLemmas
+pub mod PieceLemmas
