@@ -2,3 +2,4 @@ pub mod TallyLemmas
 pub mod SequenceLemmas
 pub mod OrderLemmas
 pub mod PieceLemmas
+pub mod RankingLemmas
