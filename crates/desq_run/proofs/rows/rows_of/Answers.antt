@@ -1,0 +1,13 @@
+use Rattle.std.proofs.Common.{◌≤◌, map, sym, subst}
+use Rattle.mine_model.specs.Limits.{most_leaves}
+use Rattle.mine_model.specs.Numbered.{tree_of}
+use Rattle.patex_parser.specs.Parsing.{use_view}
+use Rattle.desq_run.proofs.LeafCountLemmas.{resolved_leaves}
+use Rattle.desq_run.proofs.rows.rows_of.Goals as goal
+
+pub ordered_rows-requires-clause-leaves : goal.ordered_rows-requires-clause-leaves
+ordered_rows-requires-clause-leaves g c =
+    subst (λ n. n ≤ most_leaves)
+    (sym (resolved_leaves c.args.names.now (map use_view c.args.parsed.now.uses.items) (tree_of c.in_ok-expression.expression)
+    (tree_of c.args.parsed.now.tree) c.in_ok-expression.ensures.names))
+    c.requires.leaves
