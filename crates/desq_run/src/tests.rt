@@ -860,6 +860,19 @@ fn a_read_fault_comes_before_a_bad_byte(rt: HostRuntime) -> Result<(), Fail> {
     Ok(())
 }
 
+// Three calls read the hierarchy, and the fourth would open the sequences.
+#[test]
+fn a_cycle_is_told_before_the_sequences_are_opened(rt: HostRuntime) -> Result<(), Fail> {
+    let faults = Faults {
+        files: &[4],
+        ..NO_FAULTS
+    };
+    let ran = run_on(rt.alloc(), &WORDS, b"x x\n", SEQUENCES, faults)?;
+    assert_eq!(rt; ran.status, 3);
+    assert_eq!(rt; ran.err.as_slice(), b"desq: hierarchy: line 1: cycle\n".as_slice());
+    Ok(())
+}
+
 #[test]
 fn a_write_that_fails_leaves_the_first_bytes(rt: HostRuntime) -> Result<(), Fail> {
     for (before, _) in ANSWER.iter().enumerate() {
@@ -902,7 +915,7 @@ fn a_fault_of_err_changes_no_status(rt: HostRuntime) -> Result<(), Fail> {
 }
 
 #[test]
-fn a_long_answer_is_one_write(rt: HostRuntime) -> Result<(), Fail> {
+fn a_long_answer_is_one_write_and_a_longer_one_is_whole(rt: HostRuntime) -> Result<(), Fail> {
     let mut line = Vec::new(rt.alloc());
     for _ in 0..30_000 {
         line.extend_from_slice(b"a ")?;
@@ -915,6 +928,11 @@ fn a_long_answer_is_one_write(rt: HostRuntime) -> Result<(), Fail> {
     let ran = run_on(rt.alloc(), &words, b"", line.as_slice(), faults)?;
     assert_eq!(rt; ran.status, 0);
     assert_eq!(rt; ran.out.len(), 60_002);
+    let short = line.as_slice().get(..600).unwrap_or(&[]);
+    let words = ["--support", "1", "(.)*.*", "f"];
+    let ran = run_on(rt.alloc(), &words, b"", short, NO_FAULTS)?;
+    assert_eq!(rt; ran.status, 0);
+    assert_eq!(rt; ran.out.len(), 90_900);
     Ok(())
 }
 
