@@ -889,6 +889,18 @@ fn a_write_that_fails_leaves_the_first_bytes(rt: HostRuntime) -> Result<(), Fail
 }
 
 #[test]
+fn an_empty_answer_is_no_write(rt: HostRuntime) -> Result<(), Fail> {
+    let faults = Faults {
+        out: &[1],
+        ..NO_FAULTS
+    };
+    let ran = run_on(rt.alloc(), &["--support", "2", "(.)", "f"], b"", b"a\nb\n", faults)?;
+    assert_eq!(rt; ran.status, 0);
+    assert_eq!(rt; ran.out.len(), 0);
+    Ok(())
+}
+
+#[test]
 fn a_second_write_that_fails_leaves_what_the_first_took(rt: HostRuntime) -> Result<(), Fail> {
     let faults = Faults {
         out: &[2],
