@@ -948,26 +948,33 @@ fn a_long_answer_is_one_write_and_a_longer_one_is_whole(rt: HostRuntime) -> Resu
     Ok(())
 }
 
-// An expression of each number of leaves, on as many items.
+/// Whether the expression writes the whole line, which is of one item many times with a blank behind each.
+fn writes_all(alloc: Global, expression: &str, line: &[u8]) -> Result<bool, Fail> {
+    let mut answer = Vec::from_slice(alloc, b"1\t")?;
+    answer.extend_from_slice(line)?;
+    answer.pop();
+    answer.push(b'\n')?;
+    let words = ["--support", "1", expression, "f"];
+    let ran = run_on(alloc, &words, b"", line, NO_FAULTS)?;
+    Ok(ran.status == 0 && ran.out.as_slice() == answer.as_slice())
+}
+
+// An expression of each number of leaves, and at last the longest row of leaves, on as many items.
 #[test]
 fn every_number_of_leaves_is_mined(rt: HostRuntime) -> Result<(), Fail> {
     let alloc = rt.alloc();
     let mut line = Vec::new(alloc);
+    let mut row = String::new(alloc);
     for count in 1..1025u32 {
         line.extend_from_slice(b"a ")?;
+        row.push_str("(.)")?;
         let number = format!(in alloc; "{count}")?;
         let mut expression = String::from_str(alloc, "(a){")?;
         expression.push_str(number.as_str())?;
         expression.push_str("}")?;
-        let words = ["--support", "1", expression.as_str(), "f"];
-        let ran = run_on(alloc, &words, b"", line.as_slice(), NO_FAULTS)?;
-        let mut answer = Vec::from_slice(alloc, b"1\t")?;
-        answer.extend_from_slice(line.as_slice())?;
-        answer.pop();
-        answer.push(b'\n')?;
-        assert_eq!(rt; ran.status, 0, "{count}");
-        assert_eq!(rt; ran.out.as_slice(), answer.as_slice(), "{count}");
+        assert!(rt; writes_all(alloc, expression.as_str(), line.as_slice())?, "{count}");
     }
+    assert!(rt; writes_all(alloc, row.as_str(), line.as_slice())?);
     Ok(())
 }
 
