@@ -150,6 +150,41 @@ mod tests {
         }
     }
 
+    /// Is interrupted so many times at a write, and so many times at a flush.
+    #[derive(Drop)]
+    struct Interrupted {
+        writes: u32,
+        flushes: u32,
+    }
+
+    impl Write for Interrupted {
+        fn write(&mut self, buf: &[u8]) -> io::Result<usize> {
+            if self.writes > 0 {
+                self.writes -= 1;
+                return Err(io::Error::from(ErrorKind::Interrupted));
+            }
+            Ok(buf.len())
+        }
+
+        fn flush(&mut self) -> io::Result<()> {
+            if self.flushes > 0 {
+                self.flushes -= 1;
+                return Err(io::Error::from(ErrorKind::Interrupted));
+            }
+            Ok(())
+        }
+    }
+
+    #[test]
+    fn an_interrupted_call_is_made_again(rt: HostRuntime) {
+        let table: [(u32, u32, Result<usize, Failed>); 3] =
+            [(63, 63, Ok(1)), (64, 0, Err(Failed)), (0, 64, Err(Failed))];
+        for (writes, flushes, outcome) in table {
+            let mut sink = StdSink::new(Interrupted { writes, flushes });
+            assert_eq!(rt; sink.write(b"x"), outcome);
+        }
+    }
+
     #[test]
     fn hands_over_the_whole_piece_and_flushes(rt: HostRuntime) -> Result<(), Fail> {
         let mut sink = StdSink::new(Wide { flushes: 1 });
