@@ -3,6 +3,7 @@ ghost use Rattle.std.specs.Prelude.{◌<◌};
 use super::run;
 use mine_model::OpenGate;
 use std::alloc::Global;
+use std::thread::Threads;
 use std::test::Fail;
 use text_ports::{MemFile, MemFiles, MemSink};
 
@@ -50,7 +51,8 @@ fn file(alloc: Global, name: &str, bytes: &[u8]) -> Result<MemFile, Fail> {
     })
 }
 
-fn run_on(
+fn run_on<R: Threads + Sync>(
+    rt: &R,
     alloc: Global,
     words: &[&str],
     hierarchy: &[u8],
@@ -70,6 +72,7 @@ fn run_on(
     let mut out = MemSink::new(alloc, 100_000, cut, Vec::from_slice(alloc, faults.out)?)?;
     let mut err = MemSink::new(alloc, 200, cut, Vec::from_slice(alloc, faults.err)?)?;
     let status = run(
+        rt,
         alloc,
         owned.as_slice(),
         &mut files,
@@ -85,10 +88,11 @@ fn run_on(
 }
 
 /// How many of the cases leave what they should.
-fn count_right(alloc: Global, cases: &[Case<'_>]) -> Result<usize, Fail> {
+fn count_right<R: Threads + Sync>(rt: &R, alloc: Global, cases: &[Case<'_>]) -> Result<usize, Fail> {
     let mut right = 0;
     for case in cases {
         let ran = run_on(
+            rt,
             alloc,
             case.words,
             case.hierarchy.as_bytes(),
@@ -225,7 +229,7 @@ fn answers_the_running_example(rt: HostRuntime) -> Result<(), Fail> {
             err: "",
         },
     ];
-    assert_eq!(rt; count_right(rt.alloc(), &cases)?, cases.len());
+    assert_eq!(rt; count_right(&rt, rt.alloc(), &cases)?, cases.len());
     Ok(())
 }
 
@@ -321,7 +325,7 @@ fn answers_expressions(rt: HostRuntime) -> Result<(), Fail> {
             err: "",
         },
     ];
-    assert_eq!(rt; count_right(rt.alloc(), &cases)?, cases.len());
+    assert_eq!(rt; count_right(&rt, rt.alloc(), &cases)?, cases.len());
     Ok(())
 }
 
@@ -361,7 +365,7 @@ fn answers_what_is_excluded(rt: HostRuntime) -> Result<(), Fail> {
             err: "",
         },
     ];
-    assert_eq!(rt; count_right(rt.alloc(), &cases)?, cases.len());
+    assert_eq!(rt; count_right(&rt, rt.alloc(), &cases)?, cases.len());
     Ok(())
 }
 
@@ -417,7 +421,7 @@ fn counts_weights(rt: HostRuntime) -> Result<(), Fail> {
             err: "desq: sequences: line 2 column 1: bad weight\n",
         },
     ];
-    assert_eq!(rt; count_right(rt.alloc(), &cases)?, cases.len());
+    assert_eq!(rt; count_right(&rt, rt.alloc(), &cases)?, cases.len());
     Ok(())
 }
 
@@ -529,7 +533,7 @@ fn refuses_expressions(rt: HostRuntime) -> Result<(), Fail> {
             err: "desq: expression: column 5: unknown name\n",
         },
     ];
-    assert_eq!(rt; count_right(rt.alloc(), &cases)?, cases.len());
+    assert_eq!(rt; count_right(&rt, rt.alloc(), &cases)?, cases.len());
     Ok(())
 }
 
@@ -601,7 +605,7 @@ fn refuses_files(rt: HostRuntime) -> Result<(), Fail> {
             err: "",
         },
     ];
-    assert_eq!(rt; count_right(rt.alloc(), &cases)?, cases.len());
+    assert_eq!(rt; count_right(&rt, rt.alloc(), &cases)?, cases.len());
     Ok(())
 }
 
@@ -790,7 +794,7 @@ fn reads_words_in_any_order(rt: HostRuntime) -> Result<(), Fail> {
             err: "desq: usage: desq --support N [options] EXPR [FILE]\n",
         },
     ];
-    assert_eq!(rt; count_right(rt.alloc(), &cases)?, cases.len());
+    assert_eq!(rt; count_right(&rt, rt.alloc(), &cases)?, cases.len());
     Ok(())
 }
 
@@ -817,7 +821,7 @@ fn a_read_that_fails_names_its_file(rt: HostRuntime) -> Result<(), Fail> {
             cut: 4,
             ..NO_FAULTS
         };
-        let ran = run_on(rt.alloc(), &WORDS, HIERARCHY, SEQUENCES, faults)?;
+        let ran = run_on(&rt, rt.alloc(), &WORDS, HIERARCHY, SEQUENCES, faults)?;
         let message: &[u8] = if call <= 5 {
             b"desq: hierarchy: read fault\n"
         } else {
@@ -838,7 +842,7 @@ fn a_file_is_opened_once_and_not_read_behind_its_end(rt: HostRuntime) -> Result<
             cut: 4,
             ..NO_FAULTS
         };
-        let ran = run_on(rt.alloc(), &WORDS, HIERARCHY, SEQUENCES, faults)?;
+        let ran = run_on(&rt, rt.alloc(), &WORDS, HIERARCHY, SEQUENCES, faults)?;
         assert_eq!(rt; ran.status, 0);
         assert_eq!(rt; ran.out.as_slice(), ANSWER);
     }
@@ -853,7 +857,7 @@ fn a_read_fault_comes_before_a_bad_byte(rt: HostRuntime) -> Result<(), Fail> {
         ..NO_FAULTS
     };
     let words = ["--support", "1", "(.)", "f"];
-    let ran = run_on(rt.alloc(), &words, b"", b"\x01\nabc\n", faults)?;
+    let ran = run_on(&rt, rt.alloc(), &words, b"", b"\x01\nabc\n", faults)?;
     assert_eq!(rt; ran.status, 5);
     assert_eq!(rt; ran.out.len(), 0);
     assert_eq!(rt; ran.err.as_slice(), b"desq: sequences: read fault\n".as_slice());
@@ -867,7 +871,7 @@ fn a_cycle_is_told_before_the_sequences_are_opened(rt: HostRuntime) -> Result<()
         files: &[4],
         ..NO_FAULTS
     };
-    let ran = run_on(rt.alloc(), &WORDS, b"x x\n", SEQUENCES, faults)?;
+    let ran = run_on(&rt, rt.alloc(), &WORDS, b"x x\n", SEQUENCES, faults)?;
     assert_eq!(rt; ran.status, 3);
     assert_eq!(rt; ran.err.as_slice(), b"desq: hierarchy: line 1: cycle\n".as_slice());
     Ok(())
@@ -881,7 +885,7 @@ fn a_write_that_fails_leaves_the_first_bytes(rt: HostRuntime) -> Result<(), Fail
             cut: 1,
             ..NO_FAULTS
         };
-        let ran = run_on(rt.alloc(), &WORDS, HIERARCHY, SEQUENCES, faults)?;
+        let ran = run_on(&rt, rt.alloc(), &WORDS, HIERARCHY, SEQUENCES, faults)?;
         assert_eq!(rt; ran.status, 6);
         assert_eq!(rt; Some(ran.out.as_slice()), ANSWER.get(..before));
     }
@@ -894,7 +898,7 @@ fn an_empty_answer_is_no_write(rt: HostRuntime) -> Result<(), Fail> {
         out: &[1],
         ..NO_FAULTS
     };
-    let ran = run_on(rt.alloc(), &["--support", "2", "(.)", "f"], b"", b"a\nb\n", faults)?;
+    let ran = run_on(&rt, rt.alloc(), &["--support", "2", "(.)", "f"], b"", b"a\nb\n", faults)?;
     assert_eq!(rt; ran.status, 0);
     assert_eq!(rt; ran.out.len(), 0);
     Ok(())
@@ -907,7 +911,7 @@ fn a_second_write_that_fails_leaves_what_the_first_took(rt: HostRuntime) -> Resu
         cut: 5,
         ..NO_FAULTS
     };
-    let ran = run_on(rt.alloc(), &WORDS, HIERARCHY, SEQUENCES, faults)?;
+    let ran = run_on(&rt, rt.alloc(), &WORDS, HIERARCHY, SEQUENCES, faults)?;
     assert_eq!(rt; ran.status, 6);
     assert_eq!(rt; Some(ran.out.as_slice()), ANSWER.get(..5));
     assert_eq!(rt; ran.err.as_slice(), b"desq: write fault\n".as_slice());
@@ -920,7 +924,7 @@ fn a_fault_of_err_changes_no_status(rt: HostRuntime) -> Result<(), Fail> {
         err: &[1],
         ..NO_FAULTS
     };
-    let ran = run_on(rt.alloc(), &[], b"", b"", faults)?;
+    let ran = run_on(&rt, rt.alloc(), &[], b"", b"", faults)?;
     assert_eq!(rt; ran.status, 2);
     assert_eq!(rt; ran.err.len(), 0);
     Ok(())
@@ -937,25 +941,25 @@ fn a_long_answer_is_one_write_and_a_longer_one_is_whole(rt: HostRuntime) -> Resu
         ..NO_FAULTS
     };
     let words = ["--support", "1", "(a)*", "f"];
-    let ran = run_on(rt.alloc(), &words, b"", line.as_slice(), faults)?;
+    let ran = run_on(&rt, rt.alloc(), &words, b"", line.as_slice(), faults)?;
     assert_eq!(rt; ran.status, 0);
     assert_eq!(rt; ran.out.len(), 60_002);
     let short = line.as_slice().get(..600).unwrap_or(&[]);
     let words = ["--support", "1", "(.)*.*", "f"];
-    let ran = run_on(rt.alloc(), &words, b"", short, NO_FAULTS)?;
+    let ran = run_on(&rt, rt.alloc(), &words, b"", short, NO_FAULTS)?;
     assert_eq!(rt; ran.status, 0);
     assert_eq!(rt; ran.out.len(), 90_900);
     Ok(())
 }
 
 /// Whether the expression writes the whole line, which is of one item many times with a blank behind each.
-fn writes_all(alloc: Global, expression: &str, line: &[u8]) -> Result<bool, Fail> {
+fn writes_all<R: Threads + Sync>(rt: &R, alloc: Global, expression: &str, line: &[u8]) -> Result<bool, Fail> {
     let mut answer = Vec::from_slice(alloc, b"1\t")?;
     answer.extend_from_slice(line)?;
     answer.pop();
     answer.push(b'\n')?;
     let words = ["--support", "1", expression, "f"];
-    let ran = run_on(alloc, &words, b"", line, NO_FAULTS)?;
+    let ran = run_on(rt, alloc, &words, b"", line, NO_FAULTS)?;
     Ok(ran.status == 0 && ran.out.as_slice() == answer.as_slice())
 }
 
@@ -972,9 +976,9 @@ fn every_number_of_leaves_is_mined(rt: HostRuntime) -> Result<(), Fail> {
         let mut expression = String::from_str(alloc, "(a){")?;
         expression.push_str(number.as_str())?;
         expression.push_str("}")?;
-        assert!(rt; writes_all(alloc, expression.as_str(), line.as_slice())?, "{count}");
+        assert!(rt; writes_all(&rt, alloc, expression.as_str(), line.as_slice())?, "{count}");
     }
-    assert!(rt; writes_all(alloc, row.as_str(), line.as_slice())?);
+    assert!(rt; writes_all(&rt, alloc, row.as_str(), line.as_slice())?);
     Ok(())
 }
 
@@ -988,7 +992,7 @@ fn the_deepest_expression_is_walked(rt: HostRuntime) -> Result<(), Fail> {
     }
     expression.push_str("]{0}")?;
     let words = ["--support", "1", expression.as_str(), "f"];
-    let ran = run_on(alloc, &words, b"", b"a\n", NO_FAULTS)?;
+    let ran = run_on(&rt, alloc, &words, b"", b"a\n", NO_FAULTS)?;
     assert_eq!(rt; ran.status, 0);
     assert_eq!(rt; ran.out.len(), 0);
     assert_eq!(rt; ran.err.len(), 0);
@@ -996,7 +1000,8 @@ fn the_deepest_expression_is_walked(rt: HostRuntime) -> Result<(), Fail> {
 }
 
 /// Whether the words leave this on these files.
-fn leaves(
+fn leaves<R: Threads + Sync>(
+    rt: &R,
     alloc: Global,
     words: &[&str],
     hierarchy: &[u8],
@@ -1005,7 +1010,7 @@ fn leaves(
     out: &str,
     err: &str,
 ) -> Result<bool, Fail> {
-    let ran = run_on(alloc, words, hierarchy, sequences, NO_FAULTS)?;
+    let ran = run_on(rt, alloc, words, hierarchy, sequences, NO_FAULTS)?;
     Ok(
         ran.status == status
             && ran.out.as_slice() == out.as_bytes()
@@ -1016,11 +1021,11 @@ fn leaves(
 #[test]
 fn a_name_is_as_long_as_it_may_be(rt: HostRuntime) -> Result<(), Fail> {
     let words = ["--support", "1", "(.)", "f"];
-    let ran = run_on(rt.alloc(), &words, b"", &[b'x'; 255], NO_FAULTS)?;
+    let ran = run_on(&rt, rt.alloc(), &words, b"", &[b'x'; 255], NO_FAULTS)?;
     assert_eq!(rt; ran.status, 0);
     assert_eq!(rt; ran.out.len(), 258);
     let fault = "desq: sequences: line 1 column 256: name over 255 bytes\n";
-    assert!(rt; leaves(rt.alloc(), &words, b"", &[b'x'; 256], 4, "", fault)?);
+    assert!(rt; leaves(&rt, rt.alloc(), &words, b"", &[b'x'; 256], 4, "", fault)?);
     Ok(())
 }
 
@@ -1040,13 +1045,13 @@ fn a_file_is_as_long_as_it_may_be(rt: HostRuntime) -> Result<(), Fail> {
     let words = ["--support", "1", "(.)", "f"];
     let blanks = vec![in alloc; b' '; 67_108_865]?;
     let fault = "desq: sequences: more than 67108864 bytes\n";
-    assert!(rt; leaves(alloc, &words, b"", blanks.as_slice(), 4, "", fault)?);
+    assert!(rt; leaves(&rt, alloc, &words, b"", blanks.as_slice(), 4, "", fault)?);
     let feeds = vec![in alloc; b'\n'; 4_194_305]?;
     let fault = "desq: sequences: line 4194305: more than 4194304 sequences\n";
-    assert!(rt; leaves(alloc, &words, b"", feeds.as_slice(), 4, "", fault)?);
+    assert!(rt; leaves(&rt, alloc, &words, b"", feeds.as_slice(), 4, "", fault)?);
     let names = many_names(alloc, 1_048_577)?;
     let fault = "desq: sequences: line 1048577: more than 1048576 items\n";
-    assert!(rt; leaves(alloc, &words, b"", names.as_slice(), 4, "", fault)?);
+    assert!(rt; leaves(&rt, alloc, &words, b"", names.as_slice(), 4, "", fault)?);
     Ok(())
 }
 
@@ -1058,10 +1063,10 @@ fn a_sequence_is_as_long_as_it_may_be(rt: HostRuntime) -> Result<(), Fail> {
     for _ in 0..65_535 {
         line.extend_from_slice(b"a ")?;
     }
-    assert!(rt; leaves(alloc, &words, b"", line.as_slice(), 0, "1\ta\n", "")?);
+    assert!(rt; leaves(&rt, alloc, &words, b"", line.as_slice(), 0, "1\ta\n", "")?);
     line.push(b'a')?;
     let fault = "desq: sequences: line 1: more than 65535 items in a sequence\n";
-    assert!(rt; leaves(alloc, &words, b"", line.as_slice(), 4, "", fault)?);
+    assert!(rt; leaves(&rt, alloc, &words, b"", line.as_slice(), 4, "", fault)?);
     Ok(())
 }
 
@@ -1083,9 +1088,9 @@ fn a_hierarchy_is_as_high_as_it_may_be(rt: HostRuntime) -> Result<(), Fail> {
     let alloc = rt.alloc();
     let words = ["--support", "1", "--hierarchy", "h", "(i8191^=)", "f"];
     let items = chain(alloc, 8_191)?;
-    assert!(rt; leaves(alloc, &words, items.as_slice(), b"i1\n", 0, "1\ti8191\n", "")?);
+    assert!(rt; leaves(&rt, alloc, &words, items.as_slice(), b"i1\n", 0, "1\ti8191\n", "")?);
     let items = chain(alloc, 8_192)?;
     let fault = "desq: hierarchy: more than 33554432 ancestors\n";
-    assert!(rt; leaves(alloc, &words, items.as_slice(), b"i1\n", 4, "", fault)?);
+    assert!(rt; leaves(&rt, alloc, &words, items.as_slice(), b"i1\n", 4, "", fault)?);
     Ok(())
 }

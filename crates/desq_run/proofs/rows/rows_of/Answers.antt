@@ -6,7 +6,7 @@ use Rattle.desq_run.proofs.LeafCountLemmas.{resolved_leaves}
 use Rattle.desq_run.proofs.rows.rows_of.Goals as goal
 
 pub ordered_rows-requires-clause-leaves : goal.ordered_rows-requires-clause-leaves
-ordered_rows-requires-clause-leaves g c =
+ordered_rows-requires-clause-leaves g c = λ _ _.
     subst (λ n. n ≤ most_leaves)
     (sym (resolved_leaves c.args.names.now (map use_view c.args.parsed.now.uses.items) (tree_of c.in_ok-expression.expression)
     (tree_of c.args.parsed.now.tree) c.in_ok-expression.ensures.names))
