@@ -55,5 +55,5 @@ abbrev pub NamesFile : Command → Text → Type 0
 NamesFile command name = (command.file ≡ name) ⊎ (command.hierarchy ≡ Some name)
 
 -- the words name this file
-abbrev pub Names : List Text → Text → Type 0
-Names words name = (command : Command) × IsCommand words command × NamesFile command name
+abbrev pub IsNamed : List Text → Text → Type 0
+IsNamed words name = (command : Command) × IsCommand words command × NamesFile command name

@@ -6,7 +6,7 @@ ghost use Rattle.mine_model.specs.declared.fault.Fault.TheVariants.{Read, Write}
 ghost use Rattle.mine_model.specs.declared.fault.Which.{Which};
 ghost use Rattle.mine_model.specs.Names.{HasName, named_row};
 ghost use Rattle.mine_model.specs.AnswerText.{text_of};
-ghost use Rattle.command_line.specs.Words.{IsCommand, NamesFile, Names as NamesOfFiles};
+ghost use Rattle.command_line.specs.Words.{IsCommand, NamesFile, IsNamed};
 ghost use Rattle.command_line.specs.Commands.{command_said};
 ghost use Rattle.desq_run.specs.Ends.{Input, IsInput, IsAccepted, IsAnswerText, Ends};
 ghost use Rattle.desq_run.specs.Inputs.{IsMined};
@@ -73,7 +73,7 @@ pub(crate) fn attempt<F: Files, O: Sink>(
     files: &mut F,
     out: &mut O,
 ) -> Result<(), Fault>
-    requires { (file : List ℕ) → NamesOfFiles (map string_bytes words.now) file
+    requires { (file : List ℕ) → IsNamed (map string_bytes words.now) file
         → IsTrue (F.may files.old file) }
     ensures ends { Ends (map string_bytes words.now) (F.holds files.old) result }
     ensures written { OnOk result ((input : Input)

@@ -5,7 +5,7 @@ ghost use Rattle.text_ports.specs.Faults.{Rose};
 ghost use Rattle.mine_model.specs.declared.fault.Fault.{Fault};
 ghost use Rattle.mine_model.specs.Refusal.{IsExpressionRefusal};
 ghost use Rattle.mine_model.specs.Status.{fault_status, status_of, message_of};
-ghost use Rattle.command_line.specs.Words.{Command, Names, IsCommand, IsUsage};
+ghost use Rattle.command_line.specs.Words.{Command, IsNamed, IsCommand, IsUsage};
 ghost use Rattle.desq_run.specs.Ends.{Input, IsInput, IsFirstRefusal, IsAccepted, IsAnswerText, Ends};
 ghost use Rattle.desq_run.specs.Reported.{IsReported};
 
@@ -30,7 +30,7 @@ pub fn run<F: Files, O: Sink, E: Sink, G: Gate>(
     _gate: &G,
 ) -> u8
     // The files that the words name may be opened. No other is.
-    requires { (file : List ℕ) → Names (map string_bytes words.now) file → IsTrue (F.may files.old file) }
+    requires { (file : List ℕ) → IsNamed (map string_bytes words.now) file → IsTrue (F.may files.old file) }
 
     ensures statuses { (result ≡ 0) ⊎ ((2 ≤ result) × (result ≤ 7)) }
 
