@@ -25,3 +25,7 @@ pub mod GrowthLemmas
 pub mod ShiftLemmas
 pub mod NameLemmas
 pub mod RenamingLemmas
+pub mod RankLemmas
+pub mod AboveLemmas
+pub mod FrequencyLemmas
+pub mod TestedLists

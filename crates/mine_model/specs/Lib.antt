@@ -19,6 +19,7 @@ pub mod Names
 pub mod Ancestry
 pub mod Labels
 pub mod Database
+pub mod Ranks
 pub mod Cover
 pub mod Faults
 -- what the proofs keep

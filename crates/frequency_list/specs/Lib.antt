@@ -1,0 +1,3 @@
+-- what the proofs keep
+pub mod Tallies
+pub mod Order
