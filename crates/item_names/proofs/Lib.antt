@@ -1,2 +1,4 @@
-pub mod NamesLemmas
 pub mod Growing
+mod NamesLemmas
+mod TableLemmas
+mod TextLemmas

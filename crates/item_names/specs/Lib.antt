@@ -1,1 +1,4 @@
 pub mod Names
+pub mod Texts
+pub mod Table
+pub mod Searching

@@ -1,4 +1,5 @@
 use super::*;
+use std::alloc::{AllocError, Global};
 use std::test::Fail;
 
 #[test]
@@ -11,5 +12,55 @@ fn a_name_keeps_its_number(rt: HostRuntime) -> Result<(), Fail> {
     assert_eq!(rt; names.find(b"z"), None);
     assert_eq!(rt; names.count(), 2);
     assert_eq!(rt; names.text(Item(1)), b"y".as_slice());
+    Ok(())
+}
+
+// A number of any size, as text.
+fn numbered(alloc: Global, number: u32) -> Result<String, AllocError> {
+    format!(in alloc; "n{number}")
+}
+
+// Names whose searches all begin at one slot, in a table of up to 256 slots.
+fn crowd(alloc: Global) -> Result<Vec<String>, AllocError> {
+    let mut crowd = Vec::new(alloc);
+    for number in 0..20_000 {
+        let name = numbered(alloc, number)?;
+        if hash_of(name.as_bytes()) & 255 == 7 {
+            crowd.push(name)?;
+        }
+    }
+    Ok(crowd)
+}
+
+#[test]
+fn names_that_begin_at_one_slot_are_told_apart(rt: HostRuntime) -> Result<(), Fail> {
+    let crowd = crowd(rt.alloc())?;
+    assert!(rt; crowd.len() > 40);
+    let mut names = Names::new(rt.alloc())?;
+    for (number, name) in crowd.iter().enumerate() {
+        assert_eq!(rt; names.find(name.as_bytes()), None);
+        assert_eq!(rt; names.intern(name.as_bytes())?, Item(number as u32));
+    }
+    for (number, name) in crowd.iter().enumerate() {
+        assert_eq!(rt; names.intern(name.as_bytes())?, Item(number as u32));
+        assert_eq!(rt; names.text(Item(number as u32)), name.as_bytes());
+    }
+    assert_eq!(rt; names.find(b"n"), None);
+    Ok(())
+}
+
+#[test]
+fn each_name_is_accepted_at_every_size(rt: HostRuntime) -> Result<(), Fail> {
+    let mut names = Names::new(rt.alloc())?;
+    for number in 0..3_000u32 {
+        let name = numbered(rt.alloc(), number)?;
+        assert_eq!(rt; names.intern(name.as_bytes())?, Item(number));
+    }
+    for number in 0..3_000u32 {
+        let name = numbered(rt.alloc(), number)?;
+        assert_eq!(rt; names.find(name.as_bytes()), Some(Item(number)));
+    }
+    assert_eq!(rt; names.intern(b"")?, Item(3_000));
+    assert_eq!(rt; names.text(Item(3_000)), b"".as_slice());
     Ok(())
 }

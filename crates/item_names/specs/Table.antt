@@ -1,0 +1,38 @@
+-- How a table finds the number of a name: from the home of its hash on, round all slots, up to a free one.
+use Rattle.std.specs.Prelude.{◌≡◌, ℕ, ◌+◌, ◌-◌, ◌/◌, ◌^◌, ◌<◌, ◌≤◌, ◌⊎◌, min, List, length, slice_index, slice_index_or, bit_and}
+use Rattle.std.specs.List.{sum_by}
+use Rattle.std.specs.Hash.FoldHasher.{initial, write, finish}
+use Rattle.item_names.specs.declared.table.Slot.{Slot}
+
+-- the hash that a slot keeps of a name
+unfoldable pub hash_of : List ℕ → ℕ
+hash_of name = finish (write initial name) / 2 ^ 32
+
+-- where a search for a hash begins, among so many slots
+abbrev pub home_of : ℕ → ℕ → ℕ
+home_of count hash = bit_and hash (count - 1)
+
+-- the slot, which is free past the last
+abbrev pub slot_at : List Slot → ℕ → Slot
+slot_at slots at = slice_index_or slots at (record { hash = 0; held = 0 })
+
+-- a search that begins at home meets the slot before it meets the slot at the end
+abbrev pub IsMet : ℕ → ℕ → ℕ → Type 0
+IsMet home end at = ((home ≤ at) × (at < end)) ⊎ ((end < home) × ((home ≤ at) ⊎ (at < end)))
+
+-- the slot is free or has the number and the hash of a name
+pub record IsSlot (hashes : List ℕ) (slot : Slot) : Type 0 where
+  pub within : slot.held ≤ length hashes
+  pub hash : 0 < slot.held → slot.hash ≡ slice_index hashes (slot.held - 1)
+
+-- the slot has the number of this name, and a search for its hash meets no free slot before
+pub record IsPlace (slots : List Slot) (hash number at : ℕ) : Type 0 where
+  pub within : at < length slots
+  pub holds : (slot_at slots at).held ≡ number + 1
+  pub reached : (other : ℕ) → other < length slots → IsMet (home_of (length slots) hash) at other → 0 < (slot_at slots other).held
+
+-- each name with one of these hashes has a slot, and no other slot is taken
+pub record IsTable (hashes : List ℕ) (table : List Slot) : Type 0 where
+  pub slots : (at : ℕ) → IsSlot hashes (slot_at table at)
+  pub places : (number : ℕ) → number < length hashes → (at : ℕ) × IsPlace table (slice_index hashes number) number at
+  pub taken : sum_by (λ slot. min slot.held 1) table ≡ length hashes
