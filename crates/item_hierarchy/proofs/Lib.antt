@@ -2,6 +2,5 @@ pub mod ByChildLemmas
 pub mod WalkingLemmas
 pub mod GatheringLemmas
 pub mod ClosingLemmas
-pub mod TextLemmas
 pub mod TakingLemmas
 pub mod NamedLemmas

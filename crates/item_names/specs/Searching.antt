@@ -1,5 +1,6 @@
 -- How a search through the slots of a table ends.
 use Rattle.std.specs.Prelude.{◌≡◌, ◌≢◌, ℕ, ◌-◌, ◌<◌, ◌≤◌, List, [], length, slice_get, slice_index_or, Some}
+use Rattle.item_names.specs.declared.keys.Key.{Key}
 use Rattle.item_names.specs.declared.table.Slot.{Slot}
 use Rattle.item_names.specs.declared.table.Outcome.{Outcome}
 use Rattle.item_names.specs.declared.table.Outcome.TheVariants.{Held, Free, Passed}
@@ -22,8 +23,8 @@ Ends names slots name from to Free =
     (at : ℕ) × (from ≤ at) × (at < to) × ((slot_at slots at).held ≡ 0) × AreOthers names slots name from at
 Ends names slots name from to Passed = AreOthers names slots name from to
 
--- a search for the hash meets this free slot, and no free one before
-pub record IsFirstFree (slots : List Slot) (hash at : ℕ) : Type 0 where
+-- a search for the key meets this free slot, and no free one before
+pub record IsFirstFree (slots : List Slot) (key : Key) (at : ℕ) : Type 0 where
   pub within : at < length slots
   pub free : (slot_at slots at).held ≡ 0
-  pub first : (other : ℕ) → other < length slots → IsMet (home_of (length slots) hash) at other → 0 < (slot_at slots other).held
+  pub first : (other : ℕ) → other < length slots → IsMet (home_of (length slots) key) at other → 0 < (slot_at slots other).held

@@ -1,6 +1,8 @@
 //! Names and their numbers, one to one.
 #![tactic(auto)]
 
+mod fields;
+mod keys;
 mod table;
 mod texts;
 
@@ -8,12 +10,13 @@ ghost use Rattle.std.specs.Prelude.{◌≡◌, ◌≤◌, ◌<◌, ◌↔◌, Li
 ghost use Rattle.mine_model.specs.Limits.{most_items};
 ghost use Rattle.mine_model.specs.Names.{name_of, AreDistinct};
 ghost use Rattle.item_names.specs.Names.{IsInterned};
-ghost use Rattle.item_names.specs.Table.{hash_of};
+ghost use Rattle.item_names.specs.Table.{key_of};
 
 use mine_model::{Item, NamesFault, NoMemory};
 use std::alloc::Global;
 use std::marker::Model;
-use table::{Slot, find, hash_of, make_room, place};
+use keys::{Key, key_of};
+use table::{Slot, find, make_room, place};
 use texts::Texts;
 
 /// As many names may be held.
@@ -21,7 +24,7 @@ pub const MOST_NAMES: u32 = 1_048_576;
 
 /// Names, each with a number: the first name has the number 0, and each new one the next. A name keeps its number.
 ///
-/// Each name is stored once, behind the one before, and is found by its hash.
+/// Each name is stored once, behind the one before, and is found by its key.
 #[derive(Debug, Drop)]
 pub struct Names {
     texts: Texts,
@@ -30,14 +33,16 @@ pub struct Names {
 
 impl Model for Names {
     ghost use Rattle.std.specs.Prelude.{List, ℕ, map};
+    ghost use Rattle.std.specs.List.{AllByRecursion};
     ghost use Rattle.mine_model.specs.Names.{AreDistinct};
-    ghost use Rattle.item_names.specs.Table.{hash_of, IsTable};
+    ghost use Rattle.item_names.specs.Table.{key_of, AreBytes, IsTable};
 
     ghost Value = { List (List ℕ) };
 
     ghost view = { λ n. n.texts };
 
-    ghost invariant = { λ n. AreDistinct n.texts × IsTable (map hash_of n.texts) n.slots.items };
+    ghost invariant = { λ n. AreDistinct n.texts × AllByRecursion AreBytes n.texts
+        × IsTable (map key_of n.texts) n.slots.items };
 }
 
 impl Names {
@@ -62,23 +67,23 @@ impl Names {
             ↔ ((length self.old ≡ most_items) × ¬ Contains self.old name.now) }
         ensures err { OnErr result (self.new ≡ self.old) }
     {
-        let hash = hash_of(name);
-        if let Some(item) = find(&self.texts, self.slots.as_slice(), hash, name) {
+        let key = key_of(name);
+        if let Some(item) = find(&self.texts, self.slots.as_slice(), key, name) {
             return Ok(item);
         }
         if self.texts.count() == MOST_NAMES {
             return Err(NamesFault::TooMany);
         }
-        match self.append(hash, name) {
+        match self.append(key, name) {
             Ok(item) => Ok(item),
             Err(NoMemory) => Err(NamesFault::NoMemory),
         }
     }
 
     // Gives a new name the next number.
-    fn append(&mut self, hash: u32, name: &[u8]) -> Result<Item, NoMemory>
+    fn append(&mut self, key: Key, name: &[u8]) -> Result<Item, NoMemory>
         requires new { ¬ Contains self.old name.now }
-        requires hash { hash ≡ hash_of name.now }
+        requires key { key ≡ key_of name.now }
         requires room { length self.old < most_items }
         ensures number { IfOk result (λ item. item.0 ≡ length self.old) }
         ensures names { OnOk result (self.new ≡ self.old ++ name.now ∷ []) }
@@ -88,7 +93,7 @@ impl Names {
         let number = self.texts.count();
         make_room(&self.texts, &mut self.slots)?;
         self.texts.push(name)?;
-        place(&mut self.slots, hash, number);
+        place(&mut self.slots, key, number);
         Ok(Item(number))
     }
 
@@ -97,7 +102,7 @@ impl Names {
         ensures none { IsNone result ↔ ¬ Contains self.now name.now }
         ensures number { IfSome result (λ item. slice_get self.now item.0 ≡ Some name.now) }
     {
-        find(&self.texts, self.slots.as_slice(), hash_of(name), name)
+        find(&self.texts, self.slots.as_slice(), key_of(name), name)
     }
 
     /// The name with a number. Takes no memory.

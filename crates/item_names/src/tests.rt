@@ -25,7 +25,7 @@ fn crowd(alloc: Global) -> Result<Vec<String>, AllocError> {
     let mut crowd = Vec::new(alloc);
     for number in 0..20_000 {
         let name = numbered(alloc, number)?;
-        if hash_of(name.as_bytes()) & 255 == 7 {
+        if key_of(name.as_bytes()).mixed() & 255 == 7 {
             crowd.push(name)?;
         }
     }

@@ -1,6 +1,6 @@
 //! Names one behind the other in memory.
 
-ghost use Rattle.std.specs.Prelude.{◌≡◌, ◌≤◌, ◌<◌, List, [], ◌∷◌, ◌++◌, length, OnOk, OnErr};
+ghost use Rattle.std.specs.Prelude.{◌≡◌, ◌≤◌, ◌<◌, ◌↔◌, List, [], ◌∷◌, ◌++◌, length, IsTrue, OnOk, OnErr};
 ghost use Rattle.mine_model.specs.Limits.{most_items};
 ghost use Rattle.mine_model.specs.Names.{name_of};
 ghost use Rattle.mine_model.specs.Ancestry.{start_of};
@@ -55,6 +55,13 @@ impl Texts {
         let start = start_at(self.ends.as_slice(), number);
         let end = self.ends[number];
         &self.bytes[start..end]
+    }
+
+    pub(crate) fn is_text(&self, item: Item, name: &[u8]) -> bool
+        requires { item.0 < length self.now }
+        ensures { IsTrue result ↔ (name_of self.now item ≡ name.now) }
+    {
+        self.text(item) == name
     }
 
     pub(crate) fn push(&mut self, name: &[u8]) -> Result<(), NoMemory>

@@ -1,7 +1,9 @@
 use Rattle.std.proofs.Common.{◌≡◌, [], ◌∷◌, ◌++◌, List, ℕ, map, length, subst, sym, ap, ◌∙◌, arith}
 use Rattle.std.proofs.lemmas.List.{map_push, length-map}
 use Rattle.mine_model.specs.Names.{AreDistinct}
-use Rattle.item_names.specs.Table.{hash_of, IsTable}
+use Rattle.mine_model.proofs.ListLemmas.{of_both}
+use Rattle.item_names.specs.Table.{key_of, AreBytes, IsTable}
+use Rattle.item_names.proofs.KeyLemmas.{AreBytes-from}
 use Rattle.item_names.proofs.NamesLemmas.{AreDistinct-push}
 use Rattle.item_names.proofs.Names.append.Goals as goal
 
@@ -9,18 +11,19 @@ distinct : (c : goal.After-place) → AreDistinct c.push.new.self
 distinct c =
     subst AreDistinct (sym c.in_ok-push.ensures.ok) (AreDistinct-push c.self.inside.texts c.args.name.now c.self.invariant.0 (rw c.self.view_is c.requires.new))
 
--- the hashes of the names with the new one
-hashes : (c : goal.After-place) → map hash_of c.push.new.self ≡ map hash_of c.self.inside.texts ++ c.args.hash ∷ []
-hashes c =
-    ap (map hash_of) c.in_ok-push.ensures.ok ∙ map_push hash_of c.self.inside.texts c.args.name.now
-    ∙ ap (λ hash. map hash_of c.self.inside.texts ++ hash ∷ []) (sym c.requires.hash)
+-- the keys of the names with the new one
+keys : (c : goal.After-place) → map key_of c.push.new.self ≡ map key_of c.self.inside.texts ++ c.args.key ∷ []
+keys c =
+    ap (map key_of) c.in_ok-push.ensures.ok ∙ map_push key_of c.self.inside.texts c.args.name.now
+    ∙ ap (λ key. map key_of c.self.inside.texts ++ key ∷ []) (sym c.requires.key)
 
 pub invariant_of-self-2 : goal.invariant_of-self-2
 invariant_of-self-2 c =
-    let count = length-map c.self.inside.texts hash_of in
+    let count = length-map c.self.inside.texts key_of in
     (
       distinct c,
-      rw (hashes c) (c.place.ensures.table (map hash_of c.self.inside.texts) c.in_ok-make_room.ensures.table (omega (arith, count, c.count-number.ensures.count))
+      rw c.in_ok-push.ensures.ok (of_both AreBytes c.self.inside.texts (c.args.name.now ∷ []) c.self.invariant.1 (AreBytes-from c.args.name.now c.type_inv.name, tt)),
+      rw (keys c) (c.place.ensures.table (map key_of c.self.inside.texts) c.in_ok-make_room.ensures.table (omega (arith, count, c.count-number.ensures.count))
       (omega (arith, c.in_ok-make_room.ensures.room, c.count-number.ensures.count))),
     )
 

@@ -1,11 +1,14 @@
 use Rattle.std.proofs.Common.{true≢false, refl}
-use Rattle.item_names.proofs.TableLemmas.{not_held_ahead, not_held_round, not_held_full, is_held, home_within}
+use Rattle.item_names.proofs.TableLemmas.{not_held_ahead, not_held_round, not_held_full, is_held}
 use Rattle.item_names.proofs.table.find.Goals as goal
 
 pub returns-in-Free-clause-none : goal.returns-in-Free-clause-none
 returns-in-Free-clause-none c =
     let (at, behind, within, free, others) = c.in-Free.ensures in
-    (λ none. not_held_ahead c.args.texts.now c.args.slots.now c.args.name.now c.args.hash c.requires.hash c.requires.table at within behind free others, λ absent. refl)
+    (
+      λ none. not_held_ahead c.args.texts.now c.args.slots.now c.args.name.now c.args.key c.requires.key c.requires.table c.home_in-home.result c.home_in-home.ensures.home at within behind free others,
+      λ absent. refl,
+    )
 
 pub returns-in-Held-search-clause-none : goal.returns-in-Held-search-clause-none
 returns-in-Held-search-clause-none c =
@@ -14,8 +17,13 @@ returns-in-Held-search-clause-none c =
 pub returns-in-Free-search-clause-none : goal.returns-in-Free-search-clause-none
 returns-in-Free-search-clause-none c =
     let (at, behind, within, free, others) = c.in-Free-search.ensures in
-    (λ none. not_held_round c.args.texts.now c.args.slots.now c.args.name.now c.args.hash c.requires.hash c.requires.table at (home_within _ _) within free c.in-Passed.ensures others, λ absent. refl)
+    (
+      λ none. not_held_round c.args.texts.now c.args.slots.now c.args.name.now c.args.key c.requires.key c.requires.table c.home_in-home.result c.home_in-home.ensures.home at c.home_in-home.ensures.within within free c.in-Passed.ensures others,
+      λ absent. refl,
+    )
 
 pub returns-in-Passed-search-clause-none : goal.returns-in-Passed-search-clause-none
-returns-in-Passed-search-clause-none c =
-    (λ none. not_held_full c.args.texts.now c.args.slots.now c.args.name.now c.args.hash c.requires.hash c.requires.table _ c.in-Passed.ensures c.in-Passed-search.ensures, λ absent. refl)
+returns-in-Passed-search-clause-none c = (
+  λ none. not_held_full c.args.texts.now c.args.slots.now c.args.name.now c.args.key c.requires.key c.requires.table c.home_in-home.result c.home_in-home.ensures.home c.in-Passed.ensures c.in-Passed-search.ensures,
+  λ absent. refl,
+)

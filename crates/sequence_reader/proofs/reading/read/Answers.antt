@@ -4,7 +4,7 @@ use Rattle.mine_model.specs.Text.{lines_of}
 use Rattle.mine_model.specs.Faults.{fault_of_sequences}
 use Rattle.mine_model.specs.Names.{GrowBy}
 use Rattle.mine_model.specs.Refusal.{sequences_of, items_of, IsSequencesRefusal}
-use Rattle.sequence_reader.proofs.TakingLemmas.{of_told}
+use Rattle.text_ports.proofs.Told.{of_told}
 use Rattle.sequence_reader.proofs.reading.read.Goals as goal
 
 pub returns-in-Ok-clause-grown : goal.returns-in-Ok-clause-grown
