@@ -136,10 +136,10 @@ module _ (keys : List Key) (slots : List Slot) (key : Key) (at : ℕ) (new : Slo
   length-placed = length-set slots at new
 
   here : slot_at (set slots at new) at ≡ new
-  here = get_or-set_same slots at new (record { word = 0; size = 0; held = 0 }) first.within
+  here = get_or-set_same slots at new (record { low = 0; high = 0; size = 0; held = 0 }) first.within
 
   elsewhere : (other : ℕ) → other ≢ at → slot_at (set slots at new) other ≡ slot_at slots other
-  elsewhere other apart = get_or-set_other slots at other new (record { word = 0; size = 0; held = 0 }) apart
+  elsewhere other apart = get_or-set_other slots at other new (record { low = 0; high = 0; size = 0; held = 0 }) apart
 
   -- a slot that was taken, or the new one, is taken
   stays_taken : (other : ℕ) → ((other ≢ at) → 0 < (slot_at slots other).held) → 0 < (slot_at (set slots at new) other).held
@@ -193,20 +193,20 @@ module _ (keys : List Key) (slots : List Slot) (key : Key) (at : ℕ) (new : Slo
     slots = slots_after;
     places = places_after;
     taken =
-      let step = sum_by-set (λ (slot : Slot). min slot.held 1) slots at new (record { word = 0; size = 0; held = 0 }) first.within in
+      let step = sum_by-set (λ (slot : Slot). min slot.held 1) slots at new (record { low = 0; high = 0; size = 0; held = 0 }) first.within in
       omega (arith, step, table.taken, held, first.free, length_push keys key);
   }
 
 -- the table of no names, all of whose slots are free
-pub IsTable-free : (size : ℕ) → IsTable [] (replicate size (record { word = 0; size = 0; held = 0 }))
+pub IsTable-free : (size : ℕ) → IsTable [] (replicate size (record { low = 0; high = 0; size = 0; held = 0 }))
 IsTable-free size =
-    let free : (at : ℕ) → slot_at (replicate size (record { word = 0; size = 0; held = 0 })) at ≡ record { word = 0; size = 0; held = 0 } =
+    let free : (at : ℕ) → slot_at (replicate size (record { low = 0; high = 0; size = 0; held = 0 })) at ≡ record { low = 0; high = 0; size = 0; held = 0 } =
     λ at. elim (cases_lt at size) [
-      | inl inside ↦ get_or-replicate size at (record { word = 0; size = 0; held = 0 }) (record { word = 0; size = 0; held = 0 }) inside
-      | inr past ↦ get_or_past (replicate size (record { word = 0; size = 0; held = 0 })) at (record { word = 0; size = 0; held = 0 }) (omega (arith, length-replicate {A = Slot} size (record { word = 0; size = 0; held = 0 })))
+      | inl inside ↦ get_or-replicate size at (record { low = 0; high = 0; size = 0; held = 0 }) (record { low = 0; high = 0; size = 0; held = 0 }) inside
+      | inr past ↦ get_or_past (replicate size (record { low = 0; high = 0; size = 0; held = 0 })) at (record { low = 0; high = 0; size = 0; held = 0 }) (omega (arith, length-replicate {A = Slot} size (record { low = 0; high = 0; size = 0; held = 0 })))
     ] in
     record {
       slots = λ at. subst (IsSlot []) (sym (free at)) (record { within = omega arith; key = λ taken. absurd (omega (arith, taken)) });
       places = λ number within. absurd (omega (arith, within));
-      taken = sum_by-replicate (λ (slot : Slot). min slot.held 1) size (record { word = 0; size = 0; held = 0 }) ∙ omega arith;
+      taken = sum_by-replicate (λ (slot : Slot). min slot.held 1) size (record { low = 0; high = 0; size = 0; held = 0 }) ∙ omega arith;
     }

@@ -1,5 +1,5 @@
 -- How a table finds the number of a name: from the home of its key on, round all slots, up to a free one.
-use Rattle.std.specs.Prelude.{◌≡◌, ℕ, ◌+◌, ◌-◌, ◌*◌, ◌<◌, ◌≤◌, ◌⊎◌, min, List, [], ◌∷◌, length, slice_index_or, bit_and, bit_xor, if◌then◌else◌, nat_le}
+use Rattle.std.specs.Prelude.{◌≡◌, ℕ, ◌+◌, ◌-◌, ◌*◌, ◌<◌, ◌≤◌, ◌⊎◌, min, List, [], ◌∷◌, length, take, drop, slice_index_or, bit_and, bit_xor, if◌then◌else◌, nat_le}
 use Rattle.std.specs.List.{sum_by, AllByRecursion}
 use Rattle.std.specs.Hash.FoldHasher.{initial, write, finish, folded_multiply}
 use Rattle.item_names.specs.declared.keys.Key.{Key}
@@ -10,26 +10,27 @@ abbrev pub number_of : List ℕ → ℕ
 number_of [] = 0
 number_of (byte ∷ bytes) = byte + 256 * number_of bytes
 
--- what a slot keeps of a name: the name itself where it has up to 8 bytes, and else its hash
+-- what a slot keeps of a name: the name itself where it has up to 16 bytes, and else its hash
 unfoldable pub key_of : List ℕ → Key
 key_of name = record {
-  word = if nat_le (length name) 8 then number_of name else finish (write initial name);
-  size = min (length name) 9;
+  low = if nat_le (length name) 16 then number_of (take 8 name) else finish (write initial name);
+  high = if nat_le (length name) 16 then number_of (drop 8 name) else 0;
+  size = min (length name) 17;
 }
 
 -- where a search for a key begins, among so many slots
 unfoldable pub home_of : ℕ → Key → ℕ
-home_of count key = bit_and (folded_multiply key.word (bit_xor 0x9e37_79b9_7f4a_7c15 key.size)) (count - 1)
+home_of count key = bit_and (folded_multiply (bit_xor key.low key.size) (bit_xor 0x9e37_79b9_7f4a_7c15 key.high)) (count - 1)
 
 abbrev pub no_key : Key
-no_key = record { word = 0; size = 0 }
+no_key = record { low = 0; high = 0; size = 0 }
 
 -- the slot, which is free past the last
 abbrev pub slot_at : List Slot → ℕ → Slot
-slot_at slots at = slice_index_or slots at (record { word = 0; size = 0; held = 0 })
+slot_at slots at = slice_index_or slots at (record { low = 0; high = 0; size = 0; held = 0 })
 
 abbrev pub key_in : Slot → Key
-key_in slot = record { word = slot.word; size = slot.size }
+key_in slot = record { low = slot.low; high = slot.high; size = slot.size }
 
 -- a search that begins at home meets the slot before it meets the slot at the end
 abbrev pub IsMet : ℕ → ℕ → ℕ → Type 0

@@ -7,31 +7,33 @@ ghost use Rattle.item_names.specs.Table.{number_of, key_of};
 use std::hash::{FoldHasher, Hasher};
 
 /// The most bytes of a name that its key has whole.
-const MOST_WHOLE: usize = 8;
+const MOST_WHOLE: usize = 16;
 
 /// A number with many ones, spread over the word.
 const MULTIPLIER: u64 = 0x9e37_79b9_7f4a_7c15;
 
-/// The bytes of a name of up to 8 bytes, or the hash of a longer one. `size` is the number of bytes, or 9.
+/// The bytes of a name of up to 16 bytes, the first 8 and the others, or the hash of a longer one. `size` is the number
+/// of bytes, or 17.
 #[derive(Clone, Copy, Debug)]
 pub(crate) struct Key {
-    pub(crate) word: u64,
+    pub(crate) low: u64,
+    pub(crate) high: u64,
     pub(crate) size: u32,
 }
 
 impl Key {
     /// Whether the key has the whole name.
     pub(crate) fn is_whole(self) -> bool
-        ensures { IsTrue result ↔ (self.size ≤ 8) }
+        ensures { IsTrue result ↔ (self.size ≤ 16) }
     {
         self.size as usize <= MOST_WHOLE
     }
 
-    /// A number that hangs on each bit of the key: the product of its parts, both halves joined.
+    /// A number that hangs on each bit of the key.
     pub(crate) fn mixed(self) -> u64
-        ensures { result ≡ folded_multiply self.word (bit_xor 0x9e37_79b9_7f4a_7c15 self.size) }
+        ensures { result ≡ folded_multiply (bit_xor self.low self.size) (bit_xor 0x9e37_79b9_7f4a_7c15 self.high) }
     {
-        folded_multiply(self.word, MULTIPLIER ^ u64::from(self.size))
+        folded_multiply(self.low ^ u64::from(self.size), MULTIPLIER ^ self.high)
     }
 }
 
@@ -47,18 +49,46 @@ fn folded_multiply(first: u64, second: u64) -> u64
 pub(crate) fn key_of(name: &[u8]) -> Key
     ensures { result ≡ key_of name.now }
 {
-    if name.len() <= MOST_WHOLE {
+    if name.len() <= 8 {
         return Key {
-            word: word_of(name),
+            low: word_of(name),
+            high: 0,
+            size: name.len() as u32,
+        };
+    }
+    if name.len() <= MOST_WHOLE {
+        let low = eight_bytes(name, 0);
+        let last = eight_bytes(name, name.len() - 8);
+        return Key {
+            low,
+            high: last >> (128 - 8 * name.len()),
             size: name.len() as u32,
         };
     }
     let mut hasher = FoldHasher::default();
     hasher.write(name);
     Key {
-        word: hasher.finish(),
+        low: hasher.finish(),
+        high: 0,
         size: MOST_WHOLE as u32 + 1,
     }
+}
+
+/// The eight bytes from here on as one number, the lowest first.
+fn eight_bytes(name: &[u8], from: usize) -> u64
+    requires { from + 8 ≤ length name.now }
+    ensures { result ≡ number_of (slice_range name.now from (from + 8)) }
+{
+    u64::from_le_bytes([
+        name[from],
+        name[from + 1],
+        name[from + 2],
+        name[from + 3],
+        name[from + 4],
+        name[from + 5],
+        name[from + 6],
+        name[from + 7],
+    ])
 }
 
 /// Up to 8 bytes as one number, the lowest first.

@@ -18,10 +18,18 @@ const FEWEST_SLOTS: usize = 16;
 /// the key of the name.
 #[derive(Clone, Copy, Debug)]
 pub(crate) struct Slot {
-    word: u64,
+    low: u64,
+    high: u64,
     size: u32,
     held: u32,
 }
+
+const FREE: Slot = Slot {
+    low: 0,
+    high: 0,
+    size: 0,
+    held: 0,
+};
 
 /// How a search through some slots ends.
 #[derive(Clone, Copy, Debug)]
@@ -96,7 +104,7 @@ fn home_in(slots: &[Slot], key: Key) -> usize
 fn has_key(slot: Slot, key: Key) -> bool
     ensures { IsTrue result ↔ (key_in slot ≡ key) }
 {
-    slot.word == key.word && slot.size == key.size
+    slot.low == key.low && slot.high == key.high && slot.size == key.size
 }
 
 /// Whether the slot, which is taken, has the number of the name with this key.
@@ -129,7 +137,7 @@ fn table_of(alloc: Global, texts: &Texts) -> Result<Vec<Slot>, NoMemory>
 {
     let count = texts.count();
     let size = (2 * (count as usize + 1)).max(FEWEST_SLOTS).next_power_of_two();
-    let mut slots = vec![in alloc; Slot { word: 0, size: 0, held: 0 }; size]?;
+    let mut slots = vec![in alloc; FREE; size]?;
     for number in 0..count {
         let key = key_of(texts.text(Item(number)));
         place(&mut slots, key, number);
@@ -146,7 +154,8 @@ pub(crate) fn place(slots: &mut Vec<Slot>, key: Key, number: u32)
 {
     if let Some(at) = free_slot(slots.as_slice(), key) {
         slots[at] = Slot {
-            word: key.word,
+            low: key.low,
+            high: key.high,
             size: key.size,
             held: number + 1,
         };

@@ -14,5 +14,5 @@ returns-then-is_whole c =
     let key : key_of (get_or names (c.args.slot.held - 1) []) ≡ key_of c.args.name.now =
     sym (get_or-map key_of names (c.args.slot.held - 1) [] no_key within) ∙ sym (c.requires.slot.key c.requires.taken) ∙ c.if-has_key.ensures.0 refl ∙ c.requires.key in
     let bytes = AllByRecursion-contained AreBytes names (get_or names (c.args.slot.held - 1) []) c.requires.bytes (Contains-get_or names (c.args.slot.held - 1) [] within) in
-    let size : (key_of (get_or names (c.args.slot.held - 1) [])).size ≤ 8 = subst (λ (k : Key). k.size ≤ 8) (c.requires.key ∙ sym key) (c.if-is_whole.ensures.0 refl) in
+    let size : (key_of (get_or names (c.args.slot.held - 1) [])).size ≤ 16 = subst (λ (k : Key). k.size ≤ 16) (c.requires.key ∙ sym key) (c.if-is_whole.ensures.0 refl) in
     (λ whole. same_name (get_or names (c.args.slot.held - 1) []) c.args.name.now bytes (AreBytes-from c.args.name.now c.type_inv.name) key size, λ same. c.if-is_whole.true)
