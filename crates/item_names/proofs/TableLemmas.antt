@@ -165,7 +165,7 @@ module _ (keys : List Key) (slots : List Slot) (key : Key) (at : ℕ) (new : Slo
         within = omega (arith, length-placed, is.within);
         holds = ap (λ (slot : Slot). slot.held) (elsewhere place apart) ∙ is.holds;
         reached = λ other within met.
-          stays_taken other (λ _. is.reached other (omega (arith, length-placed, within)) (subst (λ n. IsMet (home_of n k) place other) length-placed met));
+            stays_taken other (λ _. is.reached other (omega (arith, length-placed, within)) (subst (λ n. IsMet (home_of n k) place other) length-placed met));
       }
 
   place_made : IsPlace (set slots at new) key (length keys) at
@@ -173,7 +173,7 @@ module _ (keys : List Key) (slots : List Slot) (key : Key) (at : ℕ) (new : Slo
     within = omega (arith, length-placed, first.within);
     holds = ap (λ (slot : Slot). slot.held) here ∙ held;
     reached = λ other within met.
-      stays_taken other (λ _. first.first other (omega (arith, length-placed, within)) (subst (λ n. IsMet (home_of n key) at other) length-placed met));
+        stays_taken other (λ _. first.first other (omega (arith, length-placed, within)) (subst (λ n. IsMet (home_of n key) at other) length-placed met));
   }
 
   places_after : (number : ℕ) → number < length (keys ++ key ∷ []) → (place : ℕ) × IsPlace (set slots at new) (get_or (keys ++ key ∷ []) number no_key) number place
@@ -193,8 +193,8 @@ module _ (keys : List Key) (slots : List Slot) (key : Key) (at : ℕ) (new : Slo
     slots = slots_after;
     places = places_after;
     taken =
-      let step = sum_by-set (λ (slot : Slot). min slot.held 1) slots at new (record { low = 0; high = 0; size = 0; held = 0 }) first.within in
-      omega (arith, step, table.taken, held, first.free, length_push keys key);
+        let step = sum_by-set (λ (slot : Slot). min slot.held 1) slots at new (record { low = 0; high = 0; size = 0; held = 0 }) first.within in
+        omega (arith, step, table.taken, held, first.free, length_push keys key);
   }
 
 -- the table of no names, all of whose slots are free

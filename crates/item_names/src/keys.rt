@@ -111,12 +111,7 @@ fn four_bytes(name: &[u8], from: usize) -> u64
     ensures number { result ≡ number_of (slice_range name.now from (from + 4)) }
     ensures most { result < 4294967296 }
 {
-    u64::from(u32::from_le_bytes([
-        name[from],
-        name[from + 1],
-        name[from + 2],
-        name[from + 3],
-    ]))
+    u64::from(u32::from_le_bytes([name[from], name[from + 1], name[from + 2], name[from + 3]]))
 }
 
 /// Up to three bytes as one number, the lowest first.

@@ -12,10 +12,10 @@ ghost use Rattle.mine_model.specs.Names.{name_of, AreDistinct};
 ghost use Rattle.item_names.specs.Names.{IsInterned};
 ghost use Rattle.item_names.specs.Table.{key_of};
 
+use keys::{Key, key_of};
 use mine_model::{Item, NamesFault, NoMemory};
 use std::alloc::Global;
 use std::marker::Model;
-use keys::{Key, key_of};
 use table::{Slot, find, make_room, place};
 use texts::Texts;
 

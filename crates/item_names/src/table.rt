@@ -42,7 +42,7 @@ enum Outcome {
     Passed,
 }
 
-/// The number of the name with this key, if it is held.
+/// The number of the name with this key, if it is held. Most names stand at their home.
 pub(crate) fn find(texts: &Texts, slots: &[Slot], key: Key, name: &[u8]) -> Option<Item>
     requires table { IsTable (map key_of texts.now) slots.now }
     requires key { key ≡ key_of name.now }
@@ -54,6 +54,24 @@ pub(crate) fn find(texts: &Texts, slots: &[Slot], key: Key, name: &[u8]) -> Opti
         return None;
     }
     let home = home_in(slots, key);
+    let slot = slots[home];
+    if slot.held > 0 && is_of(texts, slot, key, name) {
+        return Some(Item(slot.held - 1));
+    }
+    find_from(texts, slots, key, name, home)
+}
+
+/// The same by a search from the home of the key on.
+#[inline(never)]
+fn find_from(texts: &Texts, slots: &[Slot], key: Key, name: &[u8], home: usize) -> Option<Item>
+    requires table { IsTable (map key_of texts.now) slots.now }
+    requires key { key ≡ key_of name.now }
+    requires bytes { AllByRecursion AreBytes texts.now }
+    requires home { home ≡ home_of (length slots.now) key }
+    requires within { home < length slots.now }
+    ensures none { IsNone result ↔ ¬ Contains texts.now name.now }
+    ensures number { IfSome result (λ item. slice_get texts.now item.0 ≡ Some name.now) }
+{
     match search(texts, slots, key, name, home, slots.len()) {
         Outcome::Held(item) => Some(item),
         Outcome::Free => None,
@@ -66,14 +84,7 @@ pub(crate) fn find(texts: &Texts, slots: &[Slot], key: Key, name: &[u8]) -> Opti
 }
 
 /// Looks for the name in the slots from `from` to before `to`, up to the first that is free.
-fn search(
-    texts: &Texts,
-    slots: &[Slot],
-    key: Key,
-    name: &[u8],
-    from: usize,
-    to: usize,
-) -> Outcome
+fn search(texts: &Texts, slots: &[Slot], key: Key, name: &[u8], from: usize, to: usize) -> Outcome
     requires table { IsTable (map key_of texts.now) slots.now }
     requires key { key ≡ key_of name.now }
     requires bytes { AllByRecursion AreBytes texts.now }
@@ -136,7 +147,9 @@ fn table_of(alloc: Global, texts: &Texts) -> Result<Vec<Slot>, NoMemory>
     ensures room { IfOk result (λ slots. length texts.now < length slots.items) }
 {
     let count = texts.count();
-    let size = (2 * (count as usize + 1)).max(FEWEST_SLOTS).next_power_of_two();
+    let size = (2 * (count as usize + 1))
+        .max(FEWEST_SLOTS)
+        .next_power_of_two();
     let mut slots = vec![in alloc; FREE; size]?;
     for number in 0..count {
         let key = key_of(texts.text(Item(number)));

@@ -19,12 +19,11 @@ keys c =
 
 pub invariant_of-self-2 : goal.invariant_of-self-2
 invariant_of-self-2 c =
-    let count = length-map c.self.inside.texts key_of in
-    (
+    let count = length-map c.self.inside.texts key_of in (
       distinct c,
       rw c.in_ok-push.ensures.ok (of_both AreBytes c.self.inside.texts (c.args.name.now ∷ []) c.self.invariant.1 (AreBytes-from c.args.name.now c.type_inv.name, tt)),
       rw (keys c) (c.place.ensures.table (map key_of c.self.inside.texts) c.in_ok-make_room.ensures.table (omega (arith, count, c.count-number.ensures.count))
-      (omega (arith, c.in_ok-make_room.ensures.room, c.count-number.ensures.count))),
+          (omega (arith, c.in_ok-make_room.ensures.room, c.count-number.ensures.count))),
     )
 
 pub returns-clause-distinct : goal.returns-clause-distinct
