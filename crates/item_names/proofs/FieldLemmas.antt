@@ -1,11 +1,11 @@
 -- Lemmas on the texts of fields.
-use Rattle.std.proofs.Common.{◌≡◌, ℕ, ◌+◌, ◌≤◌, ◌<◌, Some, List, [], ◌∷◌, ◌++◌, map, length, take, drop, get_or, slice_get, zero, suc, refl, sym, ap, ◌∙◌, subst, arith, append_assoc}
+use Rattle.std.proofs.Common.{◌≡◌, ℕ, ◌+◌, ◌<◌, Some, List, [], ◌∷◌, ◌++◌, map, length, take, drop, get_or, slice_get, refl, sym, ap, ◌∙◌, subst}
 use Rattle.std.specs.List.{AllByRecursion, slice_range, Contains}
-use Rattle.std.proofs.lemmas.List.{append-nil, map-append, take_more, take-append-drop}
+use Rattle.std.proofs.lemmas.List.{map-append, take_more, take-append-drop}
 use Rattle.std.proofs.lemmas.Option.{slice_get_within, get_or_from_slice_get}
 use Rattle.std.proofs.lemmas.List.Elements.{Contains-append_left, Contains-get_or}
 use Rattle.mine_model.specs.declared.item.Item.{Item}
-use Rattle.mine_model.specs.Text.{Field, placed_fields_of, fields_of}
+use Rattle.mine_model.specs.Text.{Field, fields_of}
 use Rattle.mine_model.specs.Names.{name_of, HasName, GrowBy}
 use Rattle.mine_model.proofs.ListLemmas.{of_both, Contains-by}
 use Rattle.mine_model.proofs.NameLemmas.{name_of-grown, HasName-grown}

@@ -27,4 +27,5 @@ Ends names slots name from to Passed = AreOthers names slots name from to
 pub record IsFirstFree (slots : List Slot) (key : Key) (at : ℕ) : Type 0 where
   pub within : at < length slots
   pub free : (slot_at slots at).held ≡ 0
-  pub first : (other : ℕ) → other < length slots → IsMet (home_of (length slots) key) at other → 0 < (slot_at slots other).held
+  pub first : (other : ℕ) → other < length slots → IsMet (home_of (length slots) key) at other
+      → 0 < (slot_at slots other).held

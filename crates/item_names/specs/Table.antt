@@ -20,7 +20,8 @@ key_of name = record {
 
 -- where a search for a key begins, among so many slots
 unfoldable pub home_of : ℕ → Key → ℕ
-home_of count key = bit_and (folded_multiply (bit_xor key.low key.size) (bit_xor 0x9e37_79b9_7f4a_7c15 key.high)) (count - 1)
+home_of count key =
+    bit_and (folded_multiply (bit_xor key.low key.size) (bit_xor 0x9e37_79b9_7f4a_7c15 key.high)) (count - 1)
 
 abbrev pub no_key : Key
 no_key = record { low = 0; high = 0; size = 0 }
@@ -45,12 +46,14 @@ pub record IsSlot (keys : List Key) (slot : Slot) : Type 0 where
 pub record IsPlace (slots : List Slot) (key : Key) (number at : ℕ) : Type 0 where
   pub within : at < length slots
   pub holds : (slot_at slots at).held ≡ number + 1
-  pub reached : (other : ℕ) → other < length slots → IsMet (home_of (length slots) key) at other → 0 < (slot_at slots other).held
+  pub reached : (other : ℕ) → other < length slots → IsMet (home_of (length slots) key) at other
+      → 0 < (slot_at slots other).held
 
 -- each name with one of these keys has a slot, and no other slot is taken
 pub record IsTable (keys : List Key) (table : List Slot) : Type 0 where
   pub slots : (at : ℕ) → IsSlot keys (slot_at table at)
-  pub places : (number : ℕ) → number < length keys → (at : ℕ) × IsPlace table (slice_index_or keys number no_key) number at
+  pub places : (number : ℕ) → number < length keys
+      → (at : ℕ) × IsPlace table (slice_index_or keys number no_key) number at
   pub taken : sum_by (λ slot. min slot.held 1) table ≡ length keys
 
 -- names of bytes

@@ -22,7 +22,8 @@ use texts::Texts;
 /// As many names may be held.
 pub const MOST_NAMES: u32 = 1_048_576;
 
-/// Names, each with a number: the first name has the number 0, and each new one the next. A name keeps its number.
+/// Names, each with a number: the first name has the number 0, and each new one the next. A name keeps its
+/// number.
 ///
 /// Each name is stored once, behind the one before, and is found by its key.
 #[derive(Debug, Drop)]

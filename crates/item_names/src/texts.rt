@@ -26,7 +26,8 @@ impl Model for Texts {
 
     ghost view = { λ t. names_in t.ends.items t.bytes.items };
 
-    ghost invariant = { λ t. (length t.ends.items ≤ most_items) × AreCut t.ends.items (length t.bytes.items) };
+    ghost invariant = { λ t. (length t.ends.items ≤ most_items)
+        × AreCut t.ends.items (length t.bytes.items) };
 }
 
 impl Texts {

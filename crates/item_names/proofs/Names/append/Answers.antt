@@ -1,8 +1,8 @@
-use Rattle.std.proofs.Common.{◌≡◌, [], ◌∷◌, ◌++◌, List, ℕ, map, length, subst, sym, ap, ◌∙◌, arith}
+use Rattle.std.proofs.Common.{◌≡◌, [], ◌∷◌, ◌++◌, map, subst, sym, ap, ◌∙◌, arith}
 use Rattle.std.proofs.lemmas.List.{map_push, length-map}
 use Rattle.mine_model.specs.Names.{AreDistinct}
 use Rattle.mine_model.proofs.ListLemmas.{of_both}
-use Rattle.item_names.specs.Table.{key_of, AreBytes, IsTable}
+use Rattle.item_names.specs.Table.{key_of, AreBytes}
 use Rattle.item_names.proofs.KeyLemmas.{AreBytes-from}
 use Rattle.item_names.proofs.NamesLemmas.{AreDistinct-push}
 use Rattle.item_names.proofs.Names.append.Goals as goal

@@ -1,4 +1,4 @@
-use Rattle.std.proofs.Common.{◌≡◌, Some, inl, refl, subst, sym, ap, ◌∙◌, List, ℕ}
+use Rattle.std.proofs.Common.{inl, refl, subst, ap, ◌∙◌, List, ℕ}
 use Rattle.std.specs.List.{Contains, slice_get}
 use Rattle.item_names.proofs.TableLemmas.{is_held, stands_last}
 use Rattle.item_names.proofs.Names.intern.Goals as goal

@@ -1,13 +1,11 @@
-use Rattle.std.proofs.Common.{◌≡◌, ◌≢◌, ◌<◌, ℕ, List, [], ◌∷◌, ◌++◌, inl, inr, refl, sym, ap, ◌∙◌, subst, arith, take, get_or, length, Err}
-use Rattle.std.specs.List.{Contains, slice_range}
+use Rattle.std.proofs.Common.{◌≡◌, ℕ, List, ◌++◌, inl, inr, refl, ap, subst, take, Err}
 use Rattle.std.proofs.lemmas.List.Elements.{Contains-append_left, Contains-append_right, Contains-append_cases}
 use Rattle.mine_model.specs.declared.names_fault.NamesFault.TheVariants.{TooMany}
 use Rattle.mine_model.specs.Limits.{most_items}
-use Rattle.mine_model.specs.Names.{GrowBy, AreDistinct}
-use Rattle.mine_model.specs.Refusal.{HasMoreNames}
+use Rattle.mine_model.specs.Names.{AreDistinct}
 use Rattle.mine_model.proofs.NameLemmas.{GrowBy-none, GrowBy-more, more_names}
 use Rattle.item_names.proofs.Growing.{GrowBy-interned}
-use Rattle.item_names.specs.Fields.{texts_at, AreItemsOf}
+use Rattle.item_names.specs.Fields.{texts_at}
 use Rattle.item_names.proofs.FieldLemmas.{texts_at-more, texts_at-front, texts_at-at, AreItemsOf-more}
 use Rattle.item_names.proofs.Names.intern_fields.Goals as goal
 

@@ -1,4 +1,4 @@
-use Rattle.std.proofs.Common.{◌≡◌, ◌≤◌, ◌<◌, ◌/◌, ◌^◌, ◌-◌, ◌*◌, ℕ, length, arith}
+use Rattle.std.proofs.Common.{◌<◌, ◌/◌, ◌^◌, ◌-◌, ◌*◌, length, arith}
 use Rattle.item_names.proofs.KeyLemmas.{number_of-both, AreBytes-from, div-le}
 use Rattle.item_names.proofs.keys.word_of.Goals as goal
 

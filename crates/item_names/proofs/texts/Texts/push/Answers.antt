@@ -1,5 +1,4 @@
-use Rattle.std.proofs.Common.{◌≡◌, ◌+◌, ◌<◌, [], ◌∷◌, ◌++◌, length, ap, arith, length-append}
-use Rattle.mine_model.specs.Ancestry.{AreCut}
+use Rattle.std.proofs.Common.{◌≡◌, ◌+◌, ◌<◌, [], ◌∷◌, ◌++◌, length, ap, arith}
 use Rattle.mine_model.proofs.AncestryLemmas.{cut-more}
 use Rattle.std.proofs.lemmas.List.{length_push}
 use Rattle.item_names.proofs.TextLemmas.{length-names_in, names_in-push}

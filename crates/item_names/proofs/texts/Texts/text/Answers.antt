@@ -1,7 +1,7 @@
 use Rattle.std.proofs.Common.{◌≡◌, ◌<◌, ◌≤◌, [], length, sym, ap, ◌∙◌, arith, rules}
-use Rattle.std.specs.List.{slice_range, slice_index}
+use Rattle.std.specs.List.{slice_index}
 use Rattle.std.proofs.lemmas.List.{get_or_default}
-use Rattle.mine_model.specs.Ancestry.{start_of, list_at}
+use Rattle.mine_model.specs.Ancestry.{start_of}
 use Rattle.mine_model.specs.Names.{name_of}
 use Rattle.mine_model.proofs.AncestryLemmas.{end_within}
 use Rattle.item_names.proofs.TextLemmas.{length-names_in, name_in, name_read}
