@@ -4,7 +4,7 @@ use Rattle.item_names.specs.declared.keys.Key.{Key}
 use Rattle.item_names.specs.declared.table.Slot.{Slot}
 use Rattle.item_names.specs.declared.table.Outcome.{Outcome}
 use Rattle.item_names.specs.declared.table.Outcome.TheVariants.{Held, Free, Passed}
-use Rattle.item_names.specs.Table.{home_of, slot_at, IsMet}
+use Rattle.item_names.specs.Table.{slot_at, IsReached}
 
 -- the slot is taken by another name
 pub record IsOther (names : List (List ℕ)) (name : List ℕ) (slot : Slot) : Type 0 where
@@ -27,5 +27,4 @@ Ends names slots name from to Passed = AreOthers names slots name from to
 pub record IsFirstFree (slots : List Slot) (key : Key) (at : ℕ) : Type 0 where
   pub within : at < length slots
   pub free : (slot_at slots at).held ≡ 0
-  pub first : (other : ℕ) → other < length slots → IsMet (home_of (length slots) key) at other
-      → 0 < (slot_at slots other).held
+  pub first : IsReached slots key at

@@ -42,12 +42,17 @@ pub record IsSlot (keys : List Key) (slot : Slot) : Type 0 where
   pub within : slot.held ≤ length keys
   pub key : 0 < slot.held → key_in slot ≡ slice_index_or keys (slot.held - 1) no_key
 
+-- a search for the key meets no free slot before this one
+abbrev pub IsReached : List Slot → Key → ℕ → Type 0
+IsReached slots key at =
+    (other : ℕ) → other < length slots → IsMet (home_of (length slots) key) at other
+    → 0 < (slot_at slots other).held
+
 -- the slot has the number of this name, and a search for its key meets no free slot before
 pub record IsPlace (slots : List Slot) (key : Key) (number at : ℕ) : Type 0 where
   pub within : at < length slots
   pub holds : (slot_at slots at).held ≡ number + 1
-  pub reached : (other : ℕ) → other < length slots → IsMet (home_of (length slots) key) at other
-      → 0 < (slot_at slots other).held
+  pub reached : IsReached slots key at
 
 -- each name with one of these keys has a slot, and no other slot is taken
 pub record IsTable (keys : List Key) (table : List Slot) : Type 0 where
