@@ -1,9 +1,9 @@
 -- Lemmas on the lines that were read, and on the first refusal.
-use Rattle.std.proofs.Common.{◌≡◌, ◌≢◌, ℕ, ◌+◌, ◌≤◌, ◌<◌, ◌⊎◌, inl, inr, Option, Some, None, IfSome, List, [], ◌∷◌, ◌++◌, map, length, get_or, refl, sym, ap, ◌∙◌, subst, arith, append_assoc, suc, add-zero}
-use Rattle.std.specs.List.{AllByRecursion, All, Contains, flat_map}
+use Rattle.std.proofs.Common.{◌≡◌, ◌≢◌, ℕ, ◌+◌, ◌≤◌, ◌<◌, inl, inr, List, [], ◌∷◌, ◌++◌, map, length, get_or, refl, sym, ap, ◌∙◌, subst, arith, append_assoc, suc, add-zero}
+use Rattle.std.specs.List.{AllByRecursion}
 use Rattle.std.proofs.lemmas.List.{append-nil, map-append, length-append}
 use Rattle.std.proofs.lemmas.List.Concat.{flat_map-append}
-use Rattle.std.proofs.lemmas.List.Elements.{Contains-append_left, Contains-append_right, Contains-append_cases, All-append, All-cons}
+use Rattle.std.proofs.lemmas.List.Elements.{All-append, All-cons}
 use Rattle.mine_model.specs.declared.item.Item.{Item}
 use Rattle.mine_model.specs.declared.fault.Fault.{Fault}
 use Rattle.mine_model.specs.declared.fault.Fault.TheVariants as fault
@@ -11,15 +11,15 @@ use Rattle.mine_model.specs.declared.fault.Which.TheVariants.{Hierarchy}
 use Rattle.mine_model.specs.declared.hierarchy_fault.HierarchyFault.{HierarchyFault}
 use Rattle.mine_model.specs.declared.hierarchy_fault.HierarchyFault.TheVariants.{ReadFault, TooLarge, BadByte, NameTooLong, TooManyItems, NoMemory}
 use Rattle.mine_model.specs.Faults.{fault_of_hierarchy}
-use Rattle.mine_model.specs.First.{FirstOf, FirstAmong}
+use Rattle.mine_model.specs.First.{FirstAmong}
 use Rattle.mine_model.specs.Hierarchy.{PlacedLink}
 use Rattle.mine_model.specs.Limits.{most_file_bytes, most_items}
-use Rattle.mine_model.specs.Text.{lines_of, fields_of, TextFault, bad_byte, long_name, IsFirstTextFault, IsSoundLine}
+use Rattle.mine_model.specs.Text.{lines_of, fields_of, bad_byte, long_name, IsSoundLine}
 use Rattle.mine_model.specs.Names.{name_of, HasName, link_by, GrowBy}
-use Rattle.mine_model.specs.Refusal.{IsTextRefusal, HasMoreNames, names_of, links_of_line, links_from, placed_links_of}
+use Rattle.mine_model.specs.Refusal.{IsTextRefusal, HasMoreNames, names_of, links_of_line, links_from}
 use Rattle.mine_model.proofs.NameLemmas.{GrowBy-none, GrowBy-more, no_more_names, name_of-grown, HasName-grown}
 use Rattle.item_names.proofs.Growing.{HasMoreNames-grown}
-use Rattle.text_ports.specs.Lines.{WereRead, WasGiven, TookAll, StoppedAt, Refused}
+use Rattle.text_ports.specs.Lines.{WasGiven, TookAll, StoppedAt, Refused}
 use Rattle.item_hierarchy.specs.declared.edges.EdgeRow.{EdgeRow}
 use Rattle.item_hierarchy.specs.declared.reading.Reading.{Reading}
 use Rattle.item_hierarchy.specs.Edges.{link_of, AreWithin, named_rows}

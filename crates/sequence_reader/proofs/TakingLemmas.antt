@@ -1,9 +1,8 @@
 -- Lemmas on the lines that were read, and on the first refusal.
-use Rattle.std.proofs.Common.{◌≡◌, ◌≢◌, ℕ, ◌+◌, ◌≤◌, ◌<◌, ◌⊎◌, inl, inr, Option, Some, None, IfSome, Bool, List, [], ◌∷◌, ◌++◌, map, length, refl, sym, ap, ◌∙◌, subst, arith, append_assoc}
-use Rattle.std.specs.List.{AllByRecursion, Contains, flat_map}
+use Rattle.std.proofs.Common.{◌≡◌, ◌≢◌, ℕ, ◌+◌, ◌≤◌, ◌<◌, inl, inr, Bool, List, [], ◌∷◌, ◌++◌, map, length, refl, sym, ap, ◌∙◌, subst, arith, append_assoc}
+use Rattle.std.specs.List.{AllByRecursion}
 use Rattle.std.proofs.lemmas.List.{append-nil, map-append, length-map}
 use Rattle.std.proofs.lemmas.List.Concat.{flat_map-append}
-use Rattle.std.proofs.lemmas.List.Elements.{Contains-append_left, Contains-append_right, Contains-append_cases, Contains-get_or}
 use Rattle.mine_model.specs.declared.item.Item.{Item}
 use Rattle.mine_model.specs.declared.fault.Fault.{Fault}
 use Rattle.mine_model.specs.declared.fault.Fault.TheVariants as fault
@@ -11,18 +10,18 @@ use Rattle.mine_model.specs.declared.fault.Which.TheVariants.{Sequences}
 use Rattle.mine_model.specs.declared.sequence_fault.SequenceFault.{SequenceFault}
 use Rattle.mine_model.specs.declared.sequence_fault.SequenceFault.TheVariants.{ReadFault, TooLarge, BadByte, NameTooLong, TooManySequences, BadWeight, TooLong, TooManyItems, NoMemory}
 use Rattle.mine_model.specs.Faults.{fault_of_sequences}
-use Rattle.mine_model.specs.First.{FirstOf, FirstAmong}
+use Rattle.mine_model.specs.First.{FirstAmong}
 use Rattle.mine_model.specs.Limits.{most_file_bytes, most_items}
-use Rattle.mine_model.specs.Text.{lines_of, fields_of, placed_fields_of, TextFault, bad_byte, long_name, IsFirstTextFault, IsSoundLine}
+use Rattle.mine_model.specs.Text.{lines_of, fields_of, placed_fields_of, bad_byte, long_name, IsSoundLine}
 use Rattle.mine_model.specs.Support.{Sequence}
 use Rattle.mine_model.specs.Names.{name_of, HasName, sequence_by, GrowBy}
 use Rattle.mine_model.specs.Refusal.{IsTextRefusal, HasMoreNames, sequence_of, sequences_of_lines, items_of, IsBadWeight, IsSequenceLineRefusal, IsSequencesRefusal}
 use Rattle.mine_model.proofs.ListLemmas.{of_both}
 use Rattle.mine_model.proofs.NameLemmas.{GrowBy-none, GrowBy-more, no_more_names}
 use Rattle.item_names.proofs.Growing.{HasMoreNames-grown}
-use Rattle.text_ports.specs.Lines.{WereRead, WasGiven, TookAll, StoppedAt, Refused}
+use Rattle.text_ports.specs.Lines.{WasGiven, TookAll, StoppedAt, Refused}
 use Rattle.sequence_reader.specs.declared.reading.Reading.{Reading}
-use Rattle.sequence_reader.specs.Taking.{said_to, IsWeighed, TookLine, IsLineFault, RefusedLine, IsTaken}
+use Rattle.sequence_reader.specs.Taking.{said_to, TookLine, IsLineFault, RefusedLine, IsTaken}
 use Rattle.item_names.proofs.FieldLemmas.{map-name_of-grown, AllNamed-grown}
 
 pub IsTaken-start : (reading : Reading) → length reading.names ≤ most_items → reading.db ≡ [] → IsTaken reading.names reading.weighted [] reading

@@ -1,4 +1,4 @@
-use Rattle.std.proofs.Common.{◌≡◌, ap, sym, ◌∙◌, subst, Err, IfSome, List, ℕ}
+use Rattle.std.proofs.Common.{◌≡◌, ap, sym, ◌∙◌, subst, Err, IfSome}
 use Rattle.mine_model.specs.declared.sequence_fault.SequenceFault.{SequenceFault}
 use Rattle.mine_model.specs.declared.sequence_fault.SequenceFault.TheVariants.{BadByte, NameTooLong}
 use Rattle.mine_model.specs.Text.{lines_of}

@@ -1,4 +1,4 @@
-use Rattle.std.proofs.Common.{◌≡◌, ℕ, ap, ◌∙◌, List, true, length}
+use Rattle.std.proofs.Common.{ℕ, ap, ◌∙◌, List, true, length}
 use Rattle.std.proofs.lemmas.List.Elements.{All-rest}
 use Rattle.mine_model.specs.Text.{fields_of}
 use Rattle.mine_model.specs.Support.{Sequence}
