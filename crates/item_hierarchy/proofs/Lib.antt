@@ -2,5 +2,4 @@ pub mod ByChildLemmas
 pub mod WalkingLemmas
 pub mod GatheringLemmas
 pub mod ClosingLemmas
-pub mod TextLemmas
 pub mod TakingLemmas

@@ -1,9 +1,9 @@
 -- Lemmas on the lines that were read, and on the first refusal.
-use Rattle.std.proofs.Common.{◌≡◌, ◌≢◌, ℕ, ◌+◌, ◌≤◌, ◌<◌, ◌⊎◌, inl, inr, Option, Some, None, IfSome, List, [], ◌∷◌, ◌++◌, map, length, get_or, refl, sym, ap, ◌∙◌, subst, arith, append_assoc, suc, add-zero}
-use Rattle.std.specs.List.{AllByRecursion, All, Contains, flat_map}
+use Rattle.std.proofs.Common.{◌≡◌, ◌≢◌, ℕ, ◌+◌, ◌≤◌, ◌<◌, inl, inr, List, [], ◌∷◌, ◌++◌, map, length, get_or, refl, sym, ap, ◌∙◌, subst, arith, append_assoc, suc, add-zero}
+use Rattle.std.specs.List.{AllByRecursion}
 use Rattle.std.proofs.lemmas.List.{append-nil, map-append, length-append}
 use Rattle.std.proofs.lemmas.List.Concat.{flat_map-append}
-use Rattle.std.proofs.lemmas.List.Elements.{Contains-append_left, Contains-append_right, Contains-append_cases, All-append, All-cons}
+use Rattle.std.proofs.lemmas.List.Elements.{All-append, All-cons}
 use Rattle.mine_model.specs.declared.item.Item.{Item}
 use Rattle.mine_model.specs.declared.fault.Fault.{Fault}
 use Rattle.mine_model.specs.declared.fault.Fault.TheVariants as fault
@@ -11,19 +11,20 @@ use Rattle.mine_model.specs.declared.fault.Which.TheVariants.{Hierarchy}
 use Rattle.mine_model.specs.declared.hierarchy_fault.HierarchyFault.{HierarchyFault}
 use Rattle.mine_model.specs.declared.hierarchy_fault.HierarchyFault.TheVariants.{ReadFault, TooLarge, BadByte, NameTooLong, TooManyItems, NoMemory}
 use Rattle.mine_model.specs.Faults.{fault_of_hierarchy}
-use Rattle.mine_model.specs.First.{FirstOf, FirstAmong}
+use Rattle.mine_model.specs.First.{FirstAmong}
 use Rattle.mine_model.specs.Hierarchy.{PlacedLink}
 use Rattle.mine_model.specs.Limits.{most_file_bytes, most_items}
-use Rattle.mine_model.specs.Text.{lines_of, fields_of, TextFault, bad_byte, long_name, IsFirstTextFault, IsSoundLine}
+use Rattle.mine_model.specs.Text.{lines_of, fields_of, bad_byte, long_name, IsSoundLine}
 use Rattle.mine_model.specs.Names.{name_of, HasName, link_by, GrowBy}
-use Rattle.mine_model.specs.Refusal.{IsTextRefusal, HasMoreNames, names_of, links_of_line, links_from, placed_links_of}
+use Rattle.mine_model.specs.Refusal.{IsTextRefusal, HasMoreNames, names_of, links_of_line, links_from}
 use Rattle.mine_model.proofs.NameLemmas.{GrowBy-none, GrowBy-more, no_more_names, name_of-grown, HasName-grown}
-use Rattle.text_ports.specs.Lines.{WereRead, WasGiven, TookAll, StoppedAt, Refused}
+use Rattle.item_names.proofs.Growing.{HasMoreNames-grown}
+use Rattle.text_ports.specs.Lines.{WasGiven, TookAll, StoppedAt, Refused}
 use Rattle.item_hierarchy.specs.declared.edges.EdgeRow.{EdgeRow}
 use Rattle.item_hierarchy.specs.declared.reading.Reading.{Reading}
 use Rattle.item_hierarchy.specs.Edges.{link_of, AreWithin, named_rows}
 use Rattle.item_hierarchy.specs.Refusing.{IsLineRefusal, IsReadRefusal}
-use Rattle.item_hierarchy.specs.Texts.{AreItemsOf}
+use Rattle.item_names.specs.Fields.{AreItemsOf}
 use Rattle.item_hierarchy.specs.Taking.{rows_of_line, TookLine, IsLineFault, RefusedLine, IsTaken}
 
 -- the row of a line that says this parent of the child
@@ -147,9 +148,6 @@ module _ (known : List (List ℕ)) where
 
   -- Why a line is refused
 
-  within_all : (n : ℕ) (names all : List (List ℕ)) → ((name : List ℕ) → Contains names name → Contains all name) → HasMoreNames n names → HasMoreNames n all
-  within_all n names all within (some, apart, inside, more) = (some, apart, (λ k d lt. within _ (inside k d lt)), more)
-
   line_refused : (lines : List (List ℕ)) (v : Reading) (text : List ℕ) (fault : HierarchyFault) → IsTaken known lines v → IsSoundLine text
       → IsLineFault v (length lines + 1) text fault → fault ≢ NoMemory → IsLineRefusal known lines text (fault_of_hierarchy fault)
   line_refused lines v text ReadFault taken sound why apart = absurd why
@@ -159,20 +157,8 @@ module _ (known : List (List ℕ)) where
   line_refused lines v text (TooManyItems line) taken sound why apart =
       inr (
         (λ other. no_text_fault _ text other sound),
-        (within_all most_items (v.names ++ fields_of text) _ (all_among lines v text taken) why.1, ap (fault.TooManyItems Hierarchy) why.0),
+        (subst (λ names. HasMoreNames most_items (known ++ names)) (sym (names_of-more lines text)) (HasMoreNames-grown most_items known (names_of lines) v.names (fields_of text) taken.grown why.1), ap (fault.TooManyItems Hierarchy) why.0),
       )
-    where
-      all_among : (lines : List (List ℕ)) (v : Reading) (text : List ℕ) → IsTaken known lines v → (name : List ℕ) → Contains (v.names ++ fields_of text) name
-          → Contains (known ++ names_of (lines ++ text ∷ [])) name
-      all_among lines v text taken name inside =
-          subst (λ w. Contains (known ++ w) name) (sym (names_of-more lines text))
-          (elim (Contains-append_cases v.names (fields_of text) name inside) [
-            | inl held ↦ elim (Contains-append_cases known (names_of lines) name ((taken.grown.exact name).0 held)) [
-              | inl old ↦ Contains-append_left known _ name old
-              | inr met ↦ Contains-append_right known _ name (Contains-append_left (names_of lines) (fields_of text) name met)
-            ]
-            | inr new ↦ Contains-append_right known _ name (Contains-append_right (names_of lines) (fields_of text) name new)
-          ])
   line_refused lines v text NoMemory taken sound why apart = absurd (apart refl)
 
 -- The whole file
@@ -229,15 +215,3 @@ module _ (reading after : Reading) (room : length reading.names ≤ most_items) 
         taken.grown.added ++ refusal.answer.added,
         refusal.answer.kept ∙ ap (λ w. w ++ refusal.answer.added) taken.grown.behind ∙ append_assoc reading.names taken.grown.added refusal.answer.added,
       )
-
--- why the names of a line are refused
-pub name_refused : (v : Reading) (n : ℕ) (text : List ℕ) (texts : List (List ℕ)) (why : HierarchyFault) → fields_of text ≡ texts
-    → (why ≡ NoMemory) ⊎ ((why ≡ TooManyItems n) × HasMoreNames most_items (v.names ++ texts)) → IsLineFault v n text why
-name_refused v n text texts why said (inl none) = subst (IsLineFault v n text) (sym none) tt
-name_refused v n text texts why said (inr (many, more)) =
-    subst (IsLineFault v n text) (sym many) (refl, subst (λ texts. HasMoreNames most_items (v.names ++ texts)) (sym said) more)
-
--- what holds of the bytes that were read holds of those that are told
-pub of_told : (told : Option (List ℕ)) (P : List ℕ → Type 0) (bytes : List ℕ) → WereRead told bytes → P bytes → IfSome told P
-of_told None P bytes read p = tt
-of_told (Some held) P bytes read p = subst P read.same p

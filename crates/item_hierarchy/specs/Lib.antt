@@ -5,5 +5,4 @@ pub mod Refusing
 pub mod ByChild
 pub mod Walking
 pub mod Gathering
-pub mod Texts
 pub mod Taking

@@ -5,7 +5,6 @@ mod ancestors;
 mod by_child;
 mod closing;
 mod edges;
-mod naming;
 mod reading;
 mod walk;
 

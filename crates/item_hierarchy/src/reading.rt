@@ -12,9 +12,8 @@ ghost use Rattle.item_hierarchy.specs.Refusing.{IsReadRefusal};
 ghost use Rattle.item_hierarchy.specs.Taking.{TookLine, RefusedLine, IsTaken, rows_of_line};
 
 use super::edges::{EdgeRow, Edges};
-use super::naming::name_items;
 use item_names::{MOST_NAMES, Names};
-use mine_model::{HierarchyFault, Item, NoMemory};
+use mine_model::{HierarchyFault, Item, NamesFault, NoMemory};
 use std::alloc::Global;
 use std::mem;
 use text_ports::{Files, LineVisitor, Span, TextFault, read_lines};
@@ -36,8 +35,10 @@ impl LineVisitor for Reading {
 
     fn line(&mut self, number: u64, text: &[u8], fields: &[Span]) -> Result<(), HierarchyFault> {
         let items = &mut self.items;
-        if let Err(fault) = name_items(&mut self.names, number, text, fields, items) {
-            return Err(fault);
+        match self.names.intern_fields(text, fields, items) {
+            Ok(()) => {}
+            Err(NamesFault::TooMany) => return Err(HierarchyFault::TooManyItems { line: number }),
+            Err(NamesFault::NoMemory) => return Err(HierarchyFault::NoMemory),
         }
         add_rows(&mut self.rows, items.as_slice(), number)?;
         Ok(())

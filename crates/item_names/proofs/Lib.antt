@@ -1,2 +1,6 @@
-pub mod NamesLemmas
 pub mod Growing
+pub mod FieldLemmas
+mod KeyLemmas
+mod NamesLemmas
+mod TableLemmas
+mod TextLemmas

@@ -1,1 +1,7 @@
+-- the words of the promise
 pub mod Names
+pub mod Fields
+-- what the proofs keep
+pub mod Texts
+pub mod Table
+pub mod Searching

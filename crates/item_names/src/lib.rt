@@ -1,15 +1,23 @@
 //! Names and their numbers, one to one.
 #![tactic(auto)]
 
+mod fields;
+mod keys;
+mod table;
+mod texts;
+
 ghost use Rattle.std.specs.Prelude.{◌≡◌, ◌≤◌, ◌<◌, ◌↔◌, List, [], ◌∷◌, ◌++◌, length, slice_get, Contains, IsOk, IsNone, IfOk, IfSome, OnOk, OnErr};
 ghost use Rattle.mine_model.specs.Limits.{most_items};
 ghost use Rattle.mine_model.specs.Names.{name_of, AreDistinct};
 ghost use Rattle.item_names.specs.Names.{IsInterned};
+ghost use Rattle.item_names.specs.Table.{key_of};
 
-use indexmap::IndexSet;
+use keys::{Key, key_of};
 use mine_model::{Item, NamesFault, NoMemory};
 use std::alloc::Global;
 use std::marker::Model;
+use table::{Slot, find, make_room, place};
+use texts::Texts;
 
 /// As many names may be held.
 pub const MOST_NAMES: u32 = 1_048_576;
@@ -17,23 +25,25 @@ pub const MOST_NAMES: u32 = 1_048_576;
 /// Names, each with a number: the first name has the number 0, and each new one the next. A name keeps its
 /// number.
 ///
-/// Each name is stored once, and is found by its hash.
+/// Each name is stored once, behind the one before, and is found by its key.
 #[derive(Debug, Drop)]
 pub struct Names {
-    names: IndexSet<Vec<u8>>,
+    texts: Texts,
+    slots: Vec<Slot>,
 }
 
 impl Model for Names {
-    ghost use Rattle.std.specs.Prelude.{List, ℕ, ◌≤◌, map, length};
-    ghost use Rattle.mine_model.specs.Limits.{most_items};
+    ghost use Rattle.std.specs.Prelude.{List, ℕ, map};
+    ghost use Rattle.std.specs.List.{AllByRecursion};
     ghost use Rattle.mine_model.specs.Names.{AreDistinct};
+    ghost use Rattle.item_names.specs.Table.{key_of, AreBytes, IsTable};
 
     ghost Value = { List (List ℕ) };
 
-    ghost view = { λ n. map (λ name. name.items) n.names.keys };
+    ghost view = { λ n. n.texts };
 
-    ghost invariant = { λ n. (length n.names.keys ≤ most_items) × AreDistinct (map
-        (λ name. name.items) n.names.keys) };
+    ghost invariant = { λ n. AreDistinct n.texts × AllByRecursion AreBytes n.texts
+        × IsTable (map key_of n.texts) n.slots.items };
 }
 
 impl Names {
@@ -42,7 +52,8 @@ impl Names {
         ensures { IfOk result (λ names. names ≡ []) }
     {
         Ok(Names {
-            names: IndexSet::new(alloc),
+            texts: Texts::new(alloc),
+            slots: Vec::new(alloc),
         })
     }
 
@@ -57,31 +68,33 @@ impl Names {
             ↔ ((length self.old ≡ most_items) × ¬ Contains self.old name.now) }
         ensures err { OnErr result (self.new ≡ self.old) }
     {
-        let count = self.count();
-        if let Some(item) = self.find(name) {
+        let key = key_of(name);
+        if let Some(item) = find(&self.texts, self.slots.as_slice(), key, name) {
             return Ok(item);
         }
-        if count == MOST_NAMES {
+        if self.texts.count() == MOST_NAMES {
             return Err(NamesFault::TooMany);
         }
-        match self.append(name) {
+        match self.append(key, name) {
             Ok(item) => Ok(item),
             Err(NoMemory) => Err(NamesFault::NoMemory),
         }
     }
 
     // Gives a new name the next number.
-    fn append(&mut self, name: &[u8]) -> Result<Item, NoMemory>
+    fn append(&mut self, key: Key, name: &[u8]) -> Result<Item, NoMemory>
         requires new { ¬ Contains self.old name.now }
+        requires key { key ≡ key_of name.now }
         requires room { length self.old < most_items }
         ensures number { IfOk result (λ item. item.0 ≡ length self.old) }
         ensures names { OnOk result (self.new ≡ self.old ++ name.now ∷ []) }
         ensures distinct { AreDistinct self.new }
         ensures err { OnErr result (self.new ≡ self.old) }
     {
-        let number = self.names.len() as u32;
-        let owned = Vec::from_slice(*self.names.allocator(), name)?;
-        self.names.insert(owned)?;
+        let number = self.texts.count();
+        make_room(&self.texts, &mut self.slots)?;
+        self.texts.push(name)?;
+        place(&mut self.slots, key, number);
         Ok(Item(number))
     }
 
@@ -90,8 +103,7 @@ impl Names {
         ensures none { IsNone result ↔ ¬ Contains self.now name.now }
         ensures number { IfSome result (λ item. slice_get self.now item.0 ≡ Some name.now) }
     {
-        let index = self.names.get_index_of(name)?;
-        Some(Item(index as u32))
+        find(&self.texts, self.slots.as_slice(), key_of(name), name)
     }
 
     /// The name with a number. Takes no memory.
@@ -99,7 +111,7 @@ impl Names {
         requires { item.0 < length self.now }
         ensures { result.now ≡ name_of self.now item }
     {
-        self.names.as_slice()[item.0 as usize].as_slice()
+        self.texts.text(item)
     }
 
     /// How many names are held. Takes no memory.
@@ -108,7 +120,7 @@ impl Names {
         ensures most { result ≤ most_items }
         ensures distinct { AreDistinct self.now }
     {
-        self.names.len() as u32
+        self.texts.count()
     }
 }
 

@@ -1,4 +1,5 @@
 use super::*;
+use std::alloc::{AllocError, Global};
 use std::test::Fail;
 
 #[test]
@@ -24,5 +25,55 @@ fn holds_as_many_names_as_it_says(rt: HostRuntime) -> Result<(), Fail> {
     }
     assert_eq!(rt; names.intern(b"one more"), Err(NamesFault::TooMany));
     assert_eq!(rt; names.count(), 1_048_576);
+    Ok(())
+}
+
+// A number of any size, as text.
+fn numbered(alloc: Global, number: u32) -> Result<String, AllocError> {
+    format!(in alloc; "n{number}")
+}
+
+// Names whose searches all begin at one slot, in a table of up to 256 slots.
+fn crowd(alloc: Global) -> Result<Vec<String>, AllocError> {
+    let mut crowd = Vec::new(alloc);
+    for number in 0..20_000 {
+        let name = numbered(alloc, number)?;
+        if key_of(name.as_bytes()).mixed() & 255 == 7 {
+            crowd.push(name)?;
+        }
+    }
+    Ok(crowd)
+}
+
+#[test]
+fn names_that_begin_at_one_slot_are_told_apart(rt: HostRuntime) -> Result<(), Fail> {
+    let crowd = crowd(rt.alloc())?;
+    assert!(rt; crowd.len() > 40);
+    let mut names = Names::new(rt.alloc())?;
+    for (number, name) in (0..1_000u32).zip(crowd.iter()) {
+        assert_eq!(rt; names.find(name.as_bytes()), None);
+        assert_eq!(rt; names.intern(name.as_bytes())?, Item(number));
+    }
+    for (number, name) in (0..1_000u32).zip(crowd.iter()) {
+        assert_eq!(rt; names.intern(name.as_bytes())?, Item(number));
+        assert_eq!(rt; names.text(Item(number)), name.as_bytes());
+    }
+    assert_eq!(rt; names.find(b"n"), None);
+    Ok(())
+}
+
+#[test]
+fn each_name_is_accepted_at_every_size(rt: HostRuntime) -> Result<(), Fail> {
+    let mut names = Names::new(rt.alloc())?;
+    for number in 0..3_000u32 {
+        let name = numbered(rt.alloc(), number)?;
+        assert_eq!(rt; names.intern(name.as_bytes())?, Item(number));
+    }
+    for number in 0..3_000u32 {
+        let name = numbered(rt.alloc(), number)?;
+        assert_eq!(rt; names.find(name.as_bytes()), Some(Item(number)));
+    }
+    assert_eq!(rt; names.intern(b"")?, Item(3_000));
+    assert_eq!(rt; names.text(Item(3_000)), b"".as_slice());
     Ok(())
 }

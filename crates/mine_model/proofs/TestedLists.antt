@@ -1,7 +1,7 @@
 -- A test of lists that passes only for the ancestor lists of a hierarchy. It computes at lists that are written out,
 -- as those of a crate's tests are: there `AreAncestorLists-tested ends lists refl` is the proof.
 use Rattle.std.proofs.Common.{◌≡◌, ℕ, zero, suc, ◌<◌, inl, inr, Bool, true, false, ◌&&◌, ◌||◌, not, eqb, ltb, leb, List, [], ◌∷◌, length, get_or, refl, ap, ◌∙◌, arith}
-use Rattle.std.specs.List.{list_any, slice_index, Contains}
+use Rattle.std.specs.List.{slice_index, Contains}
 use Rattle.std.proofs.lemmas.Bool.{false≢true, eqb-true, eq-eqb, leb-true, ltb-true, cases_eq}
 use Rattle.std.proofs.lemmas.List.Elements.{Contains-get_or}
 use Rattle.mine_model.specs.declared.item.Item.{Item}

@@ -1,3 +1,2 @@
 pub mod WeightLemmas
-pub mod TextLemmas
 pub mod TakingLemmas

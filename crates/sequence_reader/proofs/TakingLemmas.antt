@@ -1,9 +1,8 @@
 -- Lemmas on the lines that were read, and on the first refusal.
-use Rattle.std.proofs.Common.{◌≡◌, ◌≢◌, ℕ, ◌+◌, ◌≤◌, ◌<◌, ◌⊎◌, inl, inr, Option, Some, None, IfSome, Bool, List, [], ◌∷◌, ◌++◌, map, length, refl, sym, ap, ◌∙◌, subst, arith, append_assoc}
-use Rattle.std.specs.List.{AllByRecursion, Contains, flat_map}
+use Rattle.std.proofs.Common.{◌≡◌, ◌≢◌, ℕ, ◌+◌, ◌≤◌, ◌<◌, inl, inr, Bool, List, [], ◌∷◌, ◌++◌, map, length, refl, sym, ap, ◌∙◌, subst, arith, append_assoc}
+use Rattle.std.specs.List.{AllByRecursion}
 use Rattle.std.proofs.lemmas.List.{append-nil, map-append, length-map}
 use Rattle.std.proofs.lemmas.List.Concat.{flat_map-append}
-use Rattle.std.proofs.lemmas.List.Elements.{Contains-append_left, Contains-append_right, Contains-append_cases, Contains-get_or}
 use Rattle.mine_model.specs.declared.item.Item.{Item}
 use Rattle.mine_model.specs.declared.fault.Fault.{Fault}
 use Rattle.mine_model.specs.declared.fault.Fault.TheVariants as fault
@@ -11,18 +10,19 @@ use Rattle.mine_model.specs.declared.fault.Which.TheVariants.{Sequences}
 use Rattle.mine_model.specs.declared.sequence_fault.SequenceFault.{SequenceFault}
 use Rattle.mine_model.specs.declared.sequence_fault.SequenceFault.TheVariants.{ReadFault, TooLarge, BadByte, NameTooLong, TooManySequences, BadWeight, TooLong, TooManyItems, NoMemory}
 use Rattle.mine_model.specs.Faults.{fault_of_sequences}
-use Rattle.mine_model.specs.First.{FirstOf, FirstAmong}
+use Rattle.mine_model.specs.First.{FirstAmong}
 use Rattle.mine_model.specs.Limits.{most_file_bytes, most_items}
-use Rattle.mine_model.specs.Text.{lines_of, fields_of, placed_fields_of, TextFault, bad_byte, long_name, IsFirstTextFault, IsSoundLine}
+use Rattle.mine_model.specs.Text.{lines_of, fields_of, placed_fields_of, bad_byte, long_name, IsSoundLine}
 use Rattle.mine_model.specs.Support.{Sequence}
 use Rattle.mine_model.specs.Names.{name_of, HasName, sequence_by, GrowBy}
 use Rattle.mine_model.specs.Refusal.{IsTextRefusal, HasMoreNames, sequence_of, sequences_of_lines, items_of, IsBadWeight, IsSequenceLineRefusal, IsSequencesRefusal}
 use Rattle.mine_model.proofs.ListLemmas.{of_both}
 use Rattle.mine_model.proofs.NameLemmas.{GrowBy-none, GrowBy-more, no_more_names}
-use Rattle.text_ports.specs.Lines.{WereRead, WasGiven, TookAll, StoppedAt, Refused}
+use Rattle.item_names.proofs.Growing.{HasMoreNames-grown}
+use Rattle.text_ports.specs.Lines.{WasGiven, TookAll, StoppedAt, Refused}
 use Rattle.sequence_reader.specs.declared.reading.Reading.{Reading}
-use Rattle.sequence_reader.specs.Taking.{said_to, IsWeighed, TookLine, IsLineFault, RefusedLine, IsTaken}
-use Rattle.sequence_reader.proofs.TextLemmas.{map-name_of-grown, AllNamed-grown}
+use Rattle.sequence_reader.specs.Taking.{said_to, TookLine, IsLineFault, RefusedLine, IsTaken}
+use Rattle.item_names.proofs.FieldLemmas.{map-name_of-grown, AllNamed-grown}
 
 pub IsTaken-start : (reading : Reading) → length reading.names ≤ most_items → reading.db ≡ [] → IsTaken reading.names reading.weighted [] reading
 IsTaken-start reading room empty = record {
@@ -133,9 +133,6 @@ module _ (known : List (List ℕ)) (weighted : Bool) where
 
   -- Why a line is refused
 
-  within_all : (n : ℕ) (names all : List (List ℕ)) → ((name : List ℕ) → Contains names name → Contains all name) → HasMoreNames n names → HasMoreNames n all
-  within_all n names all within (some, apart, inside, more) = (some, apart, (λ k d lt. within _ (inside k d lt)), more)
-
   line_refused : (lines : List (List ℕ)) (v : Reading) (text : List ℕ) (fault : SequenceFault) → IsTaken known weighted lines v → IsSoundLine text
       → IsLineFault v (length lines + 1) text fault → fault ≢ NoMemory → IsSequenceLineRefusal weighted known lines text (fault_of_sequences fault)
   line_refused lines v text ReadFault taken sound why apart = absurd why
@@ -179,23 +176,11 @@ module _ (known : List (List ℕ)) (weighted : Bool) where
             (λ other bad. why.2 bad.0 (subst (λ b. IsBadWeight b (placed_fields_of text) bad.0) (sym taken.same) bad.1)),
             inr (
               (λ other long. let over = long.0 in omega (arith, short, over)),
-              (within_all most_items (v.names ++ (sequence_of weighted (fields_of text)).items) _ (all_among lines v text taken) more, ap (fault.TooManyItems Sequences) why.0),
+              (subst (λ names. HasMoreNames most_items (known ++ names)) (sym (items_of-more weighted lines text)) (HasMoreNames-grown most_items known (items_of (sequences_of_lines weighted lines)) v.names (sequence_of weighted (fields_of text)).items taken.grown more), ap (fault.TooManyItems Sequences) why.0),
             ),
           ),
         ),
       )
-    where
-      all_among : (lines : List (List ℕ)) (v : Reading) (text : List ℕ) → IsTaken known weighted lines v → (name : List ℕ) → Contains (v.names ++ (sequence_of weighted (fields_of text)).items) name
-          → Contains (known ++ items_of (sequences_of_lines weighted (lines ++ text ∷ []))) name
-      all_among lines v text taken name inside =
-          subst (λ w. Contains (known ++ w) name) (sym (items_of-more weighted lines text))
-          (elim (Contains-append_cases v.names (sequence_of weighted (fields_of text)).items name inside) [
-            | inl held ↦ elim (Contains-append_cases known (items_of (sequences_of_lines weighted lines)) name ((taken.grown.exact name).0 held)) [
-              | inl old ↦ Contains-append_left known _ name old
-              | inr met ↦ Contains-append_right known _ name (Contains-append_left (items_of (sequences_of_lines weighted lines)) (sequence_of weighted (fields_of text)).items name met)
-            ]
-            | inr new ↦ Contains-append_right known _ name (Contains-append_right (items_of (sequences_of_lines weighted lines)) (sequence_of weighted (fields_of text)).items name new)
-          ])
   line_refused lines v text NoMemory taken sound why apart = absurd (apart refl)
 
 -- The whole file
@@ -253,17 +238,3 @@ module _ (reading after : Reading) (room : length reading.names ≤ most_items) 
         taken.grown.added ++ refusal.answer.added,
         refusal.answer.kept ∙ ap (λ w. w ++ refusal.answer.added) taken.grown.behind ∙ append_assoc reading.names taken.grown.added refusal.answer.added,
       )
-
--- why the names of a line are refused
-pub name_refused : (v : Reading) (n : ℕ) (text : List ℕ) (texts : List (List ℕ)) (weight : ℕ) (why : SequenceFault) → length v.db < 4194304 → IsWeighed v text
-    → said_to v text ≡ record { items = texts; weight = weight } → length texts ≤ 65535
-    → (why ≡ NoMemory) ⊎ ((why ≡ TooManyItems n) × HasMoreNames most_items (v.names ++ texts)) → IsLineFault v n text why
-name_refused v n text texts weight why few weighed said short (inl none) = subst (IsLineFault v n text) (sym none) tt
-name_refused v n text texts weight why few weighed said short (inr (many, more)) =
-    subst (IsLineFault v n text) (sym many)
-    (refl, few, weighed, subst (λ (s : Sequence (List ℕ)). length s.items ≤ 65535) (sym said) short, subst (λ (s : Sequence (List ℕ)). HasMoreNames most_items (v.names ++ s.items)) (sym said) more)
-
--- what holds of the bytes that were read holds of those that are told
-pub of_told : (told : Option (List ℕ)) (P : List ℕ → Type 0) (bytes : List ℕ) → WereRead told bytes → P bytes → IfSome told P
-of_told None P bytes read p = tt
-of_told (Some held) P bytes read p = subst P read.same p

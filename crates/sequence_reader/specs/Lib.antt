@@ -1,3 +1,2 @@
 -- what the proofs keep
-pub mod Texts
 pub mod Taking

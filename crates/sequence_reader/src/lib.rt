@@ -1,7 +1,6 @@
 //! Reads a sequence file.
 #![tactic(auto)]
 
-mod naming;
 mod reading;
 mod weighing;
 

@@ -10,10 +10,9 @@ ghost use Rattle.text_ports.specs.Faults.{Rose};
 ghost use Rattle.text_ports.specs.Lines.{OfBytes};
 ghost use Rattle.sequence_reader.specs.Taking.{TookLine, RefusedLine, IsTaken};
 
-use super::naming::name_items;
 use super::weighing::weigh;
 use item_names::{MOST_NAMES, Names};
-use mine_model::{Db, Item, SequenceFault};
+use mine_model::{Db, Item, NamesFault, SequenceFault};
 use std::alloc::Global;
 use std::mem;
 use text_ports::{Files, LineVisitor, Span, TextFault, read_lines};
@@ -49,8 +48,10 @@ impl LineVisitor for Reading {
             return Err(SequenceFault::TooLong { line: number });
         }
         let items = &mut self.items;
-        if let Err(fault) = name_items(&mut self.names, number, text, line.items, items) {
-            return Err(fault);
+        match self.names.intern_fields(text, line.items, items) {
+            Ok(()) => {}
+            Err(NamesFault::TooMany) => return Err(SequenceFault::TooManyItems { line: number }),
+            Err(NamesFault::NoMemory) => return Err(SequenceFault::NoMemory),
         }
         self.db.push_weighted(items.as_slice(), line.weight)?;
         Ok(())

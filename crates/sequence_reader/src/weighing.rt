@@ -8,7 +8,7 @@ ghost use Rattle.std.specs.Char.{is_ascii_digit};
 ghost use Rattle.mine_model.specs.Grammar.{IsDecimal};
 ghost use Rattle.mine_model.specs.Refusal.{IsWeight, IsBadWeight, sequence_of};
 ghost use Rattle.text_ports.specs.Lines.{AreFields, IsWithin};
-ghost use Rattle.sequence_reader.specs.Texts.{texts_at};
+ghost use Rattle.item_names.specs.Fields.{texts_at};
 
 use mine_model::SequenceFault;
 use text_ports::Span;

@@ -1,6 +1,7 @@
 -- What a file tells while it is read.
-use Rattle.std.proofs.Common.{◌≡◌, ℕ, ◌++◌, Option, Some, None, IfSome, ◌<◌, ◌↔◌, List, [], take, drop, length, refl, sym, ap, ◌∙◌, append_assoc, length-append, arith}
+use Rattle.std.proofs.Common.{◌≡◌, subst, ℕ, ◌++◌, Option, Some, None, IfSome, ◌<◌, ◌↔◌, List, [], take, drop, length, refl, sym, ap, ◌∙◌, append_assoc, length-append, arith}
 use Rattle.std.proofs.lemmas.List.{take-append-drop, append-nil}
+use Rattle.text_ports.specs.Lines.{WereRead}
 
 -- Of the bytes that a file holds these were read, and the rest is left.
 pub IsReadTo : Option (List ℕ) → Option (List ℕ) → List ℕ → Type 0
@@ -36,3 +37,8 @@ pub IsReadTo-length : (holds left : Option (List ℕ)) (read : List ℕ) (limit 
 unfolding IsReadTo
 IsReadTo-length None left read limit p over = tt
 IsReadTo-length (Some bytes) left read limit (rest, is, whole) over = rw (whole, length-append) (omega arith)
+
+-- what holds of the bytes that were read holds of those that are told
+pub of_told : (told : Option (List ℕ)) (P : List ℕ → Type 0) (bytes : List ℕ) → WereRead told bytes → P bytes → IfSome told P
+of_told None P bytes read p = tt
+of_told (Some held) P bytes read p = subst P read.same p

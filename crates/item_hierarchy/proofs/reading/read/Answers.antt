@@ -5,7 +5,7 @@ use Rattle.mine_model.specs.Faults.{fault_of_hierarchy}
 use Rattle.mine_model.specs.Names.{GrowBy}
 use Rattle.mine_model.specs.Refusal.{names_of}
 use Rattle.item_hierarchy.specs.Refusing.{IsReadRefusal}
-use Rattle.item_hierarchy.proofs.TakingLemmas.{of_told}
+use Rattle.text_ports.proofs.Told.{of_told}
 use Rattle.item_hierarchy.proofs.reading.read.Goals as goal
 
 pub returns-in-Ok-clause-grown : goal.returns-in-Ok-clause-grown

@@ -1,21 +1,30 @@
-use Rattle.std.proofs.Common.{◌≡◌, [], ◌∷◌, ◌++◌, length, map, arith, length-append, ap}
-use Rattle.std.proofs.lemmas.List.{length-map}
-use Rattle.item_names.proofs.NamesLemmas.{names_after, AreDistinct-map}
+use Rattle.std.proofs.Common.{◌≡◌, [], ◌∷◌, ◌++◌, map, subst, sym, ap, ◌∙◌, arith}
+use Rattle.std.proofs.lemmas.List.{map_push, length-map}
+use Rattle.mine_model.specs.Names.{AreDistinct}
+use Rattle.mine_model.proofs.ListLemmas.{of_both}
+use Rattle.item_names.specs.Table.{key_of, AreBytes}
+use Rattle.item_names.proofs.KeyLemmas.{AreBytes-from}
+use Rattle.item_names.proofs.NamesLemmas.{AreDistinct-push}
 use Rattle.item_names.proofs.Names.append.Goals as goal
 
--- the names at the end
-names_at_end : (c : goal.In_ok-insert) → map (λ k. k.items) c.insert.new.self.keys ≡ c.args.self.now ++ c.args.name.now ∷ []
-names_at_end c =
-    names_after (λ k. k.items) _ _ _ _ _ c.self.view_is c.in_ok-owned.ensures.items c.requires.new c.in_ok-insert.ensures.keys
+distinct : (c : goal.After-place) → AreDistinct c.push.new.self
+distinct c =
+    subst AreDistinct (sym c.in_ok-push.ensures.ok) (AreDistinct-push c.self.inside.texts c.args.name.now c.self.invariant.0 (rw c.self.view_is c.requires.new))
+
+-- the keys of the names with the new one
+keys : (c : goal.After-place) → map key_of c.push.new.self ≡ map key_of c.self.inside.texts ++ c.args.key ∷ []
+keys c =
+    ap (map key_of) c.in_ok-push.ensures.ok ∙ map_push key_of c.self.inside.texts c.args.name.now
+    ∙ ap (λ key. map key_of c.self.inside.texts ++ key ∷ []) (sym c.requires.key)
 
 pub invariant_of-self-2 : goal.invariant_of-self-2
-invariant_of-self-2 c = (
-  omega (arith, c.requires.room, length-map c.insert.new.self.keys (λ k. k.items), ap length (names_at_end c), length-append c.args.self.now (c.args.name.now ∷ [])),
-  AreDistinct-map (λ k. k.items) _ c.insert.ensures.unique,
-)
-
-pub returns-clause-names : goal.returns-clause-names
-returns-clause-names c = names_at_end c
+invariant_of-self-2 c =
+    let count = length-map c.self.inside.texts key_of in (
+      distinct c,
+      rw c.in_ok-push.ensures.ok (of_both AreBytes c.self.inside.texts (c.args.name.now ∷ []) c.self.invariant.1 (AreBytes-from c.args.name.now c.type_inv.name, tt)),
+      rw (keys c) (c.place.ensures.table (map key_of c.self.inside.texts) c.in_ok-make_room.ensures.table (omega (arith, count, c.count-number.ensures.count))
+          (omega (arith, c.in_ok-make_room.ensures.room, c.count-number.ensures.count))),
+    )
 
 pub returns-clause-distinct : goal.returns-clause-distinct
-returns-clause-distinct c = AreDistinct-map (λ k. k.items) _ c.insert.ensures.unique
+returns-clause-distinct c = distinct c

@@ -1,10 +1,9 @@
 use Rattle.std.proofs.Common.{◌≡◌, ap, subst, Err, IfSome, List, ℕ}
 use Rattle.mine_model.specs.declared.fault.Fault.{Fault}
-use Rattle.mine_model.specs.Text.{lines_of}
 use Rattle.mine_model.specs.Faults.{fault_of_sequences}
 use Rattle.mine_model.specs.Names.{GrowBy}
 use Rattle.mine_model.specs.Refusal.{sequences_of, items_of, IsSequencesRefusal}
-use Rattle.sequence_reader.proofs.TakingLemmas.{of_told}
+use Rattle.text_ports.proofs.Told.{of_told}
 use Rattle.sequence_reader.proofs.reading.read.Goals as goal
 
 pub returns-in-Ok-clause-grown : goal.returns-in-Ok-clause-grown

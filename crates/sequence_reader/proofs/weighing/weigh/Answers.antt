@@ -1,11 +1,11 @@
-use Rattle.std.proofs.Common.{◌≡◌, ℕ, ap, ◌∙◌, List, true, length}
+use Rattle.std.proofs.Common.{ℕ, ap, ◌∙◌, List, true, length}
 use Rattle.std.proofs.lemmas.List.Elements.{All-rest}
 use Rattle.mine_model.specs.Text.{fields_of}
 use Rattle.mine_model.specs.Support.{Sequence}
 use Rattle.mine_model.specs.Refusal.{sequence_of}
 use Rattle.text_ports.specs.Lines.{IsWithin}
-use Rattle.sequence_reader.specs.Texts.{texts_at}
-use Rattle.sequence_reader.proofs.TextLemmas.{fields_are_texts}
+use Rattle.item_names.specs.Fields.{texts_at}
+use Rattle.item_names.proofs.FieldLemmas.{fields_are_texts}
 use Rattle.sequence_reader.proofs.weighing.weigh.Goals as goal
 
 pub returns-then-not-weighted-clause-said : goal.returns-then-not-weighted-clause-said

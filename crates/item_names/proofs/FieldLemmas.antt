@@ -1,16 +1,17 @@
 -- Lemmas on the texts of fields.
-use Rattle.std.proofs.Common.{◌≡◌, ℕ, ◌+◌, ◌≤◌, ◌<◌, Some, List, [], ◌∷◌, ◌++◌, map, length, take, drop, get_or, slice_get, zero, suc, refl, sym, ap, ◌∙◌, subst, arith, append_assoc}
+use Rattle.std.proofs.Common.{◌≡◌, ℕ, ◌+◌, ◌<◌, Some, List, [], ◌∷◌, ◌++◌, map, length, take, drop, get_or, slice_get, refl, sym, ap, ◌∙◌, subst}
 use Rattle.std.specs.List.{AllByRecursion, slice_range, Contains}
-use Rattle.std.proofs.lemmas.List.{append-nil, map-append, take_more, take-append-drop}
+use Rattle.std.proofs.lemmas.List.{map-append, take_more, take-append-drop}
+use Rattle.std.proofs.lemmas.Option.{slice_get_within, get_or_from_slice_get}
 use Rattle.std.proofs.lemmas.List.Elements.{Contains-append_left, Contains-get_or}
 use Rattle.mine_model.specs.declared.item.Item.{Item}
-use Rattle.mine_model.specs.Text.{Field, placed_fields_of, fields_of}
+use Rattle.mine_model.specs.Text.{Field, fields_of}
 use Rattle.mine_model.specs.Names.{name_of, HasName, GrowBy}
 use Rattle.mine_model.proofs.ListLemmas.{of_both, Contains-by}
 use Rattle.mine_model.proofs.NameLemmas.{name_of-grown, HasName-grown}
 use Rattle.text_ports.specs.declared.lines.Span.{Span}
 use Rattle.text_ports.specs.Lines.{field_at, AreFields}
-use Rattle.item_hierarchy.specs.Texts.{texts_at, AreItemsOf}
+use Rattle.item_names.specs.Fields.{texts_at, AreItemsOf}
 
 texts_of_fields : (line : List ℕ) (spans : List Span) → map (λ (field : Field). field.text) (map (field_at line) spans) ≡ texts_at line spans
 texts_of_fields line [] = refl
@@ -38,19 +39,15 @@ pub AllNamed-grown : (old names new : List (List ℕ)) (items : List Item) → G
 AllNamed-grown old names new [] grown named = tt
 AllNamed-grown old names new (item ∷ items) grown named = (HasName-grown old names new item grown named.0, AllNamed-grown old names new items grown named.1)
 
-found_at : (names : List (List ℕ)) (i : ℕ) (name : List ℕ) → slice_get names i ≡ Some name → (i < length names) × (get_or names i [] ≡ name)
-found_at [] i name is = absurd (cc)
-found_at (x ∷ names) zero name is = (omega arith, cc)
-found_at (x ∷ names) (suc i) name is = let later = found_at names i name is in (let lt = later.0 in omega (arith, lt), later.1)
-
 -- one item more
 pub AreItemsOf-more : (old new : List (List ℕ)) (items : List Item) (texts : List (List ℕ)) (item : Item) (name : List ℕ) → AreItemsOf old items texts
     → GrowBy old (name ∷ []) new → slice_get new item.0 ≡ Some name → AreItemsOf new (items ++ item ∷ []) (texts ++ name ∷ [])
 AreItemsOf-more old new items texts item name are grown is =
-    let at = found_at new item.0 name is in
+    let has = slice_get_within new item.0 name is in
+    let found = get_or_from_slice_get new item.0 name [] is in
     record {
-      named = of_both (HasName new) items (item ∷ []) (AllNamed-grown old (name ∷ []) new items grown are.named) (at.0, tt);
-      said = map-append (name_of new) items (item ∷ []) ∙ (λ j. (map-name_of-grown old (name ∷ []) new items grown are.named ∙ are.said) j ++ at.1 j ∷ []);
+      named = of_both (HasName new) items (item ∷ []) (AllNamed-grown old (name ∷ []) new items grown are.named) (has, tt);
+      said = map-append (name_of new) items (item ∷ []) ∙ (λ j. (map-name_of-grown old (name ∷ []) new items grown are.named ∙ are.said) j ++ found j ∷ []);
     }
 
 -- the texts of the first spans are among those of all

@@ -1,0 +1,206 @@
+//! A table that finds the number of a name by its key.
+
+ghost use Rattle.std.specs.Prelude.{◌≡◌, ℕ, ◌+◌, ◌-◌, ◌≤◌, ◌<◌, ◌↔◌, List, [], ◌∷◌, ◌++◌, map, length, slice_get, slice_index_or, Contains, Some, IsNone, IsTrue, IfSome, IfOk, OnOk, MatchOption};
+ghost use Rattle.item_names.specs.Table.{key_of, home_of, slot_at, key_in, AreBytes, IsSlot, IsTable};
+ghost use Rattle.std.specs.List.{AllByRecursion};
+ghost use Rattle.item_names.specs.declared.keys.Key.{Key};
+ghost use Rattle.item_names.specs.Searching.{Ends, IsFirstFree};
+
+use super::keys::{Key, key_of};
+use super::texts::Texts;
+use mine_model::{Item, NoMemory};
+use std::alloc::Global;
+
+/// The fewest slots of a table that has any.
+const FEWEST_SLOTS: usize = 16;
+
+/// A place of the table. `held` is the number of a name, counted from 1, and 0 where the slot is free. The other
+/// fields are the key of the name.
+#[derive(Clone, Copy, Debug)]
+pub(crate) struct Slot {
+    low: u64,
+    high: u64,
+    size: u32,
+    held: u32,
+}
+
+const FREE: Slot = Slot {
+    low: 0,
+    high: 0,
+    size: 0,
+    held: 0,
+};
+
+/// How a search through some slots ends.
+#[derive(Clone, Copy, Debug)]
+enum Outcome {
+    /// At the slot of the name.
+    Held(Item),
+    /// At a free slot.
+    Free,
+    /// Behind the last one.
+    Passed,
+}
+
+/// The number of the name with this key, if it is held. Most names stand at their home.
+pub(crate) fn find(texts: &Texts, slots: &[Slot], key: Key, name: &[u8]) -> Option<Item>
+    requires table { IsTable (map key_of texts.now) slots.now }
+    requires key { key ≡ key_of name.now }
+    requires bytes { AllByRecursion AreBytes texts.now }
+    ensures none { IsNone result ↔ ¬ Contains texts.now name.now }
+    ensures number { IfSome result (λ item. slice_get texts.now item.0 ≡ Some name.now) }
+{
+    if slots.is_empty() {
+        return None;
+    }
+    let home = home_in(slots, key);
+    let slot = slots[home];
+    if slot.held > 0 && is_of(texts, slot, key, name) {
+        return Some(Item(slot.held - 1));
+    }
+    find_from(texts, slots, key, name, home)
+}
+
+/// The same by a search from the home of the key on.
+#[inline(never)]
+fn find_from(texts: &Texts, slots: &[Slot], key: Key, name: &[u8], home: usize) -> Option<Item>
+    requires table { IsTable (map key_of texts.now) slots.now }
+    requires key { key ≡ key_of name.now }
+    requires bytes { AllByRecursion AreBytes texts.now }
+    requires home { home ≡ home_of (length slots.now) key }
+    requires within { home < length slots.now }
+    ensures none { IsNone result ↔ ¬ Contains texts.now name.now }
+    ensures number { IfSome result (λ item. slice_get texts.now item.0 ≡ Some name.now) }
+{
+    match search(texts, slots, key, name, home, slots.len()) {
+        Outcome::Held(item) => Some(item),
+        Outcome::Free => None,
+        Outcome::Passed => match search(texts, slots, key, name, 0, home) {
+            Outcome::Held(item) => Some(item),
+            Outcome::Free => None,
+            Outcome::Passed => None,
+        },
+    }
+}
+
+/// Looks for the name in the slots from `from` to before `to`, up to the first that is free.
+fn search(texts: &Texts, slots: &[Slot], key: Key, name: &[u8], from: usize, to: usize) -> Outcome
+    requires table { IsTable (map key_of texts.now) slots.now }
+    requires key { key ≡ key_of name.now }
+    requires bytes { AllByRecursion AreBytes texts.now }
+    requires within { to ≤ length slots.now }
+    ensures { Ends texts.now slots.now name.now from to result }
+{
+    for at in from..to {
+        let slot = slots[at];
+        if slot.held == 0 {
+            return Outcome::Free;
+        }
+        if is_of(texts, slot, key, name) {
+            return Outcome::Held(Item(slot.held - 1));
+        }
+    }
+    Outcome::Passed
+}
+
+/// Where a search for the key begins.
+fn home_in(slots: &[Slot], key: Key) -> usize
+    requires { 0 < length slots.now }
+    ensures home { result ≡ home_of (length slots.now) key }
+    ensures within { result < length slots.now }
+{
+    key.mixed() as usize & (slots.len() - 1)
+}
+
+fn has_key(slot: Slot, key: Key) -> bool
+    ensures { IsTrue result ↔ (key_in slot ≡ key) }
+{
+    slot.low == key.low && slot.high == key.high && slot.size == key.size
+}
+
+/// Whether the slot, which is taken, has the number of the name with this key.
+fn is_of(texts: &Texts, slot: Slot, key: Key, name: &[u8]) -> bool
+    requires slot { IsSlot (map key_of texts.now) slot }
+    requires taken { 0 < slot.held }
+    requires key { key ≡ key_of name.now }
+    requires bytes { AllByRecursion AreBytes texts.now }
+    ensures { IsTrue result ↔ (slice_index_or texts.now (slot.held - 1) [] ≡ name.now) }
+{
+    has_key(slot, key) && (key.is_whole() || texts.is_text(Item(slot.held - 1), name))
+}
+
+/// Has a free slot for one more name, in a new table where more than three of four slots are taken.
+pub(crate) fn make_room(texts: &Texts, slots: &mut Vec<Slot>) -> Result<(), NoMemory>
+    requires { IsTable (map key_of texts.now) slots.old.items }
+    ensures table { IsTable (map key_of texts.now) slots.new.items }
+    ensures room { OnOk result (length texts.now < length slots.new.items) }
+{
+    if slots.len() / 4 * 3 <= texts.count() as usize {
+        *slots = table_of(*slots.allocator(), texts)?;
+    }
+    Ok(())
+}
+
+/// A table of all the names, in which at least half of the slots are free.
+fn table_of(alloc: Global, texts: &Texts) -> Result<Vec<Slot>, NoMemory>
+    ensures table { IfOk result (λ slots. IsTable (map key_of texts.now) slots.items) }
+    ensures room { IfOk result (λ slots. length texts.now < length slots.items) }
+{
+    let count = texts.count();
+    let size = (2 * (count as usize + 1))
+        .max(FEWEST_SLOTS)
+        .next_power_of_two();
+    let mut slots = vec![in alloc; FREE; size]?;
+    for number in 0..count {
+        let key = key_of(texts.text(Item(number)));
+        place(&mut slots, key, number);
+    }
+    Ok(slots)
+}
+
+/// Takes a slot for the number of a name with this key, where all smaller numbers have one.
+pub(crate) fn place(slots: &mut Vec<Slot>, key: Key, number: u32)
+    requires { number < 4294967295 }
+    ensures size { length slots.new.items ≡ length slots.old.items }
+    ensures table { (keys : List Key) → IsTable keys slots.old.items → length keys ≡ number
+        → number < length slots.old.items → IsTable (keys ++ key ∷ []) slots.new.items }
+{
+    if let Some(at) = free_slot(slots.as_slice(), key) {
+        slots[at] = Slot {
+            low: key.low,
+            high: key.high,
+            size: key.size,
+            held: number + 1,
+        };
+    }
+}
+
+/// The free slot that a search for the key meets first.
+fn free_slot(slots: &[Slot], key: Key) -> Option<usize>
+    ensures { MatchOption result ((at : ℕ) → at < length slots.now → 0 < (slot_at slots.now at).held)
+        (IsFirstFree slots.now key) }
+{
+    if slots.is_empty() {
+        return None;
+    }
+    let home = home_in(slots, key);
+    match first_free(slots, home, slots.len()) {
+        Some(at) => Some(at),
+        None => first_free(slots, 0, home),
+    }
+}
+
+/// The first free slot from `from` to before `to`.
+fn first_free(slots: &[Slot], from: usize, to: usize) -> Option<usize>
+    requires { to ≤ length slots.now }
+    ensures { MatchOption result ((at : ℕ) → from ≤ at → at < to → 0 < (slot_at slots.now at).held)
+        (λ at. (from ≤ at) × (at < to) × ((slot_at slots.now at).held ≡ 0)
+        × ((other : ℕ) → from ≤ other → other < at → 0 < (slot_at slots.now other).held)) }
+{
+    for at in from..to {
+        if slots[at].held == 0 {
+            return Some(at);
+        }
+    }
+    None
+}
