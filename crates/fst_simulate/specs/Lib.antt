@@ -1,3 +1,5 @@
 -- the words of the promise
 pub mod Problems
 pub mod Grids
+-- what the proofs keep
+pub mod Tables

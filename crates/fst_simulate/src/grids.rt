@@ -4,8 +4,11 @@ ghost use Rattle.fst_simulate.specs.Grids.{Completes, Ends, Reads, WritesRank, H
 
 use super::bound::Bound;
 use super::job::Job;
+use super::kinds::{Entered, Kinds, kind_of};
+use super::number::NONE;
+use super::tables::Tables;
 use fst_compile::State;
-use mine_model::NoMemory;
+use mine_model::{Item, NoMemory};
 use std::alloc::Global;
 use std::marker::Model;
 
@@ -15,6 +18,13 @@ use std::marker::Model;
 pub struct Grids<'a> {
     job: &'a Job,
     bound: Bound,
+    tables: Tables,
+    kinds: Kinds,
+    entered: Entered,
+    // The places of all grids, those of one from the last to the first.
+    places: Vec<Place>,
+    // The number of places up to the end of each grid, and the number of its sequence.
+    ends: Vec<usize>,
     sequences: Vec<u32>,
 }
 
@@ -38,10 +48,16 @@ impl<'a> Grids<'a> {
     pub fn new(alloc: Global, job: &'a Job, bound: Bound) -> Result<Grids<'a>, NoMemory>
         ensures { IfOk result (λ grids. grids ≡ record { problem = job.now; bound = bound; sequences = [] }) }
     {
-        let _alloc = alloc;
-        let _job = job;
-        let _bound = bound;
-        Err(NoMemory)
+        Ok(Grids {
+            job,
+            bound,
+            tables: Tables::new(alloc, job.fst())?,
+            kinds: Kinds::new(alloc, job.hierarchy().items())?,
+            entered: Entered::new(alloc),
+            places: Vec::new(alloc),
+            ends: Vec::new(alloc),
+            sequences: Vec::new(alloc),
+        })
     }
 
     /// Makes the grid of a sequence, behind the others.
@@ -50,15 +66,21 @@ impl<'a> Grids<'a> {
         ensures ok { OnOk result (self.new ≡ record self.old { sequences = self.old.sequences ++ seq ∷ [] }) }
         ensures err { OnErr result (self.new ≡ self.old) }
     {
-        let _sequences = &self.sequences;
-        let _seq = seq;
-        Err(NoMemory)
+        self.sequences.reserve(1)?;
+        self.ends.reserve(1)?;
+        let items = self.job.db().sequence(seq);
+        fill(self.job, self.bound, &mut self.tables, &mut self.kinds, &mut self.entered, &mut self.places, items)?;
+        self.ends.push_reserved(self.places.len());
+        self.sequences.push_reserved(seq);
+        Ok(())
     }
 
     /// Drops all grids, and keeps what serves the next ones. Takes no memory.
     pub fn clear(&mut self)
         ensures { self.new ≡ record self.old { sequences = [] } }
     {
+        self.places.clear();
+        self.ends.clear();
         self.sequences.clear();
     }
 
@@ -70,12 +92,7 @@ impl<'a> Grids<'a> {
         ensures { IsTrue result
             ↔ Completes self.now.problem self.now.bound (rest_at self.now grid pos) q.0 seen }
     {
-        let _sequences = &self.sequences;
-        let _grid = grid;
-        let _pos = pos;
-        let _q = q;
-        let _seen = seen;
-        false
+        self.tables.completes(self.place(grid, pos).triple, q.0, seen)
     }
 
     /// Whether state q ends at a position of a grid. Takes no memory.
@@ -85,11 +102,7 @@ impl<'a> Grids<'a> {
         requires state { q.0 ≤ length self.now.problem.machine.labels }
         ensures { IsTrue result ↔ Ends self.now.problem (rest_at self.now grid pos) q.0 }
     {
-        let _sequences = &self.sequences;
-        let _grid = grid;
-        let _pos = pos;
-        let _q = q;
-        false
+        self.tables.ends(self.place(grid, pos).triple, q.0)
     }
 
     /// The states that complete at a position of a grid, as words of 64 of them. Takes no memory.
@@ -101,11 +114,7 @@ impl<'a> Grids<'a> {
             → (HasBit result.now state
             ↔ Completes self.now.problem self.now.bound (rest_at self.now grid pos) state seen) }
     {
-        let _sequences = &self.sequences;
-        let _grid = grid;
-        let _pos = pos;
-        let _seen = seen;
-        &[]
+        self.tables.completing(self.place(grid, pos).triple, seen)
     }
 
     /// Whether the edges into state k match the item at a position of a grid and write nothing. Takes no memory.
@@ -117,11 +126,8 @@ impl<'a> Grids<'a> {
         ensures { (t : Item) → slice_get (items_at self.now grid) pos ≡ Some t
             → (IsTrue result ↔ Reads self.now.problem t k.0 []) }
     {
-        let _sequences = &self.sequences;
-        let _grid = grid;
-        let _pos = pos;
-        let _k = k;
-        false
+        let class = self.kinds.kinds[self.place(grid, pos).kind as usize].class;
+        self.tables.is_silent(class, k.0)
     }
 
     /// What the edges into state k may write at a position of a grid, as ranks. Takes no memory.
@@ -133,10 +139,41 @@ impl<'a> Grids<'a> {
         ensures { (t : Item) (rank : ℕ) → slice_get (items_at self.now grid) pos ≡ Some t
             → (Contains result.now rank ↔ WritesRank self.now.problem self.now.bound t k.0 rank) }
     {
-        let _sequences = &self.sequences;
-        let _grid = grid;
-        let _pos = pos;
-        let _k = k;
-        &[]
+        self.kinds.outputs(self.place(grid, pos).kind, k.0)
     }
+
+    // The place at a position of a grid.
+    fn place(&self, grid: u32, pos: u32) -> Place {
+        self.places[self.ends[grid as usize] - 1 - pos as usize]
+    }
+}
+
+/// The kind of the item at a place, and the triple of what may come of it.
+#[derive(Clone, Copy, Debug)]
+struct Place {
+    kind: u32,
+    triple: u32,
+}
+
+// The places of a sequence behind the others, from the last to the first.
+fn fill(
+    job: &Job,
+    bound: Bound,
+    tables: &mut Tables,
+    kinds: &mut Kinds,
+    entered: &mut Entered,
+    places: &mut Vec<Place>,
+    items: &[Item],
+) -> Result<(), NoMemory> {
+    let mut triple = 0;
+    places.push(Place { kind: NONE, triple })?;
+    let mut pos = items.len();
+    while 0 < pos {
+        pos -= 1;
+        let kind = kind_of(job, bound, tables, kinds, entered, items[pos])?;
+        let class = kinds.kinds[kind as usize].class;
+        triple = tables.step(class, triple)?;
+        places.push(Place { kind, triple })?;
+    }
+    Ok(())
 }

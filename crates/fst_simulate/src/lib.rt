@@ -5,6 +5,12 @@ mod bound;
 mod grid;
 mod grids;
 mod job;
+mod kinds;
+mod number;
+mod table;
+mod tables;
+#[cfg(test)]
+mod tests;
 
 pub use bound::Bound;
 pub use grid::Grid;
