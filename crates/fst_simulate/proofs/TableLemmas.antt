@@ -11,10 +11,11 @@ use Rattle.mine_model.proofs.ListLemmas.{Contains-cases, Contains-none}
 use Rattle.std.specs.Int.{bit_at}
 use Rattle.std.proofs.lemmas.Nat.Bits.{bit_at_cat_low, bit_at_cat_high}
 use Rattle.state_bits.specs.Members.{Has, words_of}
+use Rattle.fst_compile.proofs.RowLemmas.{Has-none}
 use Rattle.fst_simulate.specs.Grids.{HasBit}
 use Rattle.fst_simulate.specs.declared.table.Class.{Class}
 use Rattle.fst_simulate.specs.declared.table.Triple.{Triple}
-use Rattle.fst_simulate.specs.Tables.{ClassSets, TripleSets, TableValue, class_sets, triple_sets, IsClassOf, Grows, IsStep, IsStepAt, AreSteps, AreBelow, AddsTo, IsTable, row, unknown}
+use Rattle.fst_simulate.specs.Tables.{ClassSets, TripleSets, TableValue, class_sets, triple_sets, IsClassOf, Grows, IsLast, IsStep, IsStepAt, AreSteps, AreBelow, AddsTo, IsTable, row, unknown}
 
 pub slice_get-grow : {X : Type 0} (xs ys : List X) (i : ℕ) (x : X) → slice_get xs i ≡ Some x → slice_get (xs ++ ys) i ≡ Some x
 slice_get-grow xs ys i x found =
@@ -31,6 +32,12 @@ slice_get-mapped_by f xs i x found = slice_get-map f xs i ∙ (rw found refl)
 -- the same of a list that is shown
 pub map_at : {X Y : Type 0} (f : X → Y) (xs shown : List X) (i : ℕ) (x : X) → i < length (map f xs) → shown ≡ xs → x ≡ get_or shown i x → slice_get (map f xs) i ≡ Some (f x)
 map_at f xs shown i x inside same is = slice_get-mapped f xs i x (omega (arith, inside, length-map xs f)) (is ∙ ap (λ l. get_or l i x) same)
+
+-- and no other element is there
+pub mapped_is : {X Y : Type 0} (f : X → Y) (xs shown : List X) (i : ℕ) (x : X) (y : Y) → slice_get (map f xs) i ≡ Some y → shown ≡ xs → x ≡ get_or shown i x → y ≡ f x
+mapped_is f xs shown i x y there same is =
+    let inside : i < length (map f xs) = slice_get_within (map f xs) i y there in
+    sym (get_or_from_slice_get (map f xs) i y (f x) there) ∙ get_or_from_slice_get (map f xs) i (f x) (f x) (map_at f xs shown i x inside same is)
 
 -- what an insertion into a set adds
 pub inserted : {X Y : Type 0} (f : X → Y) (eq : X → X → Bool) (ks after : List X) (k : X) → after ≡ insert_key eq ks k
@@ -191,3 +198,10 @@ unfolding Has
 words_bit width set words states q are room state =
     let bit : bit_at (get_or words (q / 64) 0) (q % 64) ≡ bit_at set q = ap (λ (ws : List ℕ). bit_at (get_or ws (q / 64) 0) (q % 64)) are ∙ bit-words_of width set q (omega arith) in
     ((λ has. sym bit ∙ has), (λ has. bit ∙ has))
+
+-- the first key of a set
+pub first_inserted : {X Y : Type 0} (f : X → Y) (eq : X → X → Bool) (before after : List X) (k : X) → before ≡ [] → after ≡ insert_key eq before k → map f after ≡ f k ∷ []
+first_inserted f eq before after k none are = rw (are, none) refl
+
+pub IsLast-of : (finals all : ℕ) → ((q : ℕ) → Has all q ↔ Has finals q) → (none : ℕ) → none ≡ 0 → IsLast finals (record { seen = all; unseen = none; ends = all })
+IsLast-of finals all are none is = record { seen = are; unseen = λ q has. Has-none q (rw is at has); ends = are }

@@ -3,3 +3,4 @@ pub mod Problems
 pub mod Grids
 -- what the proofs keep
 pub mod Tables
+pub mod Widths
