@@ -4,3 +4,4 @@ pub mod Grids
 -- what the proofs keep
 pub mod Tables
 pub mod Widths
+pub mod Kinds

@@ -4,7 +4,7 @@ ghost use Rattle.fst_simulate.specs.Grids.{Completes, Ends, Reads, WritesRank, H
 
 use super::bound::Bound;
 use super::job::Job;
-use super::kinds::{Entered, Kinds, kind_of};
+use super::kinds::{Kinds, Scratch, kind_of};
 use super::number::NONE;
 use super::tables::Tables;
 use fst_compile::State;
@@ -20,7 +20,7 @@ pub struct Grids<'a> {
     bound: Bound,
     tables: Tables,
     kinds: Kinds,
-    entered: Entered,
+    scratch: Scratch,
     // The places of all grids, those of one from the last to the first.
     places: Vec<Place>,
     // The number of places up to the end of each grid, and the number of its sequence.
@@ -53,7 +53,7 @@ impl<'a> Grids<'a> {
             bound,
             tables: Tables::new(alloc, job.fst())?,
             kinds: Kinds::new(alloc, job.hierarchy().items())?,
-            entered: Entered::new(alloc),
+            scratch: Scratch::new(alloc),
             places: Vec::new(alloc),
             ends: Vec::new(alloc),
             sequences: Vec::new(alloc),
@@ -69,7 +69,7 @@ impl<'a> Grids<'a> {
         self.sequences.reserve(1)?;
         self.ends.reserve(1)?;
         let items = self.job.db().sequence(seq);
-        fill(self.job, self.bound, &mut self.tables, &mut self.kinds, &mut self.entered, &mut self.places, items)?;
+        fill(self.job, self.bound, &mut self.tables, &mut self.kinds, &mut self.scratch, &mut self.places, items)?;
         self.ends.push_reserved(self.places.len());
         self.sequences.push_reserved(seq);
         Ok(())
@@ -139,7 +139,10 @@ impl<'a> Grids<'a> {
         ensures { (t : Item) (rank : ℕ) → slice_get (items_at self.now grid) pos ≡ Some t
             → (Contains result.now rank ↔ WritesRank self.now.problem self.now.bound t k.0 rank) }
     {
-        self.kinds.outputs(self.place(grid, pos).kind, k.0)
+        let base = self.kinds.kinds[self.place(grid, pos).kind as usize].base + k.0 as usize;
+        let start = self.kinds.ends[base - 1] as usize;
+        let end = self.kinds.ends[base] as usize;
+        &self.kinds.ranks[start..end]
     }
 
     // The place at a position of a grid.
@@ -161,7 +164,7 @@ fn fill(
     bound: Bound,
     tables: &mut Tables,
     kinds: &mut Kinds,
-    entered: &mut Entered,
+    scratch: &mut Scratch,
     places: &mut Vec<Place>,
     items: &[Item],
 ) -> Result<(), NoMemory> {
@@ -170,7 +173,7 @@ fn fill(
     let mut pos = items.len();
     while 0 < pos {
         pos -= 1;
-        let kind = kind_of(job, bound, tables, kinds, entered, items[pos])?;
+        let kind = kind_of(job, bound, tables, kinds, scratch, items[pos])?;
         let class = kinds.kinds[kind as usize].class;
         triple = tables.step(class, triple)?;
         places.push(Place { kind, triple })?;
