@@ -414,3 +414,17 @@ AreKinds-more problem bound classes kinds kinds' t number are grow inside is has
         rw there (HasKind-grow problem bound classes classes kinds kinds' u (slice_index kinds.numbers.items u.0) (are.right u within_old old_some) (Extends-nothing classes) grow)
   ]);
 }
+
+pub KindsGrow-nothing : (kinds : Kinds) → KindsGrow kinds kinds
+KindsGrow-nothing kinds = record { kinds = Extends-nothing kinds.kinds.items; ends = Extends-nothing kinds.ends.items; ranks = Extends-nothing kinds.ranks.items }
+
+pub KindsGrow-twice : (a b c : Kinds) → KindsGrow a b → KindsGrow b c → KindsGrow a c
+KindsGrow-twice a b c first second = record {
+  kinds = Extends-twice a.kinds.items b.kinds.items c.kinds.items first.kinds second.kinds;
+  ends = Extends-twice a.ends.items b.ends.items c.ends.items first.ends second.ends;
+  ranks = Extends-twice a.ranks.items b.ranks.items c.ranks.items first.ranks second.ranks;
+}
+
+pub slice_get-last : {X : Type 0} (xs : List X) (x : X) (n : ℕ) → n ≡ length xs → slice_get (xs ++ x ∷ []) n ≡ Some x
+slice_get-last xs x n is =
+    rw is (slice_get_read (xs ++ x ∷ []) (length (xs ++ x ∷ [])) (length xs) x refl (omega (arith, length-append xs (x ∷ []))) (sym (get_or-append_seam xs x [] x)))

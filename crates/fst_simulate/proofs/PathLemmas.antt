@@ -110,17 +110,14 @@ module _ (problem : Problem) (whole : IsWhole problem) where
         ↔ ((next : ℕ) × Leads problem.machine state next × Goes problem bound t next × Completes problem bound rest next true)
     seen-step t rest state = (
       (λ (output, path, allowed, met).
-          let (next, leads, either) = path-first state t rest output path in (
-            next,
-            leads,
-            elim either [
-              | inl (silent, after) ↦ (inl silent, (output, after, allowed, inl refl))
-              | inr (v, there, reads, same, after) ↦
-                  let all = subst (AllByRecursion (IsAllowed problem.ranking bound)) same allowed in
-                  let (rank, has, writes) = writes-rank t next v all.0 reads in
-                  (inr (rank, writes), (there, after, all.1, inl refl))
-            ],
-          )),
+          let (next, leads, either) = path-first state t rest output path in
+          elim either [
+            | inl (silent, after) ↦ (next, leads, inl silent, (output, after, allowed, inl refl))
+            | inr (v, there, reads, same, after) ↦
+                let all = subst (AllByRecursion (IsAllowed problem.ranking bound)) same allowed in
+                let (rank, has, writes) = writes-rank t next v all.0 reads in
+                (next, leads, inr (rank, writes), (there, after, all.1, inl refl))
+          ]),
       (λ (next, leads, goes, (output, after, allowed, met)). elim goes [
         | inl silent ↦ (output, (path-step problem whole state t rest output).1 (next, [], output, leads, silent, refl, after), allowed, inl refl)
         | inr (rank, (v, has, low, reads)) ↦ (

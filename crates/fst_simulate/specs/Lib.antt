@@ -5,3 +5,4 @@ pub mod Grids
 pub mod Tables
 pub mod Widths
 pub mod Kinds
+pub mod Places

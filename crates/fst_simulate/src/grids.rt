@@ -4,11 +4,11 @@ ghost use Rattle.fst_simulate.specs.Grids.{Completes, Ends, Reads, WritesRank, H
 
 use super::bound::Bound;
 use super::job::Job;
-use super::kinds::{Kinds, Scratch, kind_of};
-use super::number::NONE;
+use super::kinds::{Kinds, Scratch};
+use super::places::{Place, push_places};
 use super::tables::Tables;
 use fst_compile::State;
-use mine_model::{Item, NoMemory};
+use mine_model::NoMemory;
 use std::alloc::Global;
 use std::marker::Model;
 
@@ -69,7 +69,7 @@ impl<'a> Grids<'a> {
         self.sequences.reserve(1)?;
         self.ends.reserve(1)?;
         let items = self.job.db().sequence(seq);
-        fill(self.job, self.bound, &mut self.tables, &mut self.kinds, &mut self.scratch, &mut self.places, items)?;
+        push_places(self.job, self.bound, &mut self.tables, &mut self.kinds, &mut self.scratch, &mut self.places, items)?;
         self.ends.push_reserved(self.places.len());
         self.sequences.push_reserved(seq);
         Ok(())
@@ -149,34 +149,4 @@ impl<'a> Grids<'a> {
     fn place(&self, grid: u32, pos: u32) -> Place {
         self.places[self.ends[grid as usize] - 1 - pos as usize]
     }
-}
-
-/// The kind of the item at a place, and the triple of what may come of it.
-#[derive(Clone, Copy, Debug)]
-struct Place {
-    kind: u32,
-    triple: u32,
-}
-
-// The places of a sequence behind the others, from the last to the first.
-fn fill(
-    job: &Job,
-    bound: Bound,
-    tables: &mut Tables,
-    kinds: &mut Kinds,
-    scratch: &mut Scratch,
-    places: &mut Vec<Place>,
-    items: &[Item],
-) -> Result<(), NoMemory> {
-    let mut triple = 0;
-    places.push(Place { kind: NONE, triple })?;
-    let mut pos = items.len();
-    while 0 < pos {
-        pos -= 1;
-        let kind = kind_of(job, bound, tables, kinds, scratch, items[pos])?;
-        let class = kinds.kinds[kind as usize].class;
-        triple = tables.step(class, triple)?;
-        places.push(Place { kind, triple })?;
-    }
-    Ok(())
 }

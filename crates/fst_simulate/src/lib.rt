@@ -7,6 +7,7 @@ mod grids;
 mod job;
 mod kinds;
 mod number;
+mod places;
 mod table;
 mod tables;
 #[cfg(test)]
