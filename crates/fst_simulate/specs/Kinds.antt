@@ -82,3 +82,10 @@ pub record KindsGrow (before after : Kinds) : Type 0 where
   pub kinds : Extends before.kinds.items after.kinds.items
   pub ends : Extends before.ends.items after.ends.items
   pub ranks : Extends before.ranks.items after.ranks.items
+
+-- the outputs of the kind with the number at the state stand where they may be read
+abbrev pub HasCell : Kinds → ℕ → ℕ → Type 0
+HasCell kinds number k =
+    (kind : Kind) × (slice_get kinds.kinds.items number ≡ Some kind) × (kind.base + k < length kinds.ends.items)
+    × (slice_index kinds.ends.items (kind.base + k - 1) ≤ slice_index kinds.ends.items (kind.base + k))
+    × (slice_index kinds.ends.items (kind.base + k) ≤ length kinds.ranks.items)

@@ -1,10 +1,10 @@
-ghost use Rattle.std.specs.Prelude.{◌≡◌, ℕ, ◌+◌, ◌*◌, ◌≤◌, ◌<◌, ◌↔◌, length, [], ◌∷◌, ◌++◌, IfOk, OnOk, OnErr, IsTrue, Contains, Some, slice_get};
+ghost use Rattle.std.specs.Prelude.{◌≡◌, ℕ, ◌+◌, ◌-◌, ◌*◌, ◌≤◌, ◌<◌, ◌↔◌, length, [], ◌∷◌, ◌++◌, IfOk, OnOk, OnErr, IsTrue, Contains, Some, slice_get, slice_index};
 ghost use Rattle.mine_model.specs.declared.item.Item.{Item};
 ghost use Rattle.fst_simulate.specs.Grids.{Completes, Ends, Reads, WritesRank, HasBit, items_at, rest_at};
 
 use super::bound::Bound;
 use super::job::Job;
-use super::kinds::{Kinds, Scratch};
+use super::kinds::{Kinds, Scratch, outputs_of};
 use super::places::{Place, push_places};
 use super::tables::Tables;
 use fst_compile::State;
@@ -40,7 +40,10 @@ impl<'a> Model for Grids<'a> {
 
     ghost view = { λ g. record { problem = g.job.now; bound = g.bound; sequences = g.sequences.items } };
 
-    ghost invariant = { λ g. ⊥ };
+    ghost use Rattle.fst_simulate.specs.Places.{AreGrids};
+
+    ghost invariant = { λ g. AreGrids g.job.now g.bound g.tables g.kinds g.places.items g.ends.items
+        g.sequences.items };
 }
 
 impl<'a> Grids<'a> {
@@ -92,7 +95,8 @@ impl<'a> Grids<'a> {
         ensures { IsTrue result
             ↔ Completes self.now.problem self.now.bound (rest_at self.now grid pos) q.0 seen }
     {
-        self.tables.completes(self.place(grid, pos).triple, q.0, seen)
+        let place = place_of(self.places.as_slice(), self.ends.as_slice(), grid, pos);
+        self.tables.completes(place.triple, q.0, seen)
     }
 
     /// Whether state q ends at a position of a grid. Takes no memory.
@@ -102,7 +106,8 @@ impl<'a> Grids<'a> {
         requires state { q.0 ≤ length self.now.problem.machine.labels }
         ensures { IsTrue result ↔ Ends self.now.problem (rest_at self.now grid pos) q.0 }
     {
-        self.tables.ends(self.place(grid, pos).triple, q.0)
+        let place = place_of(self.places.as_slice(), self.ends.as_slice(), grid, pos);
+        self.tables.ends(place.triple, q.0)
     }
 
     /// The states that complete at a position of a grid, as words of 64 of them. Takes no memory.
@@ -114,7 +119,8 @@ impl<'a> Grids<'a> {
             → (HasBit result.now state
             ↔ Completes self.now.problem self.now.bound (rest_at self.now grid pos) state seen) }
     {
-        self.tables.completing(self.place(grid, pos).triple, seen)
+        let place = place_of(self.places.as_slice(), self.ends.as_slice(), grid, pos);
+        self.tables.completing(place.triple, seen)
     }
 
     /// Whether the edges into state k match the item at a position of a grid and write nothing. Takes no memory.
@@ -126,7 +132,8 @@ impl<'a> Grids<'a> {
         ensures { (t : Item) → slice_get (items_at self.now grid) pos ≡ Some t
             → (IsTrue result ↔ Reads self.now.problem t k.0 []) }
     {
-        let class = self.kinds.kinds[self.place(grid, pos).kind as usize].class;
+        let place = place_of(self.places.as_slice(), self.ends.as_slice(), grid, pos);
+        let class = self.kinds.kinds[place.kind as usize].class;
         self.tables.is_silent(class, k.0)
     }
 
@@ -139,14 +146,17 @@ impl<'a> Grids<'a> {
         ensures { (t : Item) (rank : ℕ) → slice_get (items_at self.now grid) pos ≡ Some t
             → (Contains result.now rank ↔ WritesRank self.now.problem self.now.bound t k.0 rank) }
     {
-        let base = self.kinds.kinds[self.place(grid, pos).kind as usize].base + k.0 as usize;
-        let start = self.kinds.ends[base - 1] as usize;
-        let end = self.kinds.ends[base] as usize;
-        &self.kinds.ranks[start..end]
+        let place = place_of(self.places.as_slice(), self.ends.as_slice(), grid, pos);
+        outputs_of(&self.kinds, place.kind, k.0)
     }
+}
 
-    // The place at a position of a grid.
-    fn place(&self, grid: u32, pos: u32) -> Place {
-        self.places[self.ends[grid as usize] - 1 - pos as usize]
-    }
+// The place at a position of a grid.
+fn place_of(places: &[Place], ends: &[usize], grid: u32, pos: u32) -> Place
+    requires grid { grid < length ends.now }
+    requires before { pos < slice_index ends.now grid }
+    requires within { slice_index ends.now grid - 1 - pos < length places.now }
+    ensures { slice_get places.now (slice_index ends.now grid - 1 - pos) ≡ Some result }
+{
+    places[ends[grid as usize] - 1 - pos as usize]
 }

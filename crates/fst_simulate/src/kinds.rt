@@ -1,11 +1,12 @@
 //! What items may do under a bound, found out when they are first met.
 
-ghost use Rattle.std.specs.Prelude.{◌≡◌, ◌≢◌, ℕ, ◌+◌, ◌≤◌, ◌<◌, ◌⊎◌, ◌↔◌, AllPairs, [], length, slice_index, Contains, IfOk, OnOk, IsTrue};
+ghost use Rattle.std.specs.Prelude.{◌≡◌, ◌≢◌, ℕ, ◌+◌, ◌≤◌, ◌<◌, ◌⊎◌, ◌↔◌, AllPairs, ◌-◌, [], length, slice_index, slice_get, slice_range, Some, Contains, IfOk, OnOk, IsTrue};
 ghost use Rattle.mine_model.specs.declared.item.Item.{Item};
 ghost use Rattle.mine_model.specs.Ranks.{HasRank};
 ghost use Rattle.fst_simulate.specs.Grids.{Reads, WritesRank};
 ghost use Rattle.fst_simulate.specs.Tables.{Grows, unknown};
-ghost use Rattle.fst_simulate.specs.Kinds.{IsTarget, IsNeededRank, IsRow, AreEntered, Extends, HasKind, AreKinds, KindsGrow};
+ghost use Rattle.fst_simulate.specs.Kinds.{IsTarget, IsNeededRank, IsRow, AreEntered, Extends, HasKind, HasCell, AreKinds, KindsGrow};
+ghost use Rattle.fst_simulate.specs.declared.kinds.Kind.{Kind};
 
 use super::bound::Bound;
 use super::job::Job;
@@ -71,6 +72,18 @@ impl Kinds {
             ranks: Vec::new(alloc),
         })
     }
+}
+
+/// What the edges into state k may write at an item of the kind with this number, as ranks.
+pub(crate) fn outputs_of(kinds: &Kinds, number: u32, k: u32) -> &[u32]
+    requires state { 0 < k }
+    requires cell { HasCell kinds.now number k }
+    ensures { (kind : Kind) → slice_get kinds.now.kinds.items number ≡ Some kind
+        → result.now ≡ slice_range kinds.now.ranks.items (slice_index kinds.now.ends.items (kind.base + k - 1))
+        (slice_index kinds.now.ends.items (kind.base + k)) }
+{
+    let end = kinds.kinds[number as usize].base + k as usize;
+    &kinds.ranks[kinds.ends[end - 1] as usize..kinds.ends[end] as usize]
 }
 
 /// The number of the kind of an item, which is found out if it was not yet met.

@@ -64,7 +64,7 @@ returns-clause-triple c rest has =
     let same_after : after ≡ triple = same_Some after triple (sym found_after ∙ there) in (
       before,
       found_before,
-      IsTripleOf-step c.args.job.now c.support-_support.ensures.whole c.args.bound c.step.new.self table c.args.t rest class after before
+      IsTripleOf-step c.args.job.now c.support-support.ensures.whole c.args.bound c.step.new.self table c.args.t rest class after before
       (subst (IsClassFor c.args.job.now c.args.bound c.args.t) (sym same_class) is_class)
       (subst (IsTripleOf c.args.job.now c.args.bound rest) (sym same_after) is) step,
     )
