@@ -10,8 +10,6 @@ mod number;
 mod places;
 mod table;
 mod tables;
-#[cfg(test)]
-mod tests;
 
 pub use bound::Bound;
 pub use grid::Grid;
