@@ -5,6 +5,11 @@ mod bound;
 mod grid;
 mod grids;
 mod job;
+mod kinds;
+mod number;
+mod places;
+mod table;
+mod tables;
 
 pub use bound::Bound;
 pub use grid::Grid;
