@@ -2,3 +2,5 @@ pub mod PathLemmas
 pub mod OrderLemmas
 pub mod PairLemmas
 pub mod StepLemmas
+pub mod FlatLemmas
+pub mod ViewLemmas

@@ -1,0 +1,89 @@
+ghost use Rattle.std.specs.Prelude.{◌≡◌, [], OnOk};
+ghost use Rattle.candidate_gen.specs.Walk.{AreWritten, Keeps};
+
+use super::advancing::advance;
+use super::place::Place;
+use super::rank_lists::RankLists;
+use super::view::View;
+use mine_model::NoMemory;
+use smallvec::SmallVec;
+use std::alloc::Global;
+
+/// What a walk over the prefixes of a sequence's candidates keeps: the prefix where it is, the places of the
+/// prefixes that wait, and those that one step finds. Each walk uses the same room again.
+#[derive(Drop)]
+pub(crate) struct Walk {
+    path: SmallVec<u32, 16>,
+    waiting: Vec<Place>,
+    found: Vec<Place>,
+}
+
+impl Walk {
+    /// A walk with no room yet.
+    pub(crate) fn new(alloc: Global) -> Walk {
+        Walk {
+            path: SmallVec::new(alloc),
+            waiting: Vec::new(alloc),
+            found: Vec::new(alloc),
+        }
+    }
+
+    /// Appends the ranks of each candidate, rising.
+    pub(crate) fn list(&mut self, view: &View, listed: &mut RankLists) -> Result<(), NoMemory>
+        requires { listed.old ≡ [] }
+        ensures { OnOk result (AreWritten view.now listed.new) }
+    {
+        self.begin(view)?;
+        while let Some(top) = self.waiting.last().copied() {
+            if self.grow(view, top)? {
+                listed.push(self.path.as_slice())?;
+            }
+        }
+        Ok(())
+    }
+
+    // The empty prefix is on its way, and the prefixes of one rank wait.
+    fn begin(&mut self, view: &View) -> Result<(), NoMemory>
+    {
+        self.path.clear();
+        self.waiting.clear();
+        self.found.clear();
+        self.waiting.push(Place {
+            depth: 0,
+            rank: 0,
+            position: 0,
+            state: 0,
+        })?;
+        advance(view, 0, 0, 0, &mut self.waiting, &mut self.found)?;
+        keep(&mut self.waiting, &mut self.found)
+    }
+
+    // Takes the topmost prefix from the stack, and puts those that are longer by one in its place. Whether it is a
+    // candidate.
+    fn grow(&mut self, view: &View, top: Place) -> Result<bool, NoMemory>
+    {
+        self.path.truncate(top.depth as usize - 1);
+        self.path.push(top.rank)?;
+        let ended = advance(
+            view,
+            top.depth,
+            top.rank,
+            top.position,
+            &mut self.waiting,
+            &mut self.found,
+        )?;
+        keep(&mut self.waiting, &mut self.found)?;
+        Ok(ended)
+    }
+}
+
+// Puts the places that were found on the stack, those to be taken first at its top.
+fn keep(waiting: &mut Vec<Place>, found: &mut Vec<Place>) -> Result<(), NoMemory>
+    ensures { OnOk result (Keeps waiting.old.items found.old.items waiting.new.items found.new.items) }
+{
+    found.sort_unstable();
+    found.reverse();
+    waiting.extend_from_slice(found.as_slice())?;
+    found.clear();
+    Ok(())
+}
