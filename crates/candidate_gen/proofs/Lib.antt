@@ -4,3 +4,5 @@ pub mod PairLemmas
 pub mod StepLemmas
 pub mod FlatLemmas
 pub mod ViewLemmas
+pub mod AbsorbLemmas
+pub mod EnterLemmas

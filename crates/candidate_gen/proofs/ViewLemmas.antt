@@ -1,5 +1,5 @@
 -- What grids say, as ranks.
-use Rattle.std.proofs.Common.{◌≡◌, ◌↔◌, ℕ, suc, ◌+◌, ◌-◌, ◌<◌, ◌≤◌, ◌⊎◌, inl, inr, IsTrue, Bool, false, None, Some, List, [], ◌∷◌, ◌++◌, length, take, drop, get_or, refl, sym, ap, ◌∙◌, subst, arith, append_assoc}
+use Rattle.std.proofs.Common.{◌≡◌, ◌↔◌, ℕ, suc, ◌+◌, ◌-◌, ◌<◌, ◌≤◌, ◌⊎◌, inl, inr, IsTrue, Bool, true, false, None, Some, List, [], ◌∷◌, ◌++◌, length, take, drop, get_or, refl, sym, ap, ◌∙◌, subst, arith, append_assoc}
 use Rattle.std.specs.List.{AllByRecursion, Contains, slice_get}
 use Rattle.std.proofs.lemmas.List.{append-nil, take_more, take_all}
 use Rattle.std.proofs.lemmas.List.Elements.{Contains-append_left, Contains-append_right, Contains-append_cases}
@@ -77,6 +77,16 @@ module _ (space : Space) (rest : List Item) (state : ℕ) where
   pub completes-more : Completes space.problem (whole_bound space.problem.ranking) rest state false
       ↔ ((next : ℕ) × (others : List ℕ) × Writes space rest state (next ∷ others))
   completes-more = (more-from, (λ h. let (next, others, path) = h in more-to next others path))
+
+  -- where what is needed was seen, exactly where a path from it writes frequent items alone
+  pub completes-any : Completes space.problem (whole_bound space.problem.ranking) rest state true ↔ ((ranks : List ℕ) × Writes space rest state ranks)
+  completes-any = (
+    (λ h. let (output, path, allowed, seen) = h in
+        let (ranks, ranked) = allowed-ranked space.problem.ranking (whole_bound space.problem.ranking) output allowed in
+        (ranks, (output, path, ranked))),
+    (λ h. let (ranks, (output, path, ranked)) = h in
+        (output, path, ranked-allowed space.problem.ranking output ranks ranked, inl refl)),
+  )
 
   -- and it ends exactly where a path from it writes nothing
   pub ends-nothing : Ends space.problem rest state ↔ Writes space rest state []
@@ -206,6 +216,15 @@ module _ (space : Space) (grids : GridList) (seen : space_of grids ≡ space) (i
       let more = completes-more (space_of grids) (rest_at grids 0 position) state in
       subst (λ (s : Space). IsTrue r ↔ WritesMore s position state) seen
       ((λ h. more.0 (law.0 h)), (λ h. law.1 (more.1 h)))
+
+  pub view-any : (position state : ℕ) (r : Bool) → IsTrue r ↔ Completes grids.problem grids.bound (rest_at grids 0 position) state true
+      → IsTrue r ↔ ((ranks : List ℕ) × Writes space (drop position space.sequence) state ranks)
+  view-any position state r says =
+      let law : IsTrue r ↔ Completes grids.problem (whole_bound grids.problem.ranking) (rest_at grids 0 position) state true =
+      subst (λ (b : Bound). IsTrue r ↔ Completes grids.problem b (rest_at grids 0 position) state true) is.bound says in
+      let any = completes-any (space_of grids) (rest_at grids 0 position) state in
+      subst (λ (s : Space). IsTrue r ↔ ((ranks : List ℕ) × Writes s (drop position s.sequence) state ranks)) seen
+      ((λ h. any.0 (law.0 h)), (λ h. law.1 (any.1 h)))
 
   pub view-ends : (position state : ℕ) (r : Bool) → IsTrue r ↔ Ends grids.problem (rest_at grids 0 position) state
       → IsTrue r ↔ Writes space (drop position space.sequence) state []

@@ -26,3 +26,8 @@ WritesAs problem t state rank = (v : Item) × HasRank problem.ranking.order v ra
 -- an edge leads from one of the states to this one
 abbrev pub LeadsFrom : Transducer → ℕ → ℕ → Type 0
 LeadsFrom machine states to = (from : ℕ) × Has states from × Leads machine from to
+
+-- there is room for the sequence and the states
+pub record IsSmall (space : Space) : Type 0 where
+  pub short : length space.sequence ≤ most_length
+  pub few : length space.problem.machine.labels ≤ 1024

@@ -1,10 +1,15 @@
 //! The way of one prefix through the sequence: what may follow it is found position by position, from all its
 //! places at once.
 
-ghost use Rattle.std.specs.Prelude.{◌≡◌, ℕ, ◌+◌, ◌≤◌, ◌<◌, ◌⊎◌, ◌↔◌, [], ◌∷◌, ◌++◌, length, map, Contains, AllPairs, IfOk, OnOk, IfSome, IfNone};
+ghost use Rattle.std.specs.Prelude.{◌≡◌, ℕ, ◌+◌, ◌≤◌, ◌<◌, ◌⊎◌, ◌↔◌, List, [], ◌∷◌, ◌++◌, length, map, drop, slice_get, Contains, AllPairs, IsTrue, IfOk, OnOk, IfSome, IfNone, Some};
+ghost use Rattle.state_bits.specs.Members.{Has};
+ghost use Rattle.mine_model.specs.declared.item.Item.{Item};
+ghost use Rattle.fst_simulate.specs.Grids.{Reads};
+ghost use Rattle.candidate_gen.specs.Paths.{Writes};
+ghost use Rattle.candidate_gen.specs.Views.{WritesMore, WritesAs, IsSmall};
 ghost use Rattle.candidate_gen.specs.declared.place.Place.{Place};
-ghost use Rattle.candidate_gen.specs.Places.{IsPlace, IsBelow, IsOf};
-ghost use Rattle.candidate_gen.specs.Steps.{IsAhead, FollowsInto, AreStates, AddsPlaces, Absorbs, TopIsNot};
+ghost use Rattle.candidate_gen.specs.Places.{IsPlace, IsBelow, IsOf, FollowsFound};
+ghost use Rattle.candidate_gen.specs.Steps.{IsAhead, AreStates, AddsPlaces, Absorbs, TopIsNot};
 ghost use Rattle.candidate_gen.specs.Walk.{Takes};
 
 use super::place::Place;
@@ -26,6 +31,21 @@ fn take_place(waiting: &mut Vec<Place>, depth: u32, rank: u32, position: u32) ->
     Some(place.state)
 }
 
+/// Makes the state live, where more can be written from it at the position. Whether a path can end there.
+fn take_state(view: &View, position: u32, state: u32, live: &mut States) -> bool
+    requires small { IsSmall view.now }
+    requires position { position ≤ length view.now.sequence }
+    requires state { state ≤ length view.now.problem.machine.labels }
+    ensures live { (other : ℕ) → Has live.new other
+        ↔ (Has live.old other ⊎ ((other ≡ state) × WritesMore view.now position state)) }
+    ensures ends { IsTrue result ↔ Writes view.now (drop position view.now.sequence) state [] }
+{
+    if view.writes_more(position, state) {
+        live.add(state);
+    }
+    view.ends(position, state)
+}
+
 /// Takes the places of the prefix at the position from the stack. Those from which more can be written are live
 /// from then on. Whether the prefix can end at one of them.
 fn absorb(
@@ -36,17 +56,18 @@ fn absorb(
     waiting: &mut Vec<Place>,
     live: &mut States,
 ) -> bool
+    requires small { IsSmall view.now }
     requires position { position ≤ length view.now.sequence }
     requires places { (place : Place) → Contains waiting.old.items place → IsPlace view.now place }
     requires states { AreStates view.now live.old }
-    ensures absorbs { Absorbs view.now depth rank position waiting.old.items waiting.new.items live.old live.new result }
+    ensures absorbs { Absorbs view.now depth rank position
+        waiting.old.items waiting.new.items live.old live.new result }
     ensures other { TopIsNot (λ p. IsOf depth rank p × (p.position ≡ position)) waiting.new.items }
 {
     let mut ended = false;
-    while let Some(state) = take_place(waiting, depth, rank, position) {
-        ended = ended || view.ends(position, state);
-        if view.writes_more(position, state) {
-            live.add(state);
+    'places: while let Some(state) = take_place(waiting, depth, rank, position) {
+        if take_state(view, position, state, live) {
+            ended = true;
         }
     }
     ended
@@ -78,31 +99,48 @@ fn push_places(
     Ok(())
 }
 
-/// Goes into a state by the item at the position: silently, where more can then be written, and by each output.
-fn enter(
+/// Makes the state live behind the item at the position, where its edges read the item and write nothing, and more
+/// can then be written.
+fn enter_silently(view: &View, position: u32, state: u32, live: &mut States)
+    requires small { IsSmall view.now }
+    requires position { position < length view.now.sequence }
+    requires start { 0 < state }
+    requires state { state ≤ length view.now.problem.machine.labels }
+    ensures { (t : Item) → slice_get view.now.sequence position ≡ Some t → (other : ℕ) → Has live.new other
+        ↔ (Has live.old other ⊎ ((other ≡ state) × Reads view.now.problem t state []
+        × WritesMore view.now (position + 1) state)) }
+{
+    if !view.is_silent(position, state) {
+        return;
+    }
+    if view.writes_more(position + 1, state) {
+        live.add(state);
+    }
+}
+
+/// Finds a place behind the item at the position for each rank that the edges into the state may write there, where
+/// a path goes on.
+fn enter_writing(
     view: &View,
     depth: u32,
     position: u32,
     state: u32,
-    live: &mut States,
     found: &mut Vec<Place>,
 ) -> Result<(), NoMemory>
+    requires small { IsSmall view.now }
     requires position { position < length view.now.sequence }
     requires start { 0 < state }
     requires state { state ≤ length view.now.problem.machine.labels }
-    requires states { AreStates view.now live.old }
-    ensures ahead { OnOk result ((next : ℕ) (others : _) → IsAhead view.now (position + 1) live.new found.new.items next others
-        ↔ (IsAhead view.now (position + 1) live.old found.old.items next others ⊎ FollowsInto view.now position state next others)) }
-    ensures states { AreStates view.now live.new }
-    ensures places { OnOk result (AddsPlaces view.now depth (position + 1) found.old.items found.new.items) }
+    ensures found { OnOk result ((t : Item) → slice_get view.now.sequence position ≡ Some t
+        → (next : ℕ) (others : List ℕ) → FollowsFound view.now found.new.items next others
+        ↔ (FollowsFound view.now found.old.items next others ⊎ (WritesAs view.now.problem t state next
+        × Writes view.now (drop (position + 1) view.now.sequence) state others))) }
+    ensures places { OnOk result
+        (AddsPlaces view.now depth (position + 1) found.old.items found.new.items) }
 {
-    let next = position + 1;
-    let more = view.writes_more(next, state);
-    if more && view.is_silent(position, state) {
-        live.add(state);
-    }
-    if more || view.ends(next, state) {
-        push_places(found, depth, view.outputs(position, state), next, state)?;
+    if view.goes_on(position + 1, state) {
+        let ranks = view.outputs(position, state);
+        push_places(found, depth, ranks, position + 1, state)?;
     }
     Ok(())
 }
@@ -116,8 +154,9 @@ fn step(
     live: &States,
     found: &mut Vec<Place>,
 ) -> Result<States, NoMemory>
+    requires small { IsSmall view.now }
     requires states { AreStates view.now live.now }
-    ensures ahead { IfOk result (λ after. (next : ℕ) (others : _) → IsAhead view.now position live.now found.old.items next others
+    ensures ahead { IfOk result (λ after. (next : ℕ) (others : List ℕ) → IsAhead view.now position live.now found.old.items next others
         ↔ IsAhead view.now (position + 1) after found.new.items next others) }
     ensures states { IfOk result (AreStates view.now) }
     ensures inside { IfOk result (λ after. length view.now.sequence ≤ position → after ≡ 0) }
@@ -130,7 +169,8 @@ fn step(
     }
     let targets = view.targets(live);
     for state in targets.iter() {
-        enter(view, depth, position, state, &mut after, found)?;
+        enter_silently(view, position, state, &mut after);
+        enter_writing(view, depth, position, state, found)?;
     }
     Ok(after)
 }
@@ -170,6 +210,7 @@ pub(crate) fn advance(
     waiting: &mut Vec<Place>,
     found: &mut Vec<Place>,
 ) -> Result<bool, NoMemory>
+    requires small { IsSmall view.now }
     requires sorted { AllPairs IsBelow waiting.old.items }
     requires below { (place : Place) → Contains waiting.old.items place
         → (place.depth ≤ depth) × (place.depth ≡ depth → rank ≤ place.rank) }
@@ -182,7 +223,7 @@ pub(crate) fn advance(
     let mut ended = false;
     let mut live = States::new();
     let mut position = start;
-    while let Some(at) = next_position(waiting.as_slice(), depth, rank, position, &live) {
+    'positions: while let Some(at) = next_position(waiting.as_slice(), depth, rank, position, &live) {
         if absorb(view, depth, rank, at, waiting, &mut live) {
             ended = true;
         }

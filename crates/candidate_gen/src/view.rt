@@ -1,12 +1,11 @@
-ghost use Rattle.std.specs.Prelude.{◌≡◌, ℕ, ◌≤◌, ◌<◌, ◌⊎◌, ◌↔◌, [], ◌∷◌, length, drop, IsTrue, Contains, Some, slice_get};
+ghost use Rattle.std.specs.Prelude.{◌≡◌, ℕ, ◌≤◌, ◌<◌, ◌⊎◌, ◌↔◌, List, [], ◌∷◌, length, drop, IsTrue, Contains, Some, slice_get};
 ghost use Rattle.state_bits.specs.Members.{Has};
 ghost use Rattle.mine_model.specs.declared.item.Item.{Item};
-ghost use Rattle.mine_model.specs.Limits.{most_length};
 ghost use Rattle.fst_compile.specs.Transducer.{Leads};
 ghost use Rattle.fst_simulate.specs.Problems.{IsWhole, items_of};
 ghost use Rattle.fst_simulate.specs.Grids.{Reads};
 ghost use Rattle.candidate_gen.specs.Paths.{Writes};
-ghost use Rattle.candidate_gen.specs.Views.{IsGridOf, WritesMore, WritesAs, LeadsFrom};
+ghost use Rattle.candidate_gen.specs.Views.{IsGridOf, WritesMore, WritesAs, LeadsFrom, IsSmall};
 ghost use Rattle.candidate_gen.specs.Steps.{AreStates};
 
 use fst_compile::{Fst, State};
@@ -59,8 +58,7 @@ impl<'a, 'b> View<'a, 'b> {
     /// How many items the sequence has.
     pub(crate) fn length(&self) -> u32
         ensures length { result ≡ length self.now.sequence }
-        ensures most { result ≤ most_length }
-        ensures whole { IsWhole self.now.problem }
+        ensures small { IsSmall self.now }
     {
         self.length
     }
@@ -72,6 +70,16 @@ impl<'a, 'b> View<'a, 'b> {
         ensures { IsTrue result ↔ WritesMore self.now position state }
     {
         self.grids.completes(0, position, State(state), false)
+    }
+
+    /// Whether a path from the state over the rest of the sequence writes frequent items alone.
+    pub(crate) fn goes_on(&self, position: u32, state: u32) -> bool
+        requires position { position ≤ length self.now.sequence }
+        requires state { state ≤ length self.now.problem.machine.labels }
+        ensures { IsTrue result
+            ↔ ((ranks : List ℕ) × Writes self.now (drop position self.now.sequence) state ranks) }
+    {
+        self.grids.completes(0, position, State(state), true)
     }
 
     /// Whether a path from the state over the rest of the sequence writes nothing.

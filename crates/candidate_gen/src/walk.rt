@@ -43,8 +43,7 @@ impl Walk {
     }
 
     // The empty prefix is on its way, and the prefixes of one rank wait.
-    fn begin(&mut self, view: &View) -> Result<(), NoMemory>
-    {
+    fn begin(&mut self, view: &View) -> Result<(), NoMemory> {
         self.path.clear();
         self.waiting.clear();
         self.found.clear();
@@ -60,8 +59,7 @@ impl Walk {
 
     // Takes the topmost prefix from the stack, and puts those that are longer by one in its place. Whether it is a
     // candidate.
-    fn grow(&mut self, view: &View, top: Place) -> Result<bool, NoMemory>
-    {
+    fn grow(&mut self, view: &View, top: Place) -> Result<bool, NoMemory> {
         self.path.truncate(top.depth as usize - 1);
         self.path.push(top.rank)?;
         let ended = advance(
