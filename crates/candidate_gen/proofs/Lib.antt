@@ -6,3 +6,5 @@ pub mod FlatLemmas
 pub mod ViewLemmas
 pub mod AbsorbLemmas
 pub mod EnterLemmas
+pub mod ItemLemmas
+pub mod WayLemmas

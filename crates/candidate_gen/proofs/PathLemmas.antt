@@ -10,7 +10,7 @@ use Rattle.fst_compile.specs.declared.edge.Edge.{Edge}
 use Rattle.candidate_gen.specs.Candidates.{AreRanked}
 use Rattle.candidate_gen.specs.Paths.{Space, Writes, IsRead, WritesBehind}
 
-writes-cases : (links : List (Link Item)) (leaf : Leaf Item) (captured : Bool) (t : Item) (output : List Item) → WritesAt links leaf captured t output
+pub writes-cases : (links : List (Link Item)) (leaf : Leaf Item) (captured : Bool) (t : Item) (output : List Item) → WritesAt links leaf captured t output
     → ((captured ≡ false) × (output ≡ [])) ⊎ ((captured ≡ true) × ((v : Item) × MayWrite links leaf t v × (output ≡ v ∷ [])))
 writes-cases links leaf true t output writes = inr (refl, writes)
 writes-cases links leaf false t output writes = inl (refl, writes)

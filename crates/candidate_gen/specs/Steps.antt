@@ -50,6 +50,7 @@ pub record IsOnWay (space : Space) (depth rank start position : ℕ) (before wai
     : Type 0 where
   pub cut : (taken : List Place) × (before ≡ waiting ++ taken)
   pub parts : (place : Place) → Contains before place → Contains waiting place ⊎ IsOf depth rank place
+  pub begun : start ≤ position
   pub later : (place : Place) → Contains waiting place → IsOf depth rank place → position ≤ place.position
   pub more : (next : ℕ) (others : List ℕ) → FollowsOf space depth rank before (next ∷ others)
       ↔ (FollowsOf space depth rank waiting (next ∷ others) ⊎ IsAhead space position live found next others)

@@ -9,7 +9,7 @@ ghost use Rattle.candidate_gen.specs.Paths.{Writes};
 ghost use Rattle.candidate_gen.specs.Views.{WritesMore, WritesAs, IsSmall};
 ghost use Rattle.candidate_gen.specs.declared.place.Place.{Place};
 ghost use Rattle.candidate_gen.specs.Places.{IsPlace, IsBelow, IsOf, FollowsFound};
-ghost use Rattle.candidate_gen.specs.Steps.{IsAhead, AreStates, AddsPlaces, Absorbs, TopIsNot};
+ghost use Rattle.candidate_gen.specs.Steps.{IsAhead, FollowsInto, AreStates, AddsPlaces, Absorbs, TopIsNot};
 ghost use Rattle.candidate_gen.specs.Walk.{Takes};
 
 use super::place::Place;
@@ -145,6 +145,35 @@ fn enter_writing(
     Ok(())
 }
 
+/// Enters these states by the item at the position: the states that are live behind it, and, appended, the places
+/// where it has written something.
+fn enter_all(
+    view: &View,
+    depth: u32,
+    position: u32,
+    targets: &States,
+    found: &mut Vec<Place>,
+) -> Result<States, NoMemory>
+    requires small { IsSmall view.now }
+    requires position { position < length view.now.sequence }
+    requires targets { (to : ℕ) → Has targets.now to
+        → (0 < to) × (to ≤ length view.now.problem.machine.labels) }
+    ensures ahead { IfOk result (λ after. (next : ℕ) (others : List ℕ)
+        → IsAhead view.now (position + 1) after found.new.items next others
+        ↔ (FollowsFound view.now found.old.items next others
+        ⊎ ((to : ℕ) × Has targets.now to × FollowsInto view.now position to next others))) }
+    ensures states { IfOk result (AreStates view.now) }
+    ensures places { OnOk result
+        (AddsPlaces view.now depth (position + 1) found.old.items found.new.items) }
+{
+    let mut after = States::new();
+    for state in targets.iter() {
+        enter_silently(view, position, state, &mut after);
+        enter_writing(view, depth, position, state, found)?;
+    }
+    Ok(after)
+}
+
 /// Goes over the item at the position from all live states: the states that are live behind it, and, appended, the
 /// places where it has written something.
 fn step(
@@ -156,23 +185,19 @@ fn step(
 ) -> Result<States, NoMemory>
     requires small { IsSmall view.now }
     requires states { AreStates view.now live.now }
-    ensures ahead { IfOk result (λ after. (next : ℕ) (others : List ℕ) → IsAhead view.now position live.now found.old.items next others
+    ensures ahead { IfOk result (λ after. (next : ℕ) (others : List ℕ)
+        → IsAhead view.now position live.now found.old.items next others
         ↔ IsAhead view.now (position + 1) after found.new.items next others) }
     ensures states { IfOk result (AreStates view.now) }
     ensures inside { IfOk result (λ after. length view.now.sequence ≤ position → after ≡ 0) }
     ensures places { OnOk result (AddsPlaces view.now depth (position + 1) found.old.items found.new.items) }
     ensures within { OnOk result (length view.now.sequence ≤ position → found.new.items ≡ found.old.items) }
 {
-    let mut after = States::new();
     if position >= view.length() {
-        return Ok(after);
+        return Ok(States::new());
     }
     let targets = view.targets(live);
-    for state in targets.iter() {
-        enter_silently(view, position, state, &mut after);
-        enter_writing(view, depth, position, state, found)?;
-    }
-    Ok(after)
+    enter_all(view, depth, position, &targets, found)
 }
 
 /// The next position that matters to the prefix: this one while a state is live, else that of its next place.
@@ -184,8 +209,8 @@ fn next_position(
     live: &States,
 ) -> Option<u32>
     ensures live { IfSome result (λ at. (at ≡ position) ⊎ (live.now ≡ 0)) }
-    ensures place { IfSome result (λ at. (live.now ≡ 0) → (top : Place) × Contains waiting.now top × IsOf depth rank top
-        × (top.position ≡ at)) }
+    ensures place { IfSome result (λ at. live.now ≡ 0 → (front : List Place) × (top : Place)
+        × (waiting.now ≡ front ++ top ∷ []) × IsOf depth rank top × (top.position ≡ at)) }
     ensures none { IfNone result (live.now ≡ 0) }
     ensures other { IfNone result (TopIsNot (IsOf depth rank) waiting.now) }
 {

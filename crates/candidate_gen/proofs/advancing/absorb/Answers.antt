@@ -20,4 +20,4 @@ places-preserved c =
     c.take_state.new.live c.in-Some.state c.places.ended c.places.invariant c.in-Some.ensures.taken
     (next-within c.args.view.now c.args.depth c.args.rank c.args.position c.args.waiting.now.items c.places.waiting.items c.take_place.new.waiting.items c.args.live.now c.places.live c.in-Some.state c.places.ended
     c.places.invariant c.in-Some.ensures.taken c.requires.places)
-    c.take_state.ensures.live c.if-take_state.ensures.ends
+    c.take_state.ensures.live (λ stops. let never = c.if-take_state.ensures.ends.1 stops in absurd (cc))
