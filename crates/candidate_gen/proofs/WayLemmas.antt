@@ -263,3 +263,13 @@ module _ (space : Space) (depth rank start : ℕ) (before : List Place) where
           let (taken, whole) = so_far.cut in
           let order : AllPairs IsBelow waiting = pairs-front IsBelow waiting taken (subst (AllPairs IsBelow) whole sorted) in
           none-left depth rank waiting order (λ p h. below p (front-held before waiting taken p whole h)) other
+
+-- what is said once a test was made
+pub said-now : (now ended stops : Bool) → now ≡ true → stops ≡ true → IsTrue now ↔ (IsTrue ended ⊎ IsTrue stops)
+said-now now ended stops is stop = ((λ h. inr stop), (λ h. is))
+
+pub said-before : (now ended stops : Bool) → now ≡ ended → stops ≡ false → IsTrue now ↔ (IsTrue ended ⊎ IsTrue stops)
+said-before now ended stops is goes = (
+  (λ h. inl (sym is ∙ h)),
+  (λ h. elim h [ inl old ↦ is ∙ old | inr stop ↦ absurd (cc) ]),
+)
