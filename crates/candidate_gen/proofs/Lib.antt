@@ -8,3 +8,6 @@ pub mod AbsorbLemmas
 pub mod EnterLemmas
 pub mod ItemLemmas
 pub mod WayLemmas
+pub mod SortLemmas
+pub mod WeightLemmas
+pub mod GrowLemmas

@@ -8,7 +8,7 @@ use Rattle.mine_model.proofs.ListLemmas.{Contains-cases, Contains-first, Contain
 use Rattle.candidate_gen.specs.declared.place.Place.{Place}
 use Rattle.candidate_gen.specs.Paths.{Space}
 use Rattle.candidate_gen.specs.Candidates.{IsEarlier}
-use Rattle.candidate_gen.specs.Places.{Follows, FollowsOf, FollowsFound, prefix_of, IsBelow, Fits, AreWaiting, IsOf}
+use Rattle.candidate_gen.specs.Places.{Follows, FollowsOf, FollowsFound, prefix_of, grown, IsBelow, Fits, AreWaiting, IsOf}
 use Rattle.candidate_gen.specs.Walk.{IsWritten, IsToCome, IsListed, Takes}
 use Rattle.candidate_gen.proofs.OrderLemmas.{prefix-earlier, branch-earlier}
 use Rattle.candidate_gen.proofs.PairLemmas.{pairs-front, pairs-across}
@@ -16,10 +16,6 @@ use Rattle.candidate_gen.proofs.PairLemmas.{pairs-front, pairs-across}
 -- a list is what stands before a place, the element there, and what stands behind it
 pub cut-at : (xs : List ℕ) (k : ℕ) → k < length xs → xs ≡ take k xs ++ get_or xs k 0 ∷ drop (suc k) xs
 cut-at xs k inside = sym (take-append-drop k xs) ∙ ap (λ l. take k xs ++ l) (drop-cons xs k 0 inside)
-
--- the path that has grown by the prefix of this length with this last rank
-abbrev pub grown : List ℕ → ℕ → ℕ → List ℕ
-grown path depth rank = take (depth - 1) path ++ rank ∷ []
 
 module _ (path : List ℕ) (depth rank : ℕ) (least : 1 ≤ depth) (most : depth ≤ length path + 1) where
   pub length-grown : length (grown path depth rank) ≡ depth

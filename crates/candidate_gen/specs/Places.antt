@@ -12,6 +12,10 @@ Follows space place more = Writes space (drop place.position space.sequence) pla
 abbrev pub prefix_of : List ℕ → Place → List ℕ
 prefix_of path place = take (place.depth - 1) path ++ place.rank ∷ []
 
+-- the path that has grown by the prefix of this length with this last rank
+abbrev pub grown : List ℕ → ℕ → ℕ → List ℕ
+grown path depth rank = take (depth - 1) path ++ rank ∷ []
+
 -- the place lies in the sequence, behind as many items as were written at least, and its state is one of the transducer
 pub record IsPlace (space : Space) (place : Place) : Type 0 where
   pub short : place.depth ≤ place.position

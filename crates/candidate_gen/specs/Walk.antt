@@ -46,5 +46,15 @@ pub record Keeps (before found after left : List Place) : Type 0 where
   pub kept : List Place
   pub same : IsPermutation found kept
   pub sorted : (depth : ℕ) → ((place : Place) → Contains found place → place.depth ≡ depth) → AllPairs IsBelow kept
+  pub few : length kept < 2 ^ 64
   pub after_is : after ≡ before ++ kept
   pub left_is : left ≡ []
+
+-- the topmost prefix was taken from the stack, and those that are longer by one stand in its place
+pub record Grows (space : Space) (top : Place) (before after : List Place) (stops : Bool) : Type 0 where
+  pub rest : List Place
+  pub kept : List Place
+  pub takes : Takes space top.depth top.rank top.position before rest kept stops
+  pub sorted : AllPairs IsBelow kept
+  pub few : length kept < 2 ^ 64
+  pub after_is : after ≡ rest ++ kept

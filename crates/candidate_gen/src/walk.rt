@@ -1,5 +1,8 @@
-ghost use Rattle.std.specs.Prelude.{◌≡◌, [], OnOk};
-ghost use Rattle.candidate_gen.specs.Walk.{AreWritten, Keeps};
+ghost use Rattle.std.specs.Prelude.{◌≡◌, List, [], ◌∷◌, ◌++◌, IfOk, OnOk};
+ghost use Rattle.candidate_gen.specs.declared.place.Place.{Place};
+ghost use Rattle.candidate_gen.specs.Views.{IsSmall};
+ghost use Rattle.candidate_gen.specs.Places.{AreWaiting, grown};
+ghost use Rattle.candidate_gen.specs.Walk.{AreWritten, IsListed, Keeps, Grows};
 
 use super::advancing::advance;
 use super::place::Place;
@@ -33,8 +36,9 @@ impl Walk {
         requires { listed.old ≡ [] }
         ensures { OnOk result (AreWritten view.now listed.new) }
     {
+        let _length = view.length();
         self.begin(view)?;
-        while let Some(top) = self.waiting.last().copied() {
+        'prefixes: while let Some(top) = self.waiting.last().copied() {
             if self.grow(view, top)? {
                 listed.push(self.path.as_slice())?;
             }
@@ -42,8 +46,14 @@ impl Walk {
         Ok(())
     }
 
-    // The empty prefix is on its way, and the prefixes of one rank wait.
-    fn begin(&mut self, view: &View) -> Result<(), NoMemory> {
+    // The empty prefix has gone its way, and the prefixes of one rank wait.
+    fn begin(&mut self, view: &View) -> Result<(), NoMemory>
+        requires { IsSmall view.now }
+        ensures path { OnOk result (self.new.path.items ≡ []) }
+        ensures found { OnOk result (self.new.found.items ≡ []) }
+        ensures waiting { OnOk result (AreWaiting view.now [] self.new.waiting.items) }
+        ensures listed { OnOk result (IsListed view.now [] self.new.waiting.items []) }
+    {
         self.path.clear();
         self.waiting.clear();
         self.found.clear();
@@ -59,7 +69,15 @@ impl Walk {
 
     // Takes the topmost prefix from the stack, and puts those that are longer by one in its place. Whether it is a
     // candidate.
-    fn grow(&mut self, view: &View, top: Place) -> Result<bool, NoMemory> {
+    fn grow(&mut self, view: &View, top: Place) -> Result<bool, NoMemory>
+        requires small { IsSmall view.now }
+        requires waiting { AreWaiting view.now self.old.path.items self.old.waiting.items }
+        requires top { (front : List Place) × (self.old.waiting.items ≡ front ++ top ∷ []) }
+        requires found { self.old.found.items ≡ [] }
+        ensures path { OnOk result (self.new.path.items ≡ grown self.old.path.items top.depth top.rank) }
+        ensures found { OnOk result (self.new.found.items ≡ []) }
+        ensures grows { IfOk result (Grows view.now top self.old.waiting.items self.new.waiting.items) }
+    {
         self.path.truncate(top.depth as usize - 1);
         self.path.push(top.rank)?;
         let ended = advance(
