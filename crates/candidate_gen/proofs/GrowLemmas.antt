@@ -1,6 +1,7 @@
 -- The stack at the start of a walk, after each step, and at its end.
-use Rattle.std.proofs.Common.{◌≡◌, ◌↔◌, ◌≢◌, ℕ, suc, ◌+◌, ◌-◌, ◌^◌, ◌<◌, ◌≤◌, ◌⊎◌, inl, inr, Bool, true, false, IsTrue, List, [], ◌∷◌, ◌++◌, length, take, drop, refl, sym, ap, ◌∙◌, subst, arith, lit≤}
-use Rattle.std.specs.List.{Contains, AllPairs}
+use Rattle.std.proofs.Common.{◌≡◌, ◌↔◌, ◌≢◌, ℕ, suc, ◌+◌, ◌-◌, ◌^◌, ◌<◌, ◌≤◌, ◌⊎◌, inl, inr, None, Some, get_or, Bool, true, false, IsTrue, List, [], ◌∷◌, ◌++◌, length, take, drop, refl, sym, ap, ◌∙◌, subst, arith, lit≤}
+use Rattle.std.specs.List.{Contains, AllPairs, slice_get}
+use Rattle.std.proofs.lemmas.Option.{slice_get-get_or}
 use Rattle.std.specs.List.Sorted.{IsPermutation}
 use Rattle.std.proofs.lemmas.List.Sorted.{Contains-permutation, IsPermutation-sym}
 use Rattle.mine_model.proofs.ListLemmas.{Contains-cases, Contains-first, Contains-none}
@@ -10,7 +11,8 @@ use Rattle.candidate_gen.specs.Candidates.{IsEarlier}
 use Rattle.candidate_gen.specs.Paths.{Space, Writes}
 use Rattle.candidate_gen.specs.Places.{FollowsFound, IsOf, IsPlace, IsBelow, Fits, AreWaiting, prefix_of, grown}
 use Rattle.candidate_gen.specs.Walk.{IsWritten, IsToCome, IsListed, AreWritten, Takes, Keeps, Grows, weight}
-use Rattle.candidate_gen.proofs.AbsorbLemmas.{front-held, last-held}
+use Rattle.candidate_gen.proofs.AbsorbLemmas.{front-held, last-held, last-cases}
+use Rattle.candidate_gen.proofs.PairLemmas.{pairs-across}
 use Rattle.candidate_gen.proofs.StepLemmas.{below-top, step-listed, step-passed, step-waiting}
 use Rattle.candidate_gen.proofs.WeightLemmas.{weight-falls}
 
@@ -30,9 +32,11 @@ takes-permuted space depth rank start before after found kept stops takes same =
   depths = λ place inside. takes.depths place (Contains-permutation kept found place (IsPermutation-sym found kept same) inside);
 }
 
-pub grows-from : (space : Space) (top : Place) (before rest found after left : List Place) (stops : Bool)
+pub grows-from : (space : Space) (top : Place) (before front rest found after left : List Place) (stops : Bool) → before ≡ front ++ top ∷ []
     → Takes space top.depth top.rank top.position before rest found stops → Keeps rest found after left → Grows space top before after stops
-grows-from space top before rest found after left stops takes keeps = record {
+grows-from space top before front rest found after left stops cut takes keeps = record {
+  front = front;
+  cut = cut;
   rest = rest;
   kept = keeps.kept;
   takes = takes-permuted space top.depth top.rank top.position before rest found keeps.kept stops takes keeps.same;
@@ -41,32 +45,40 @@ grows-from space top before rest found after left stops takes keeps = record {
   after_is = keeps.after_is;
 }
 
-module _ (space : Space) (path : List ℕ) (top : Place) (before front after : List Place) (stops : Bool)
-    (waiting : AreWaiting space path before) (cut : before ≡ front ++ top ∷ []) (grows : Grows space top before after stops) where
+module _ (space : Space) (path : List ℕ) (top : Place) (before after : List Place) (stops : Bool)
+    (waiting : AreWaiting space path before) (grows : Grows space top before after stops) where
   top-fits : Fits path top
-  top-fits = waiting.fits top (last-held before front top cut)
+  top-fits = waiting.fits top (last-held before grows.front top grows.cut)
 
   pub grown-waiting : AreWaiting space (grown path top.depth top.rank) after
   grown-waiting = subst (AreWaiting space (grown path top.depth top.rank)) (sym grows.after_is)
       (step-waiting space path top.depth top.rank top.position before grows.rest grows.kept stops top-fits.least top-fits.most waiting grows.takes
-      (below-top before front top cut waiting.sorted) grows.sorted)
+      (below-top before grows.front top grows.cut waiting.sorted) grows.sorted)
 
   pub grown-listed : (listed : List (List ℕ)) → stops ≡ true → IsListed space path before listed
       → IsListed space (grown path top.depth top.rank) after (listed ++ grown path top.depth top.rank ∷ [])
   grown-listed listed stop is = subst (λ l. IsListed space (grown path top.depth top.rank) l (listed ++ grown path top.depth top.rank ∷ [])) (sym grows.after_is)
       (step-listed space path top.depth top.rank top.position before grows.rest grows.kept stops top-fits.least top-fits.most waiting grows.takes
-      (below-top before front top cut waiting.sorted) listed stop is)
+      (below-top before grows.front top grows.cut waiting.sorted) listed stop is)
 
   pub grown-passed : (listed : List (List ℕ)) → stops ≡ false → IsListed space path before listed
       → IsListed space (grown path top.depth top.rank) after listed
   grown-passed listed goes is = subst (λ l. IsListed space (grown path top.depth top.rank) l listed) (sym grows.after_is)
       (step-passed space path top.depth top.rank top.position before grows.rest grows.kept stops top-fits.least top-fits.most waiting grows.takes
-      (below-top before front top cut waiting.sorted) listed (λ stop. absurd (cc)) is)
+      (below-top before grows.front top grows.cut waiting.sorted) listed (λ stop. absurd (cc)) is)
 
   pub grown-lighter : weight (2 ^ 64) (length space.sequence) after < weight (2 ^ 64) (length space.sequence) before
   grown-lighter = subst (λ l. weight (2 ^ 64) (length space.sequence) l < weight (2 ^ 64) (length space.sequence) before) (sym grows.after_is)
-      (weight-falls space top.depth top.rank top.position before grows.rest grows.kept stops (2 ^ 64) grows.takes grows.few (lit≤ tt) top (last-held before front top cut) (refl, refl) refl
-      (waiting.places top (last-held before front top cut)).within)
+      (weight-falls space top.depth top.rank top.position before grows.rest grows.kept stops (2 ^ 64) grows.takes grows.few (lit≤ tt) top (last-held before grows.front top grows.cut) (refl, refl) refl
+      (waiting.places top (last-held before grows.front top grows.cut)).within)
+
+-- the places of the topmost prefix are no earlier than the top
+pub top-first : (waiting front : List Place) (top : Place) → waiting ≡ front ++ top ∷ [] → AllPairs IsBelow waiting
+    → (place : Place) → Contains waiting place → IsOf top.depth top.rank place → top.position ≤ place.position
+top-first waiting front top cut sorted place inside of = elim (last-cases waiting front top place cut inside) [
+  | inl under ↦ (pairs-across IsBelow front (top ∷ []) (subst (AllPairs IsBelow) cut sorted) place top under (Contains-first top [])).position of.0 (sym of.1)
+  | inr same ↦ let e : place.position ≡ top.position = ap (λ (p : Place). p.position) same in omega (arith, e)
+]
 
 -- the place of the empty prefix
 abbrev pub root : Place
@@ -129,6 +141,13 @@ module _ (space : Space) where
         (λ h. elim h [ | inl none ↦ absurd (Contains-none ranks none) | inr coming ↦ to-come-written ranks coming ]),
       );
     })
+
+pub no-last : {X : Type 0} (xs : List X) → None ≡ slice_get xs (length xs - 1) → xs ≡ []
+no-last [] none = refl
+no-last (x ∷ xs) none =
+    let l : length (x ∷ xs) ≡ suc (length xs) = refl in
+    let some : slice_get (x ∷ xs) (length (x ∷ xs) - 1) ≡ Some (get_or (x ∷ xs) (length (x ∷ xs) - 1) x) = slice_get-get_or (x ∷ xs) (length (x ∷ xs) - 1) x (omega (arith, l)) in
+    absurd (cc)
 
 -- where nothing waits, all was listed
 pub listed-all : (space : Space) (path : List ℕ) (waiting : List Place) (listed : List (List ℕ)) → IsListed space path waiting listed → waiting ≡ [] → AreWritten space listed

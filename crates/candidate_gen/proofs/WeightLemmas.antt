@@ -43,18 +43,25 @@ light base end start least (place ∷ places) behind =
     power-grows base (end - place.position) (end - (start + 1)) least (omega (arith, here)) in
     let rest : weight base end places ≤ length places * base ^ (end - (start + 1)) = light base end start least places (λ p h. behind p (Contains-other place places p h)) in
     let l : length (place ∷ places) ≡ suc (length places) = refl in
-    omega (arith, one, rest, l)
+    let whole : weight base end (place ∷ places) ≡ base ^ (end - place.position) + weight base end places = refl in
+    omega (arith, one, rest, l, whole)
 
 pub weight-append : (base end : ℕ) (xs ys : List Place) → weight base end (xs ++ ys) ≡ weight base end xs + weight base end ys
 weight-append base end [] ys = omega arith
-weight-append base end (x ∷ xs) ys = let rest : weight base end (xs ++ ys) ≡ weight base end xs + weight base end ys = weight-append base end xs ys in omega (arith, rest)
+weight-append base end (x ∷ xs) ys =
+    let rest : weight base end (xs ++ ys) ≡ weight base end xs + weight base end ys = weight-append base end xs ys in
+    let whole : weight base end (x ∷ (xs ++ ys)) ≡ base ^ (end - x.position) + weight base end (xs ++ ys) = refl in
+    let one : weight base end (x ∷ xs) ≡ base ^ (end - x.position) + weight base end xs = refl in
+    omega (arith, rest, whole, one)
 
 heavy : (base end : ℕ) (places : List Place) (place : Place) → Contains places place → base ^ (end - place.position) ≤ weight base end places
 heavy base end [] place inside = absurd (Contains-none place inside)
-heavy base end (x ∷ places) place inside = elim (Contains-cases x places place inside) [
-  | inl same ↦ let e : base ^ (end - place.position) ≡ base ^ (end - x.position) = ap (λ (p : Place). base ^ (end - p.position)) same in omega (arith, e)
-  | inr other ↦ let h = heavy base end places place other in omega (arith, h)
-]
+heavy base end (x ∷ places) place inside =
+    let whole : weight base end (x ∷ places) ≡ base ^ (end - x.position) + weight base end places = refl in
+    elim (Contains-cases x places place inside) [
+      | inl same ↦ let e : base ^ (end - place.position) ≡ base ^ (end - x.position) = ap (λ (p : Place). base ^ (end - p.position)) same in omega (arith, e, whole)
+      | inr other ↦ let h = heavy base end places place other in omega (arith, h, whole)
+    ]
 
 less-product : (n b x : ℕ) → n < b → 1 ≤ x → n * x < b * x
 less-product n b x few least =

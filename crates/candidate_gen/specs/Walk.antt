@@ -1,5 +1,5 @@
 -- The walk over the prefixes of one sequence's candidates.
-use Rattle.std.specs.Prelude.{◌≡◌, ◌≢◌, ℕ, ◌+◌, ◌-◌, ◌^◌, ◌<◌, ◌⊎◌, ◌↔◌, Bool, IsTrue, List, [], ◌∷◌, ◌++◌, length, sum_by, Contains, AllPairs}
+use Rattle.std.specs.Prelude.{◌≡◌, ◌≢◌, ℕ, ◌+◌, ◌-◌, ◌^◌, ◌<◌, ◌⊎◌, ◌↔◌, Bool, IsTrue, List, [], ◌∷◌, ◌++◌, length, Contains, AllPairs}
 use Rattle.std.specs.List.Sorted.{IsPermutation}
 use Rattle.candidate_gen.specs.declared.place.Place.{Place}
 use Rattle.candidate_gen.specs.Candidates.{IsEarlier}
@@ -39,7 +39,8 @@ pub record Takes (space : Space) (depth rank start : ℕ) (before after longer :
 
 -- a measure of the walk: each place counts more than all those that can be found from it
 abbrev pub weight : ℕ → ℕ → List Place → ℕ
-weight base end places = sum_by (λ place. base ^ (end - place.position)) places
+weight base end [] = 0
+weight base end (place ∷ places) = base ^ (end - place.position) + weight base end places
 
 -- what was found stands behind the others, in its order
 pub record Keeps (before found after left : List Place) : Type 0 where
@@ -52,6 +53,8 @@ pub record Keeps (before found after left : List Place) : Type 0 where
 
 -- the topmost prefix was taken from the stack, and those that are longer by one stand in its place
 pub record Grows (space : Space) (top : Place) (before after : List Place) (stops : Bool) : Type 0 where
+  pub front : List Place
+  pub cut : before ≡ front ++ top ∷ []
   pub rest : List Place
   pub kept : List Place
   pub takes : Takes space top.depth top.rank top.position before rest kept stops

@@ -64,7 +64,8 @@ impl Walk {
             state: 0,
         })?;
         advance(view, 0, 0, 0, &mut self.waiting, &mut self.found)?;
-        keep(&mut self.waiting, &mut self.found)
+        keep(&mut self.waiting, &mut self.found)?;
+        Ok(())
     }
 
     // Takes the topmost prefix from the stack, and puts those that are longer by one in its place. Whether it is a

@@ -1,7 +1,6 @@
 use Rattle.std.proofs.Common.{◌≡◌, [], ◌^◌, length}
 use Rattle.candidate_gen.specs.Places.{AreWaiting}
 use Rattle.candidate_gen.specs.Walk.{IsListed, weight}
-use Rattle.candidate_gen.proofs.GrowLemmas.{grows-from}
 use Rattle.candidate_gen.proofs.walk.Walk.list.Given as goal
 
 abbrev pub invariant-prefixes : goal.invariant-prefixes
