@@ -3,6 +3,8 @@
 
 mod counts;
 mod mining;
+#[cfg(test)]
+mod tests;
 mod trie;
 
 pub use mining::mine;

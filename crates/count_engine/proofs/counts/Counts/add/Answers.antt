@@ -1,4 +1,4 @@
-use Rattle.std.proofs.Common.{◌+◌, ◌^◌, ◌<◌, ◌≤◌, length, sym, subst, rules, arith}
+use Rattle.std.proofs.Common.{ℕ, ◌+◌, ◌^◌, ◌<◌, ◌≤◌, length, sym, subst, rules, arith}
 use Rattle.std.proofs.lemmas.Option.{slice_get_within}
 use Rattle.std.proofs.Math.ListN.{length-set}
 use Rattle.count_engine.specs.Counts.{Tally, sum_of}
@@ -26,7 +26,7 @@ invariant_of-self-2 c =
     let within : c.in_ok-id.id < length c.number_of.new.trie = slice_get_within c.number_of.new.trie c.in_ok-id.id c.args.list.now c.in_ok-id.ensures.number in
     let few : length c.cover.new.sums.items ≤ length c.number_of.new.trie = c.cover.ensures.most (length c.number_of.new.trie) kept.few within in
     tally_more c.self.inside.trie c.number_of.new.trie c.self.inside.sums.items _ c.self.invariant c.number_of.ensures.extends
-    (omega (arith, few, length-set c.cover.new.sums.items c.in_ok-id.id (c.index_mut.result.now + c.args.weight)))
+    (omega (arith, few, length-set {A = ℕ}))
 
 pub returns : goal.returns
 returns c =
