@@ -3,12 +3,11 @@
 use Rattle.std.proofs.Common.{◌≡◌, ℕ, ◌+◌, ◌*◌, ◌≤◌, ◌<◌, ◌⊎◌, ◌↔◌, inl, inr, List, [], ◌∷◌, ◌++◌, length, refl, arith}
 use Rattle.std.specs.List.{All, AllByRecursion, Contains, slice_index}
 use Rattle.std.proofs.lemmas.Bool.{cases_lt}
+use Rattle.std.proofs.lemmas.List.Elements.{All-head, All-tail}
 use Rattle.mine_model.specs.declared.item.Item.{Item}
 use Rattle.mine_model.specs.Hierarchy.{Link}
 use Rattle.mine_model.specs.Expression.{Tree}
 use Rattle.mine_model.specs.Generation.{IsPatternOf}
-use Rattle.mine_model.specs.Limits.{most_weight}
-use Rattle.mine_model.specs.Database.{IsWithinLimits}
 use Rattle.mine_model.specs.Support.{Sequence, Counts, HasSupport, HoldsUnder, HasFrequency}
 use Rattle.mine_model.specs.Ranks.{IsFrequentItem, IsCandidateOf, AreFrequencies}
 use Rattle.mine_model.proofs.ListLemmas.{AllByRecursion-contained, Contains-first, Contains-other}
@@ -47,14 +46,15 @@ Counts-append Has (s ∷ xs) ys n m (inl p) q = inl (p.0, (p.1.0 + m, omega (ari
 Counts-append Has (s ∷ xs) ys n m (inr p) q = inr (p.0, Counts-append Has xs ys n m p.1 q)
 
 -- no count exceeds the greatest weight of as many sequences
-pub Counts-most : {A : Type 0} (Has : List A → Type 0) (most : ℕ) (sequences : List (Sequence A)) (n : ℕ) → AllByRecursion (λ s. s.weight ≤ most) sequences
+pub Counts-most : {A : Type 0} (Has : List A → Type 0) (most : ℕ) (sequences : List (Sequence A)) (n : ℕ) → All (λ s. s.weight ≤ most) sequences
     → Counts Has sequences n → n ≤ length sequences * most
 Counts-most Has most [] n all p = omega arith
-Counts-most Has most (s ∷ sequences) n all (inl p) =
-    let rest : p.1.0 ≤ length sequences * most = Counts-most Has most sequences p.1.0 all.1 p.1.2 in
-    let weight : s.weight ≤ most = all.0 in grind arith
-Counts-most Has most (s ∷ sequences) n all (inr p) =
-    let rest : n ≤ length sequences * most = Counts-most Has most sequences n all.1 p.1 in grind arith
+Counts-most {A} Has most (s ∷ sequences) n all (inl p) =
+    let Light : Sequence A → Type 0 = λ s. s.weight ≤ most in
+    let rest : p.1.0 ≤ length sequences * most = Counts-most Has most sequences p.1.0 (All-tail Light s sequences all) p.1.2 in
+    let weight : s.weight ≤ most = All-head Light s sequences all in grind arith
+Counts-most {A} Has most (s ∷ sequences) n all (inr p) =
+    let rest : n ≤ length sequences * most = Counts-most Has most sequences n (All-tail (λ (s : Sequence A). s.weight ≤ most) s sequences all) p.1 in grind arith
 
 -- Frequencies
 
@@ -135,8 +135,3 @@ module _ (links : List (Link Item)) (size : ℕ) (ends : All (λ link. (link.chi
     | inl below ↦ (slice_index frequencies w.0, are w below)
     | inr past ↦ (0, Counts-none (HoldsUnder links w) sequences (none_past sequences w within (omega (arith, past, whole))))
   ]
-
--- the weights of the sequences of a database are within their limit
-pub weights-within : (sequences : List (Sequence Item)) → AllByRecursion IsWithinLimits sequences → AllByRecursion (λ s. s.weight ≤ most_weight) sequences
-weights-within [] limits = tt
-weights-within (s ∷ sequences) limits = (limits.0.most, weights-within sequences limits.1)
