@@ -2,3 +2,12 @@ pub mod PathLemmas
 pub mod OrderLemmas
 pub mod PairLemmas
 pub mod StepLemmas
+pub mod FlatLemmas
+pub mod ViewLemmas
+pub mod AbsorbLemmas
+pub mod EnterLemmas
+pub mod ItemLemmas
+pub mod WayLemmas
+pub mod SortLemmas
+pub mod WeightLemmas
+pub mod GrowLemmas

@@ -8,11 +8,7 @@ use Rattle.std.specs.declared.cmp.Ordering.{Ordering}
 use Rattle.std.specs.declared.cmp.Ordering.TheVariants.{Less, Equal}
 use Rattle.std.proofs.lemmas.List.Elements.{Contains-append_cases}
 use Rattle.mine_model.proofs.ListLemmas.{Contains-first, Contains-other, AllByRecursion-contained}
-use Rattle.candidate_gen.specs.Order.{IsEarlier, RisesByRanks}
-
-pub all-from-contained : {X : Type 0} (P : X → Type 0) (xs : List X) → ((x : X) → Contains xs x → P x) → AllByRecursion P xs
-all-from-contained P [] each = tt
-all-from-contained P (x ∷ xs) each = (each x (Contains-first x xs), all-from-contained P xs (λ y c. each y (Contains-other x xs y c)))
+use Rattle.candidate_gen.specs.Candidates.{IsEarlier}
 
 same-first : (x : ℕ) (xs ys : List ℕ) → IsEarlier xs ys → IsEarlier (x ∷ xs) (x ∷ ys)
 same-first x xs ys e = subst (λ (o : Ordering). ordering_then o (slice_cmp nat_cmp xs ys) ≡ Less) (nat_cmp_is x x Equal refl) e
@@ -27,14 +23,3 @@ pub branch-earlier : (q : List ℕ) (w v : ℕ) (more others : List ℕ) → w <
 branch-earlier [] w v more others less =
     subst (λ (o : Ordering). ordering_then o (slice_cmp nat_cmp more others) ≡ Less) (nat_cmp_is w v Less less) refl
 branch-earlier (x ∷ q) w v more others less = same-first x (q ++ w ∷ more) (q ++ v ∷ others) (branch-earlier q w v more others less)
-
-pub rises-append : (xs ys : List (List ℕ)) → RisesByRanks xs → RisesByRanks ys
-    → ((x y : List ℕ) → Contains xs x → Contains ys y → IsEarlier x y) → RisesByRanks (xs ++ ys)
-rises-append [] ys p q each = q
-rises-append (x ∷ xs) ys p q each = (
-  all-from-contained (IsEarlier x) (xs ++ ys) (λ y c. elim (Contains-append_cases xs ys y c) [
-    | inl first ↦ AllByRecursion-contained (IsEarlier x) xs y p.0 first
-    | inr second ↦ each x y (Contains-first x xs) second
-  ]),
-  rises-append xs ys p.1 q (λ u v a b. each u v (Contains-other x xs u a) b),
-)

@@ -7,9 +7,10 @@ use Rattle.mine_model.specs.Expression.{Leaf, leaf_of}
 use Rattle.mine_model.specs.Generation.{MayWrite, WritesAt}
 use Rattle.mine_model.specs.Ranks.{HasRank}
 use Rattle.fst_compile.specs.declared.edge.Edge.{Edge}
-use Rattle.candidate_gen.specs.Paths.{AreRanked, Space, Writes, IsRead, WritesBehind}
+use Rattle.candidate_gen.specs.Candidates.{AreRanked}
+use Rattle.candidate_gen.specs.Paths.{Space, Writes, IsRead, WritesBehind}
 
-writes-cases : (links : List (Link Item)) (leaf : Leaf Item) (captured : Bool) (t : Item) (output : List Item) → WritesAt links leaf captured t output
+pub writes-cases : (links : List (Link Item)) (leaf : Leaf Item) (captured : Bool) (t : Item) (output : List Item) → WritesAt links leaf captured t output
     → ((captured ≡ false) × (output ≡ [])) ⊎ ((captured ≡ true) × ((v : Item) × MayWrite links leaf t v × (output ≡ v ∷ [])))
 writes-cases links leaf true t output writes = inr (refl, writes)
 writes-cases links leaf false t output writes = inl (refl, writes)
@@ -26,23 +27,23 @@ ranked-first order v items (rank ∷ others) ranked = (rank, others, refl, ranke
 
 module _ (space : Space) where
   -- at the end of the sequence a path writes nothing more
-  pub writes-end : (state : ℕ) (ranks : List ℕ) → Writes space [] state ranks ↔ (Has space.machine.finals state × (ranks ≡ []))
+  pub writes-end : (state : ℕ) (ranks : List ℕ) → Writes space [] state ranks ↔ (Has space.problem.machine.finals state × (ranks ≡ []))
   writes-end state ranks = (
     (λ w. let (output, path, ranked) = w in
-        (path.0, ranked-none space.order ranks (subst (λ o. AreRanked space.order o ranks) path.1 ranked))),
-    (λ h. ([], (h.0, refl), subst (AreRanked space.order []) (sym h.1) tt)),
+        (path.0, ranked-none space.problem.ranking.order ranks (subst (λ o. AreRanked space.problem.ranking.order o ranks) path.1 ranked))),
+    (λ h. ([], (h.0, refl), subst (AreRanked space.problem.ranking.order []) (sym h.1) tt)),
   )
 
   silent-in : (t : Item) (rest : List Item) (state : ℕ) (ranks : List ℕ) (edge : Edge) → IsRead space t state edge
       → edge.captured ≡ false → Writes space rest edge.to.0 ranks → Writes space (t ∷ rest) state ranks
   silent-in t rest state ranks edge read silent (output, path, ranked) = (
     output,
-    (edge, [], output, read.0, read.1, subst (λ c. WritesAt space.links (leaf_of edge.leaf) c t []) (sym silent) refl, refl, path),
+    (edge, [], output, read.0, read.1, subst (λ c. WritesAt space.problem.hierarchy.links (leaf_of edge.leaf) c t []) (sym silent) refl, refl, path),
     ranked,
   )
 
   written-in : (t : Item) (rest : List Item) (state : ℕ) (ranks others : List ℕ) (edge : Edge) (v : Item) (rank : ℕ) → IsRead space t state edge
-      → edge.captured ≡ true → MayWrite space.links (leaf_of edge.leaf) t v → HasRank space.order v rank → ranks ≡ rank ∷ others
+      → edge.captured ≡ true → MayWrite space.problem.hierarchy.links (leaf_of edge.leaf) t v → HasRank space.problem.ranking.order v rank → ranks ≡ rank ∷ others
       → Writes space rest edge.to.0 others → Writes space (t ∷ rest) state ranks
   written-in t rest state ranks others edge v rank read captured may has begins (output, path, ranked) = (
     v ∷ output,
@@ -52,24 +53,24 @@ module _ (space : Space) where
       output,
       read.0,
       read.1,
-      subst (λ c. WritesAt space.links (leaf_of edge.leaf) c t (v ∷ [])) (sym captured) (v, may, refl),
+      subst (λ c. WritesAt space.problem.hierarchy.links (leaf_of edge.leaf) c t (v ∷ [])) (sym captured) (v, may, refl),
       refl,
       path,
     ),
-    subst (AreRanked space.order (v ∷ output)) (sym begins) (has, ranked),
+    subst (AreRanked space.problem.ranking.order (v ∷ output)) (sym begins) (has, ranked),
   )
 
   step-out : (t : Item) (rest : List Item) (state : ℕ) (ranks : List ℕ) → Writes space (t ∷ rest) state ranks
       → (edge : Edge) × IsRead space t state edge × WritesBehind space t rest edge ranks
   step-out t rest state ranks (output, path, ranked) =
       let (edge, here, there, leaves, matches, writes, joined, behind) = path in
-      elim (writes-cases space.links (leaf_of edge.leaf) edge.captured t here writes) [
+      elim (writes-cases space.problem.hierarchy.links (leaf_of edge.leaf) edge.captured t here writes) [
         | inl silent ↦
             let whole : output ≡ there = joined ∙ ap (λ h. h ++ there) silent.1 in
-            (edge, (leaves, matches), inl (silent.0, (there, behind, subst (λ o. AreRanked space.order o ranks) whole ranked)))
+            (edge, (leaves, matches), inl (silent.0, (there, behind, subst (λ o. AreRanked space.problem.ranking.order o ranks) whole ranked)))
         | inr (captured, (v, may, one)) ↦
             let whole : output ≡ v ∷ there = joined ∙ ap (λ h. h ++ there) one in
-            let (rank, others, begins, has, after) = ranked-first space.order v there ranks (subst (λ o. AreRanked space.order o ranks) whole ranked) in
+            let (rank, others, begins, has, after) = ranked-first space.problem.ranking.order v there ranks (subst (λ o. AreRanked space.problem.ranking.order o ranks) whole ranked) in
             (edge, (leaves, matches), inr (captured, (v, rank, others, may, has, begins, (there, behind, after))))
       ]
 

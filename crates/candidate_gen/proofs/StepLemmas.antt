@@ -7,19 +7,15 @@ use Rattle.std.proofs.lemmas.List.Elements.{Contains-append_left, Contains-appen
 use Rattle.mine_model.proofs.ListLemmas.{Contains-cases, Contains-first, Contains-none, AllPairs-append}
 use Rattle.candidate_gen.specs.declared.place.Place.{Place}
 use Rattle.candidate_gen.specs.Paths.{Space}
-use Rattle.candidate_gen.specs.Order.{IsEarlier}
-use Rattle.candidate_gen.specs.Places.{Follows, FollowsOf, FollowsFound, prefix_of, IsBelow, Fits, AreWaiting, IsOf}
+use Rattle.candidate_gen.specs.Candidates.{IsEarlier}
+use Rattle.candidate_gen.specs.Places.{Follows, FollowsOf, FollowsFound, prefix_of, grown, IsBelow, Fits, AreWaiting, IsOf}
 use Rattle.candidate_gen.specs.Walk.{IsWritten, IsToCome, IsListed, Takes}
-use Rattle.candidate_gen.proofs.OrderLemmas.{prefix-earlier, branch-earlier, rises-append}
+use Rattle.candidate_gen.proofs.OrderLemmas.{prefix-earlier, branch-earlier}
 use Rattle.candidate_gen.proofs.PairLemmas.{pairs-front, pairs-across}
 
 -- a list is what stands before a place, the element there, and what stands behind it
 pub cut-at : (xs : List ℕ) (k : ℕ) → k < length xs → xs ≡ take k xs ++ get_or xs k 0 ∷ drop (suc k) xs
 cut-at xs k inside = sym (take-append-drop k xs) ∙ ap (λ l. take k xs ++ l) (drop-cons xs k 0 inside)
-
--- the path that has grown by the prefix of this length with this last rank
-abbrev pub grown : List ℕ → ℕ → ℕ → List ℕ
-grown path depth rank = take (depth - 1) path ++ rank ∷ []
 
 module _ (path : List ℕ) (depth rank : ℕ) (least : 1 ≤ depth) (most : depth ≤ length path + 1) where
   pub length-grown : length (grown path depth rank) ≡ depth
@@ -73,16 +69,19 @@ below-top waiting front top cut sorted place inside = elim (Contains-append_case
   ]
 ]
 
-module _ (space : Space) (path : List ℕ) (depth rank : ℕ) (before after found : List Place) (stops : Bool)
+module _ (space : Space) (path : List ℕ) (depth rank start : ℕ) (before after found : List Place) (stops : Bool)
     (least : 1 ≤ depth) (most : depth ≤ length path + 1)
-    (waiting : AreWaiting space path before) (takes : Takes space depth rank before after found stops)
+    (waiting : AreWaiting space path before) (takes : Takes space depth rank start before after found stops)
     (below : (place : Place) → Contains before place → (place.depth ≤ depth) × (place.depth ≡ depth → rank ≤ place.rank)) where
+  stays-held : (place : Place) → Contains after place → Contains before place
+  stays-held place stays = let (taken, cut) = takes.cut in subst (λ l. Contains l place) (sym cut) (Contains-append_left after taken place stays)
+
   -- the places that stay fit the path that has grown
-  stays-fits : (place : Place) → Contains after place → Fits space (grown path depth rank) place
+  stays-fits : (place : Place) → Contains after place → Fits (grown path depth rank) place
   stays-fits place stays =
-      let rest = takes.rest place stays in
-      let fits : Fits space path place = waiting.fits place rest.0 in
-      let under = below place rest.0 in
+      let held : Contains before place = stays-held place stays in
+      let fits : Fits path place = waiting.fits place held in
+      let under = below place held in
       let l : length (grown path depth rank) ≡ depth = length-grown path depth rank least most in
       record {
         least = fits.least;
@@ -98,10 +97,9 @@ module _ (space : Space) (path : List ℕ) (depth rank : ℕ) (before after foun
               let least_rank : rank ≤ place.rank = under.1 at in
               elim (differs place.rank rank least_rank) [
                 | inl more ↦ omega arith
-                | inr same ↦ absurd (rest.1 (at, same))
+                | inr same ↦ absurd (takes.rest place stays (at, same))
               ]
         ];
-        within = fits.within;
       }
     where
       tells : (p : Place) → p.depth ≤ depth → (p.depth < depth) ⊎ (p.depth ≡ depth)
@@ -146,9 +144,9 @@ module _ (space : Space) (path : List ℕ) (depth rank : ℕ) (before after foun
   to-come-new : (ranks : List ℕ) → IsToCome space (grown path depth rank) (after ++ found) ranks → IsToCome space path before ranks
   to-come-new ranks (place, more, inside, same, follows) = elim (Contains-append_cases after found place inside) [
     | inl stays ↦
-        let rest = takes.rest place stays in
-        let kept : prefix_of (grown path depth rank) place ≡ prefix_of path place = prefix-kept path depth rank least most place (below place rest.0).0 in
-        (place, more, rest.0, same ∙ ap (λ l. l ++ more) kept, follows)
+        let held : Contains before place = stays-held place stays in
+        let kept : prefix_of (grown path depth rank) place ≡ prefix_of path place = prefix-kept path depth rank least most place (below place held).0 in
+        (place, more, held, same ∙ ap (λ l. l ++ more) kept, follows)
     | inr longer ↦
         let (old, held, of, leads) = (takes.found place.rank more).1 (place, longer, refl, follows) in
         let own : prefix_of path old ≡ grown path depth rank = prefix-own path depth rank old of in
@@ -171,8 +169,8 @@ module _ (space : Space) (path : List ℕ) (depth rank : ℕ) (before after foun
   grown-earlier : (ranks : List ℕ) → IsToCome space (grown path depth rank) (after ++ found) ranks → IsEarlier (grown path depth rank) ranks
   grown-earlier ranks (place, more, inside, same, follows) = elim (Contains-append_cases after found place inside) [
     | inl stays ↦
-        let fits : Fits space (grown path depth rank) place = stays-fits place stays in
-        let few : place.depth ≤ depth = (below place (takes.rest place stays).0).0 in
+        let fits : Fits (grown path depth rank) place = stays-fits place stays in
+        let few : place.depth ≤ depth = (below place (stays-held place stays)).0 in
         let at_least : 1 ≤ place.depth = fits.least in
         let l : length (grown path depth rank) ≡ depth = length-grown path depth rank least most in
         let later : get_or (grown path depth rank) (place.depth - 1) 0 < place.rank = fits.later (omega arith) in
@@ -195,7 +193,7 @@ module _ (space : Space) (path : List ℕ) (depth rank : ℕ) (before after foun
   pub step-listed : (listed : List (List ℕ)) → IsTrue stops → IsListed space path before listed
       → IsListed space (grown path depth rank) (after ++ found) (listed ++ grown path depth rank ∷ [])
   step-listed listed stop is = record {
-    rises = rises-append listed (grown path depth rank ∷ []) is.rises (tt, tt)
+    rises = AllPairs-append IsEarlier listed (grown path depth rank ∷ []) is.rises (λ i j d less inside. absurd (omega arith))
         (λ x y a b. is.earlier x y a (subst (IsToCome space path before) (sym (only y b)) (to-come-own stop)));
     earlier = λ x y a b. elim (Contains-append_cases listed (grown path depth rank ∷ []) x a) [
       | inl old ↦ is.earlier x y old (to-come-new y b)
@@ -248,12 +246,12 @@ module _ (space : Space) (path : List ℕ) (depth rank : ℕ) (before after foun
   }
 
   -- the places that then wait are in their order
-  pub step-waiting : (taken : List Place) → before ≡ after ++ taken → AllPairs IsBelow found
-      → AreWaiting space (grown path depth rank) (after ++ found)
-  step-waiting taken cut sorted = record {
-    sorted = AllPairs-append IsBelow after found (pairs-front IsBelow after taken (subst (AllPairs IsBelow) cut waiting.sorted)) sorted
+  pub step-waiting : AllPairs IsBelow found → AreWaiting space (grown path depth rank) (after ++ found)
+  step-waiting sorted = record {
+    sorted = let (taken, cut) = takes.cut in
+        AllPairs-append IsBelow after found (pairs-front IsBelow after taken (subst (AllPairs IsBelow) cut waiting.sorted)) sorted
         (λ x y a b.
-        let few : x.depth ≤ depth = (below x (takes.rest x a).0).0 in
+        let few : x.depth ≤ depth = (below x (stays-held x a)).0 in
         let longer : y.depth ≡ depth + 1 = (takes.depths y b).0 in
         record { depth = omega arith; rank = λ e. absurd (omega arith); position = λ e f. absurd (omega arith) });
     fits = λ place inside. elim (Contains-append_cases after found place inside) [
@@ -261,6 +259,10 @@ module _ (space : Space) (path : List ℕ) (depth rank : ℕ) (before after foun
       | inr longer ↦
           let deep = takes.depths place longer in
           let l : length (grown path depth rank) ≡ depth = length-grown path depth rank least most in
-          record { least = omega arith; most = omega arith; later = λ e. absurd (omega arith); within = deep.1 }
+          record { least = omega arith; most = omega arith; later = λ e. absurd (omega arith) }
+    ];
+    places = λ place inside. elim (Contains-append_cases after found place inside) [
+      | inl stays ↦ waiting.places place (stays-held place stays)
+      | inr longer ↦ (takes.depths place longer).2
     ];
   }

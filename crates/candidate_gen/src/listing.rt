@@ -1,4 +1,4 @@
-ghost use Rattle.std.specs.Prelude.{◌≡◌, ◌≤◌, ◌<◌, [], length, All, IfOk, OnOk, Some, slice_get};
+ghost use Rattle.std.specs.Prelude.{◌≡◌, ◌≤◌, ◌<◌, ◌==◌, [], length, All, IfOk, OnOk, Some, slice_get};
 ghost use Rattle.candidate_gen.specs.Candidates.{AreCandidateRanks};
 
 use super::rank_lists::RankLists;
@@ -21,7 +21,7 @@ pub struct CandidateList<'a> {
 
 impl<'a> Model for CandidateList<'a> {
     ghost use Rattle.candidate_gen.specs.Candidates.{Listing};
-    ghost use Rattle.candidate_gen.specs.Walk.{IsGridOf};
+    ghost use Rattle.candidate_gen.specs.Views.{IsGridOf};
 
     ghost Value = { Listing };
 

@@ -1,5 +1,5 @@
-ghost use Rattle.std.specs.Prelude.{◌<◌, length, IfOk};
-ghost use Rattle.candidate_gen.specs.Candidates.{AreCandidates};
+ghost use Rattle.std.specs.Prelude.{◌≤◌, ◌<◌, length, All, IfOk};
+ghost use Rattle.candidate_gen.specs.Candidates.{AreRanked, AreCandidates};
 
 use super::listing::CandidateList;
 use fst_simulate::Job;
@@ -18,4 +18,16 @@ pub fn candidates(alloc: Global, job: &Job, seq: u32) -> Result<Vec<Pattern>, No
         patterns.push(pattern_of(alloc, job, list.get(i))?)?;
     }
     Ok(patterns)
+}
+
+// The pattern with these ranks.
+fn pattern_of(alloc: Global, job: &Job, ranks: &[u32]) -> Result<Pattern, NoMemory>
+    requires { All (λ rank. (1 ≤ rank) × (rank ≤ length job.now.ranking.order)) ranks.now }
+    ensures { IfOk result (λ pattern. AreRanked job.now.ranking.order pattern ranks.now) }
+{
+    let mut items = Vec::new(alloc);
+    for rank in ranks {
+        items.push(job.ranks().item(*rank))?;
+    }
+    Ok(Pattern::new(items))
 }

@@ -2,8 +2,8 @@
 /// how many items of the sequence are read, and the state.
 #[derive(Clone, Copy, Debug, PartialEq, Eq, PartialOrd, Ord)]
 pub(crate) struct Place {
-    pub(crate) depth: usize,
+    pub(crate) depth: u32,
     pub(crate) rank: u32,
-    pub(crate) position: usize,
+    pub(crate) position: u32,
     pub(crate) state: u32,
 }

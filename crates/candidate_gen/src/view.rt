@@ -1,0 +1,142 @@
+ghost use Rattle.std.specs.Prelude.{◌≡◌, ℕ, ◌≤◌, ◌<◌, ◌⊎◌, ◌↔◌, List, [], ◌∷◌, length, drop, IsTrue, Contains, Some, slice_get};
+ghost use Rattle.state_bits.specs.Members.{Has};
+ghost use Rattle.mine_model.specs.declared.item.Item.{Item};
+ghost use Rattle.fst_compile.specs.Transducer.{Leads};
+ghost use Rattle.fst_simulate.specs.Problems.{IsWhole, items_of};
+ghost use Rattle.fst_simulate.specs.Grids.{Reads};
+ghost use Rattle.candidate_gen.specs.Paths.{Writes};
+ghost use Rattle.candidate_gen.specs.Views.{IsGridOf, WritesMore, WritesAs, LeadsFrom, IsSmall};
+ghost use Rattle.candidate_gen.specs.Steps.{AreStates};
+
+use fst_compile::{Fst, State};
+use fst_simulate::{Grids, Job};
+use state_bits::StateSet;
+use std::marker::Model;
+
+/// A set of states: it has room for 1,025 of them.
+pub(crate) type States = StateSet<17>;
+
+/// One sequence with its grid, as a walk reads it.
+#[derive(Drop)]
+pub(crate) struct View<'a, 'b> {
+    fst: &'a Fst,
+    grids: &'a Grids<'b>,
+    length: u32,
+}
+
+impl<'a, 'b> Model for View<'a, 'b> {
+    ghost use Rattle.candidate_gen.specs.Paths.{Space};
+    ghost use Rattle.candidate_gen.specs.Viewed.{IsView};
+    ghost use Rattle.fst_simulate.specs.Grids.{items_at};
+
+    ghost Value = { Space };
+
+    ghost use Rattle.mine_model.specs.contracts.expression.Expr as e;
+    ghost use Rattle.std.specs.Coded.{codes};
+
+    ghost coded = { Prim.hlevel (codes, e.the_row.coded) };
+
+    ghost view = { λ v. record { problem = v.grids.now.problem; sequence = items_at v.grids.now 0 } };
+
+    ghost invariant = { λ v. IsView v.fst.now v.grids.now v.length };
+}
+
+impl<'a, 'b> View<'a, 'b> {
+    /// The sequence with this number, whose grid stands alone among the grids.
+    pub(crate) fn new(job: &'a Job, grids: &'a Grids<'b>, seq: u32) -> View<'a, 'b>
+        requires grids { IsGridOf job.now grids.now }
+        requires alone { grids.now.sequences ≡ seq ∷ [] }
+        requires seq { seq < length job.now.sequences }
+        ensures { result ≡ record { problem = job.now; sequence = items_of job.now seq } }
+    {
+        let fst = job.fst();
+        let _states = fst.states();
+        let length = job.db().sequence(seq).len() as u32;
+        View { fst, grids, length }
+    }
+
+    /// How many items the sequence has.
+    pub(crate) fn length(&self) -> u32
+        ensures length { result ≡ length self.now.sequence }
+        ensures small { IsSmall self.now }
+    {
+        self.length
+    }
+
+    /// Whether a path from the state over the rest of the sequence writes frequent items alone, and at least one.
+    pub(crate) fn writes_more(&self, position: u32, state: u32) -> bool
+        requires position { position ≤ length self.now.sequence }
+        requires state { state ≤ length self.now.problem.machine.labels }
+        ensures { IsTrue result ↔ WritesMore self.now position state }
+    {
+        self.grids.completes(0, position, State(state), false)
+    }
+
+    /// Whether a path from the state over the rest of the sequence writes frequent items alone.
+    pub(crate) fn goes_on(&self, position: u32, state: u32) -> bool
+        requires position { position ≤ length self.now.sequence }
+        requires state { state ≤ length self.now.problem.machine.labels }
+        ensures { IsTrue result
+            ↔ ((ranks : List ℕ) × Writes self.now (drop position self.now.sequence) state ranks) }
+    {
+        self.grids.completes(0, position, State(state), true)
+    }
+
+    /// Whether a path from the state over the rest of the sequence writes nothing.
+    pub(crate) fn ends(&self, position: u32, state: u32) -> bool
+        requires position { position ≤ length self.now.sequence }
+        requires state { state ≤ length self.now.problem.machine.labels }
+        ensures { IsTrue result ↔ Writes self.now (drop position self.now.sequence) state [] }
+    {
+        self.grids.ends(0, position, State(state))
+    }
+
+    /// Whether the edges into the state match the item at the position and write nothing.
+    pub(crate) fn is_silent(&self, position: u32, state: u32) -> bool
+        requires position { position < length self.now.sequence }
+        requires start { 0 < state }
+        requires state { state ≤ length self.now.problem.machine.labels }
+        ensures { (t : Item) → slice_get self.now.sequence position ≡ Some t
+            → (IsTrue result ↔ Reads self.now.problem t state []) }
+    {
+        self.grids.is_silent(0, position, State(state))
+    }
+
+    /// What the edges into the state may write at the position, as ranks.
+    pub(crate) fn outputs(&self, position: u32, state: u32) -> &[u32]
+        requires position { position < length self.now.sequence }
+        requires start { 0 < state }
+        requires state { state ≤ length self.now.problem.machine.labels }
+        ensures { (t : Item) (rank : ℕ) → slice_get self.now.sequence position ≡ Some t
+            → (Contains result.now rank ↔ WritesAs self.now.problem t state rank) }
+    {
+        self.grids.outputs(0, position, State(state))
+    }
+
+    /// The states to which edges lead from one of these.
+    pub(crate) fn targets(&self, states: &States) -> States
+        requires { AreStates self.now states.now }
+        ensures targets { (to : ℕ) → Has result to ↔ LeadsFrom self.now.problem.machine states.now to }
+        ensures within { (to : ℕ) → Has result to
+            → (0 < to) × (to ≤ length self.now.problem.machine.labels) }
+        ensures whole { IsWhole self.now.problem }
+    {
+        let _length = self.length;
+        let mut targets = States::new();
+        for state in states.iter() {
+            add_targets(self.fst, state, &mut targets);
+        }
+        targets
+    }
+}
+
+// Adds the states to which edges lead from this one.
+fn add_targets(fst: &Fst, state: u32, targets: &mut States)
+    requires state { state ≤ length fst.now.labels }
+    requires few { length fst.now.labels ≤ 1024 }
+    ensures { (to : ℕ) → Has targets.new to ↔ (Has targets.old to ⊎ Leads fst.now state to) }
+{
+    for edge in fst.edges(State(state)) {
+        targets.add(edge.to.0);
+    }
+}
