@@ -11,3 +11,4 @@ pub mod WayLemmas
 pub mod SortLemmas
 pub mod WeightLemmas
 pub mod GrowLemmas
+pub mod RankedLemmas

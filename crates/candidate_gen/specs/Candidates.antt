@@ -21,6 +21,13 @@ AreRanked order [] (rank ∷ ranks) = ⊥
 AreRanked order (v ∷ items) [] = ⊥
 AreRanked order (v ∷ items) (rank ∷ ranks) = HasRank order v rank × AreRanked order items ranks
 
+-- each list of items has the ranks of the list at its place
+abbrev pub AreAllRanked : List Item → List (List Item) → List (List ℕ) → Type 0
+AreAllRanked order [] [] = Unit {0}
+AreAllRanked order [] (ranks ∷ lists) = ⊥
+AreAllRanked order (items ∷ patterns) [] = ⊥
+AreAllRanked order (items ∷ patterns) (ranks ∷ lists) = AreRanked order items ranks × AreAllRanked order patterns lists
+
 -- the first list of ranks comes earlier: rank by rank, a proper prefix first
 abbrev pub IsEarlier : List ℕ → List ℕ → Type 0
 IsEarlier first second = slice_cmp nat_cmp first second ≡ Less

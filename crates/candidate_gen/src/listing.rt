@@ -65,7 +65,8 @@ impl<'a> CandidateList<'a> {
         self.grids.clear();
         self.grids.push(seq)?;
         let view = View::new(self.job, &self.grids, seq);
-        self.walk.list(&view, &mut self.listed)
+        self.walk.list(&view, &mut self.listed)?;
+        Ok(())
     }
 
     /// How many candidates are listed. Takes no memory.

@@ -1,5 +1,5 @@
 ghost use Rattle.std.specs.Prelude.{◌≤◌, ◌<◌, length, All, IfOk};
-ghost use Rattle.candidate_gen.specs.Candidates.{AreRanked, AreCandidates};
+ghost use Rattle.candidate_gen.specs.Candidates.{AreRanked, AreAllRanked, AreCandidates};
 
 use super::listing::CandidateList;
 use fst_simulate::Job;
@@ -13,9 +13,25 @@ pub fn candidates(alloc: Global, job: &Job, seq: u32) -> Result<Vec<Pattern>, No
 {
     let mut list = CandidateList::new(alloc, job)?;
     list.fill(seq)?;
+    let patterns = patterns_of(alloc, job, &list)?;
+    let _ranks = job.ranks();
+    Ok(patterns)
+}
+
+// The patterns of all lists.
+fn patterns_of(
+    alloc: Global,
+    job: &Job,
+    list: &CandidateList,
+) -> Result<Vec<Pattern>, NoMemory>
+    requires { All (All (λ rank. (1 ≤ rank) × (rank ≤ length job.now.ranking.order))) list.now.listed }
+    ensures { IfOk result (λ patterns.
+        AreAllRanked job.now.ranking.order patterns.items list.now.listed) }
+{
     let mut patterns = Vec::new(alloc);
     for i in 0..list.len() {
-        patterns.push(pattern_of(alloc, job, list.get(i))?)?;
+        let pattern = pattern_of(alloc, job, list.get(i))?;
+        patterns.push(pattern)?;
     }
     Ok(patterns)
 }

@@ -47,7 +47,8 @@ impl<'a, 'b> View<'a, 'b> {
         requires grids { IsGridOf job.now grids.now }
         requires alone { grids.now.sequences ≡ seq ∷ [] }
         requires seq { seq < length job.now.sequences }
-        ensures { result ≡ record { problem = job.now; sequence = items_of job.now seq } }
+        ensures space { result ≡ record { problem = job.now; sequence = items_of job.now seq } }
+        ensures whole { IsWhole job.now }
     {
         let fst = job.fst();
         let _states = fst.states();

@@ -39,9 +39,11 @@ impl Walk {
         let _length = view.length();
         self.begin(view)?;
         'prefixes: while let Some(top) = self.waiting.last().copied() {
-            if self.grow(view, top)? {
-                listed.push(self.path.as_slice())?;
+            let stops = self.grow(view, top)?;
+            if !stops {
+                continue;
             }
+            listed.push(self.path.as_slice())?;
         }
         Ok(())
     }

@@ -1,0 +1,10 @@
+use Rattle.std.proofs.Common.{subst}
+use Rattle.candidate_gen.specs.Candidates.{AreCandidateRanks, Listing}
+use Rattle.candidate_gen.proofs.RankedLemmas.{patterns-all}
+use Rattle.candidate_gen.proofs.patterns.candidates.Goals as goal
+
+pub returns : goal.returns
+returns c =
+    let are : AreCandidateRanks c.args.job.now c.args.seq c.fill.new.self.listed =
+    subst (λ (l : Listing). AreCandidateRanks l.problem c.args.seq c.fill.new.self.listed) c.in_ok-list.ensures c.in_ok-fill.ensures.candidates in
+    patterns-all c.args.job.now c.args.seq c.ranks-ranks.ensures.whole c.fill.new.self.listed c.in_ok-patterns.patterns.items are c.in_ok-patterns.ensures
