@@ -7,7 +7,7 @@ use Rattle.std.specs.Ordering.{nat_cmp, is_eq}
 use Rattle.std.specs.declared.cmp.Ordering.TheVariants.{Less, Equal}
 use Rattle.std.proofs.lemmas.Cmp.{nat_list_cmp_total}
 use Rattle.std.proofs.lemmas.List.{length-take-le, take_more, take_all}
-use Rattle.std.proofs.lemmas.List.Elements.{All-head, All-tail, All-take}
+use Rattle.std.proofs.lemmas.List.Elements.{All-take, All-weaker, Contains-get_or}
 use Rattle.mine_model.specs.declared.item.Item.{Item}
 use Rattle.mine_model.specs.declared.row.Row.{Row}
 use Rattle.mine_model.specs.Limits.{most_weight, most_sequences}
@@ -20,9 +20,9 @@ use Rattle.mine_model.proofs.SupportLemmas.{Counts-unique, Counts-some}
 use Rattle.mine_model.proofs.FrequencyLemmas.{Counts-by, Counts-append, Counts-most, frequencies-known, support-by_candidates, HasFrequency-within}
 use Rattle.fst_simulate.specs.Problems.{Problem, IsWhole}
 use Rattle.candidate_gen.specs.Candidates.{AreRanked, AreCandidateRanks, IsEarlier}
+use Rattle.candidate_gen.proofs.RankedLemmas.{ranked-same, ranked-all, ranked-bounds}
 use Rattle.count_engine.specs.Counts.{Tally, sum_of, AddsEach, IsCountedRow, HasCandidate}
 use Rattle.count_engine.proofs.SumLemmas.{list_or_not}
-use Rattle.count_engine.proofs.RankedLemmas.{ranked_same, ranks_within, has_ranks}
 
 -- the sum of each list is that of the weights of the sequences that have the candidate with these ranks
 abbrev pub AreCounted : Problem → Tally → List (Sequence Item) → Type 0
@@ -62,15 +62,11 @@ each_once listed rises i j d before within same =
     let less : slice_cmp nat_cmp first first ≡ Less = subst (λ xs. slice_cmp nat_cmp first xs ≡ Less) (sym same) (rises i j d before within) in
     true≢false (sym (ap is_eq tied) ∙ ap is_eq less)
 
-most_of_each : (xs : List (Sequence Item)) → All IsWithinLimits xs → AllByRecursion (λ s. s.weight ≤ most_weight) xs
-most_of_each [] all = tt
-most_of_each (s ∷ xs) all = ((All-head IsWithinLimits s xs all).most, most_of_each xs (All-tail IsWithinLimits s xs all))
-
 pub room_for : (problem : Problem) (tally : Tally) (n weight : ℕ) → All IsWithinLimits problem.sequences → n < length problem.sequences → length problem.sequences ≤ most_sequences
     → weight ≤ most_weight → AreCounted problem tally (take n problem.sequences) → (list : List ℕ) → sum_of tally list + weight < 2 ^ 64
 room_for problem tally n weight limits below few most counted list =
     let done = take n problem.sequences in
-    let bound = Counts-most (HasCandidate problem list) most_weight done (sum_of tally list) (most_of_each done (All-take IsWithinLimits n problem.sequences limits)) (counted list) in
+    let bound = Counts-most (HasCandidate problem list) most_weight done (sum_of tally list) (All-weaker IsWithinLimits (λ s. s.weight ≤ most_weight) (λ s is. is.most) done (All-take IsWithinLimits n problem.sequences limits)) (counted list) in
     omega (arith, bound, length-take-le n problem.sequences (omega arith))
 
 -- ---- the answer
@@ -92,7 +88,7 @@ pub ranked_of_counted : (problem : Problem) (tally : Tally) → AreCounted probl
     → All (λ rank. (1 ≤ rank) × (rank ≤ length problem.ranking.order)) list
 ranked_of_counted problem tally counted list some =
     let w = some_sequence (HasCandidate problem list) problem.sequences (sum_of tally list) (counted list) some in
-    ranks_within problem.ranking.order w.1.0 list w.1.2
+    λ k d below. ranked-bounds problem.ranking.order w.1.0 list w.1.2 (get_or list k d) (Contains-get_or list k d below)
 
 module _ (problem : Problem) where
   abbrev pub IsFrequentOf : Item → Type 0
@@ -107,7 +103,7 @@ module _ (problem : Problem) where
   -- a candidate is known by its ranks
   by_ranks : (list : List ℕ) (pattern : List Item) → AreRanked problem.ranking.order pattern list → (items : List Item) → HasCandidate problem list items ↔ IsCandidateFrom pattern items
   by_ranks list pattern ranked items = (
-    (λ has. subst (λ p. IsCandidateFrom p items) (ranked_same problem.ranking.order has.0 pattern list has.2 ranked) has.1),
+    (λ has. subst (λ p. IsCandidateFrom p items) (ranked-same problem.ranking.order has.0 pattern list has.2 ranked) has.1),
     (λ is. (pattern, is, ranked)),
   )
 
@@ -136,7 +132,7 @@ module _ (problem : Problem) where
         let candidates = (by_candidates row.pattern row.support f.enough).0 f.exact in
         let w = some_sequence (IsCandidateFrom row.pattern) problem.sequences row.support candidates (omega (arith, whole.least, f.enough)) in
         let held = weaker IsFrequentOf (Contains problem.ranking.order) (λ v is. (whole.ranks.frequent v).1 is) row.pattern w.1.allowed in
-        let ranks = has_ranks problem.ranking.order row.pattern held in
+        let ranks = ranked-all problem.ranking.order row.pattern held in
         let same = by_ranks ranks.0 row.pattern ranks.1 in
         let has = Counts-by (IsCandidateFrom row.pattern) (HasCandidate problem ranks.0) (λ items. ((same items).1, (same items).0)) problem.sequences row.support candidates in
         record {
@@ -146,17 +142,28 @@ module _ (problem : Problem) where
           enough = f.enough;
         }
 
-    pub frequent_exact : (tally : Tally) → AreCounted problem tally problem.sequences → (row : Row) → IsCountedRow tally problem.ranking.order problem.threshold row ↔ IsFrequent data_of row.pattern row.support
-    frequent_exact tally counted row = (frequent_of_counted tally counted row, counted_of_frequent tally counted row)
+    -- where the rows are those of the sums, they are the frequent patterns
+    pub frequent_rows : (tally : Tally) → AreCounted problem tally problem.sequences → (rows : List Row)
+        → ((row : Row) → Contains rows row ↔ IsCountedRow tally problem.ranking.order problem.threshold row)
+        → (row : Row) → Contains rows row ↔ IsFrequent data_of row.pattern row.support
+    frequent_rows tally counted rows exact row = (
+      (λ h. frequent_of_counted tally counted row ((exact row).0 h)),
+      (λ f. (exact row).1 (counted_of_frequent tally counted row f)),
+    )
 
     -- the items of a frequent pattern are items of the hierarchy
-    pub frequent_within : (pattern : List Item) (n : ℕ) → IsFrequent data_of pattern n → AllByRecursion (λ t. t.0 < problem.hierarchy.items) pattern
+    frequent_within : (pattern : List Item) (n : ℕ) → IsFrequent data_of pattern n → AllByRecursion (λ t. t.0 < problem.hierarchy.items) pattern
     frequent_within pattern n f =
         let candidates = (by_candidates pattern n f.enough).0 f.exact in
         let w = some_sequence (IsCandidateFrom pattern) problem.sequences n candidates (omega (arith, whole.least, f.enough)) in
         weaker IsFrequentOf (λ t. t.0 < problem.hierarchy.items)
         (λ v is. HasFrequency-within problem.hierarchy.links problem.hierarchy.items ends problem.sequences v is.frequency whole.items is.exact (omega (arith, whole.least, is.enough)))
         pattern w.1.allowed
+
+    pub rows_within : (tally : Tally) → AreCounted problem tally problem.sequences → (rows : List Row)
+        → ((row : Row) → Contains rows row ↔ IsCountedRow tally problem.ranking.order problem.threshold row)
+        → (row : Row) → Contains rows row → AllByRecursion (λ t. t.0 < problem.hierarchy.items) row.pattern
+    rows_within tally counted rows exact row h = frequent_within row.pattern row.support (frequent_of_counted tally counted row ((exact row).0 h))
 
 pub IfOk-both : {T E : Type 0} (r : Result T E) {P Q R : T → Type 0} → IfOk r P → IfOk r Q → ((x : T) → P x → Q x → R x) → IfOk r R
 IfOk-both (Ok x) p q both = both x p q

@@ -9,10 +9,11 @@ use Rattle.std.proofs.lemmas.Option.{same_Some}
 use Rattle.mine_model.specs.declared.item.Item.{Item}
 use Rattle.mine_model.specs.declared.row.Row.{Row}
 use Rattle.candidate_gen.specs.Candidates.{AreRanked}
+use Rattle.candidate_gen.proofs.RankedLemmas.{ranked-same}
 use Rattle.count_engine.specs.Tries.{AreDistinct}
 use Rattle.count_engine.specs.Counts.{IsTally, IsCountedRow}
 use Rattle.count_engine.proofs.SumLemmas.{sum_at, sum_where}
-use Rattle.count_engine.proofs.RankedLemmas.{ranked_same, same_ranks}
+use Rattle.count_engine.proofs.RankedLemmas.{same_ranks}
 
 -- the row is that of the list with this number
 pub record IsRowOf (lists : List (List ℕ)) (sums : List ℕ) (order : List Item) (support id : ℕ) (row : Row) : Type 0 where
@@ -54,7 +55,7 @@ module _ (lists : List (List ℕ)) (sums : List ℕ) (order : List Item) (suppor
   one_row id r s first second =
       let list : first.list ≡ second.list = same_Some first.list second.list (sym first.at ∙ second.at) in
       let ranked : AreRanked order r.pattern second.list = subst (λ xs. AreRanked order r.pattern xs) list first.ranked in
-      same_row r s (ranked_same order r.pattern s.pattern second.list ranked second.ranked) (sym first.counted ∙ second.counted)
+      same_row r s (ranked-same order r.pattern s.pattern second.list ranked second.ranked) (sym first.counted ∙ second.counted)
 
   -- a pattern is that of one list
   one_list : AreDistinct lists → AllPairs (λ v w. v ≢ w) order → (id other : ℕ) (r s : Row) → IsRowOf lists sums order support id r → IsRowOf lists sums order support other s → r.pattern ≡ s.pattern → id ≡ other

@@ -93,6 +93,13 @@ node_at [] k below = absurd (omega arith)
 node_at (first ∷ nodes) zero below = (first, refl)
 node_at (first ∷ nodes) (suc k) below = node_at nodes k (omega arith)
 
+-- a list that is one longer than that of the node's shorter list
+longer_at : (nodes : List Node) (found : ℕ × ℕ → Option ℕ) → IsTrie nodes found → (k : ℕ) (node : Node) (list shorter : List ℕ) → slice_get nodes k ≡ Some node
+    → slice_get (lists_of nodes) node.shorter ≡ Some shorter → slice_get (lists_of nodes) (k + 1) ≡ Some list → list ≡ shorter ++ node.rank ∷ []
+longer_at nodes found trie k node list shorter at short h =
+    let is : slice_get (lists_of nodes) (k + 1) ≡ Some (shorter ++ node.rank ∷ []) = lists_at nodes k node shorter at (trie.earlier k node at) short in
+    same_Some list (shorter ++ node.rank ∷ []) (sym h ∙ is)
+
 pub empty_or_longer : (nodes : List Node) (found : ℕ × ℕ → Option ℕ) → IsTrie nodes found → (i : ℕ) (list : List ℕ) → slice_get (lists_of nodes) i ≡ Some list → IsEmptyOrLonger nodes i list
 empty_or_longer nodes found trie zero list h = inl (refl, same_Some _ _ (sym h ∙ lists_empty nodes))
 empty_or_longer nodes found trie (suc k) list h =
@@ -100,10 +107,9 @@ empty_or_longer nodes found trie (suc k) list h =
     let n = node_at nodes k below in
     let earlier = trie.earlier k n.0 n.1 in
     let shorter = has_list (lists_of nodes) n.0.shorter (omega (arith, earlier, length_lists nodes)) in
-    let is : slice_get (lists_of nodes) (k + 1) ≡ Some (shorter.0 ++ n.0.rank ∷ []) = lists_at nodes k n.0 shorter.0 n.1 earlier shorter.1 in
-    let same : k + 1 ≡ suc k = omega arith in
-    let here : slice_get (lists_of nodes) (suc k) ≡ Some (shorter.0 ++ n.0.rank ∷ []) = subst (λ (m : ℕ). slice_get (lists_of nodes) m ≡ Some (shorter.0 ++ n.0.rank ∷ [])) same is in
-    inr (k, n.0, shorter.0, omega arith, n.1, earlier, shorter.1, same_Some list (shorter.0 ++ n.0.rank ∷ []) (sym h ∙ here))
+    let same : suc k ≡ k + 1 = omega arith in
+    let here : slice_get (lists_of nodes) (k + 1) ≡ Some list = subst (λ (m : ℕ). slice_get (lists_of nodes) m ≡ Some list) same h in
+    inr (k, n.0, shorter.0, omega arith, n.1, earlier, shorter.1, longer_at nodes found trie k n.0 list shorter.0 n.1 shorter.1 here)
 
 append_not_nil : (xs : List ℕ) (t : ℕ) → [] ≡ xs ++ t ∷ [] → ⊥
 append_not_nil [] t e = cc

@@ -29,7 +29,7 @@ const E: Item = Item(6);
 const WORDS: [&str; 11] = ["A", "a1", "a2", "b", "c", "d", "e", "R", "P", "Q", "x"];
 
 /// Sequences with their weights, or patterns with their supports.
-type Lines<'a> = &'a [(u64, &'a [Item])];
+type Lines = &'static [(u64, &'static [Item])];
 
 /// a1 and a2 stand under A, and x under P and Q, which stand under R.
 fn hierarchy(alloc: Global) -> Result<Hierarchy, NoMemory>

@@ -8,7 +8,7 @@ use Rattle.mine_model.specs.Database.{IsWithinLimits, sequence_at}
 use Rattle.mine_model.specs.Support.{Sequence}
 use Rattle.candidate_gen.specs.Candidates.{AreCandidateRanks}
 use Rattle.count_engine.specs.Counts.{AddsEach}
-use Rattle.count_engine.proofs.CountLemmas.{counted_begins, counted_more, counted_all, each_once, room_for, ranked_of_counted, data_of, frequent_exact, frequent_within, IfOk-both}
+use Rattle.count_engine.proofs.CountLemmas.{counted_begins, counted_more, counted_all, each_once, room_for, ranked_of_counted, frequent_rows, rows_within, IfOk-both}
 use Rattle.count_engine.proofs.mining.mine.Goals as goal
 
 pub loop-number-init : goal.loop-number-init
@@ -49,20 +49,21 @@ rows-requires-clause-ranked c =
     let counted = counted_all problem c.loop-number.counts c.loop-number.number (omega (arith, c.loop-number-test.false, c.sequences-number-end.ensures.count, whole)) c.loop-number.invariant.counted in
     rw c.ranks.ensures.ranking (ranked_of_counted problem c.loop-number.counts counted)
 
--- the rows are exactly the frequent patterns
-exact_rows : (c : goal.After-drop-counts-inside-5) → IfOk c.rows.result (λ rows. (row : Row) → Contains rows.items row ↔ IsFrequent (data_of c.args.job.now) row.pattern row.support)
-exact_rows c =
+pub returns-clause-frequent : goal.returns-clause-frequent
+returns-clause-frequent c =
     let problem = c.args.job.now in
     let whole : length c.db-db.result.now ≡ length problem.sequences = ap length c.db-db.ensures.sequences in
     let counted = counted_all problem c.loop-number.counts c.loop-number.number (omega (arith, c.loop-number-test.false, c.sequences-number-end.ensures.count, whole)) c.loop-number.invariant.counted in
-    IfOk-weaker c.rows.result _ _ (λ rows exact row.
-    (let frequent = frequent_exact problem c.hierarchy.ensures.whole (rw c.hierarchy.ensures.hierarchy at c.items-items.ensures.within) c.loop-number.counts counted row in
-    (λ h. frequent.0 ((exact row).0 h), λ f. (exact row).1 (frequent.1 f)))) (rw (c.ranks.ensures.ranking, c.support.ensures.threshold) at c.rows.ensures.exact)
-
-pub returns-clause-frequent : goal.returns-clause-frequent
-returns-clause-frequent c = IfOk-both c.rows.result c.rows.ensures.each_once (exact_rows c) (λ rows once exact. record { once = once; frequent = exact })
+    IfOk-both c.rows.result c.rows.ensures.each_once (rw (c.ranks.ensures.ranking, c.support.ensures.threshold) at c.rows.ensures.exact) (λ rows once exact. record {
+      once = once;
+      frequent = frequent_rows problem c.hierarchy.ensures.whole (rw c.hierarchy.ensures.hierarchy at c.items-items.ensures.within) c.loop-number.counts counted rows.items exact;
+    })
 
 pub returns-clause-items : goal.returns-clause-items
 returns-clause-items c =
+    let problem = c.args.job.now in
+    let whole : length c.db-db.result.now ≡ length problem.sequences = ap length c.db-db.ensures.sequences in
+    let counted = counted_all problem c.loop-number.counts c.loop-number.number (omega (arith, c.loop-number-test.false, c.sequences-number-end.ensures.count, whole)) c.loop-number.invariant.counted in
     IfOk-weaker c.rows.result _ _ (λ rows exact row h.
-    frequent_within c.args.job.now c.hierarchy.ensures.whole (rw c.hierarchy.ensures.hierarchy at c.items-items.ensures.within) row.pattern row.support ((exact row).0 h)) (exact_rows c)
+    rows_within problem c.hierarchy.ensures.whole (rw c.hierarchy.ensures.hierarchy at c.items-items.ensures.within) c.loop-number.counts counted rows.items exact row h)
+    (rw (c.ranks.ensures.ranking, c.support.ensures.threshold) at c.rows.ensures.exact)

@@ -6,7 +6,7 @@ use Rattle.mine_model.specs.declared.item.Item.{Item}
 use Rattle.mine_model.specs.Ancestry.{item_at, start_of, list_at, AreRising, Lists, AreAncestorLists}
 use Rattle.mine_model.proofs.AncestryLemmas.{Item-same}
 use Rattle.mine_model.proofs.ListLemmas.{Contains-cases, Contains-none}
-use Rattle.indexmap.proofs.CallerLemmas.{Contains-list_any}
+use Rattle.std.proofs.lemmas.Map.Views.{Contains-from_any}
 use Rattle.count_engine.proofs.tests.hierarchy.Goals as goal
 
 abbrev ends : List ℕ
@@ -55,7 +55,7 @@ abbrev among : List Item → Item → Bool
 among xs w = list_any (same_item w) xs
 
 is_among : (xs : List Item) (w : Item) → among xs w ≡ true → Contains xs w
-is_among xs w h = Contains-list_any same_item (λ a b e. Item-same a b (eqb-true a.0 b.0 e)) xs w h
+is_among xs w h = Contains-from_any {eq = same_item} (λ a b e. Item-same a b (eqb-true a.0 b.0 e)) w xs h
 
 abbrev rises : List Item → Bool
 rises [] = true
