@@ -2,7 +2,7 @@
 use Rattle.std.proofs.Common.{◌≡◌, ℕ, ◌+◌, ◌-◌, ◌*◌, ◌^◌, ◌≤◌, ◌<◌, inl, inr, List, [], ◌∷◌, ◌++◌, length, get_or, take, drop, refl, sym, ap, ◌∙◌, subst, arith, length-take, length-drop}
 use Rattle.std.specs.List.{All, AllByRecursion, slice_index, slice_range}
 use Rattle.std.proofs.lemmas.List.{take_more, get_or-drop, get_or_past}
-use Rattle.std.proofs.lemmas.List.Elements.{All-take, All-drop, All-cons, All-nil}
+use Rattle.std.proofs.lemmas.List.Elements.{All-take, All-drop, All-from_recursion}
 use Rattle.std.proofs.lemmas.Bool.{cases_lt}
 use Rattle.mine_model.specs.declared.item.Item.{Item}
 use Rattle.mine_model.specs.Ancestry.{item_at}
@@ -13,10 +13,6 @@ use Rattle.mine_model.specs.Support.{Sequence, Counts, HoldsUnder, HasFrequency}
 use Rattle.mine_model.specs.Ranks.{AreFrequencies}
 use Rattle.mine_model.proofs.FrequencyLemmas.{Counts-append, Counts-most}
 use Rattle.frequency_list.specs.Tallies.{AddsWeight}
-
-pub All-from_recursion : {X : Type 0} (P : X → Type 0) (xs : List X) → AllByRecursion P xs → All P xs
-All-from_recursion P [] all = All-nil P
-All-from_recursion P (x ∷ xs) all = All-cons P x xs all.0 (All-from_recursion P xs all.1)
 
 -- what holds of each sequence holds of the one with this number
 pub at_number : (P : Sequence Item → Type 0) (sequences : List (Sequence Item)) (i : ℕ) → AllByRecursion P sequences → i < length sequences → P (sequence_at sequences i)

@@ -1,5 +1,5 @@
 -- What an expression writes stands above what it reads, and is no longer.
-use Rattle.std.proofs.Common.{◌≡◌, ◌≤◌, inl, inr, Bool, true, false, List, [], ◌∷◌, sym, ap, ◌∙◌, subst, length, length-append, arith}
+use Rattle.std.proofs.Common.{◌≤◌, inl, inr, Bool, true, false, List, [], ◌∷◌, ap, subst, length, length-append, arith}
 use Rattle.std.specs.List.{All, AllByRecursion, Contains, flat_map}
 use Rattle.std.proofs.lemmas.List.Elements.{All-contains}
 use Rattle.mine_model.specs.Hierarchy.{Link, IsWalk, IsAncestor}

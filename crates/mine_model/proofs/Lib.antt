@@ -28,3 +28,4 @@ pub mod RenamingLemmas
 pub mod RankLemmas
 pub mod AboveLemmas
 pub mod FrequencyLemmas
+pub mod TestedLists

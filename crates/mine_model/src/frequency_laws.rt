@@ -9,8 +9,8 @@ ghost use Rattle.mine_model.specs.Generation.{IsPatternOf};
 ghost use Rattle.mine_model.specs.Support.{Sequence, Counts, HasSupport, HoldsUnder, HasFrequency};
 ghost use Rattle.mine_model.specs.Ranks.{IsFrequentItem, IsCandidateOf};
 
-/// A pattern is no longer than a sequence that generates it, and each of its items is an item of the sequence or
-/// stands above one.
+/// A pattern is no longer than a sequence that generates it, and each of its items is an item of the sequence
+/// or stands above one.
 pub fn pattern_stands_above_its_sequence()
     ensures shorter { (links : List (Link Item)) (expression : Tree Item) (sequence pattern : List Item)
         → IsPatternOf links expression sequence pattern → length pattern ≤ length sequence }
@@ -27,8 +27,8 @@ pub fn support_is_at_most_a_frequency()
         → HasFrequency links sequences w m → n ≤ m }
 {}
 
-/// Where each item has a frequency, a pattern whose support reaches the threshold has frequent items alone, and
-/// its support is what is counted of it as a pattern of frequent items.
+/// Where each item has a frequency, a pattern whose support reaches the threshold has frequent items alone,
+/// and its support is what is counted of it as a pattern of frequent items.
 pub fn frequent_items_suffice()
     ensures items { (links : List (Link Item)) (expression : Tree Item) (sequences : List (Sequence Item))
         → ((w : Item) → (m : ℕ) × HasFrequency links sequences w m)
