@@ -10,7 +10,8 @@ use Rattle.std.proofs.lemmas.Option.{slice_get_within, get_or_from_slice_get, sl
 use Rattle.std.proofs.lemmas.Bool.{cases_Bool, cases_lt, cases_eq}
 use Rattle.mine_model.specs.declared.item.Item.{Item}
 use Rattle.mine_model.specs.declared.expression.Leaf.{Leaf as ItemLeaf}
-use Rattle.mine_model.specs.Expression.{Tree, leaf, cat, alt, rep, cap, named_by, named_in, leaf_of, tree_of, unfolded_times}
+use Rattle.mine_model.specs.Expression.{Tree, leaf, cat, alt, rep, cap, named_by, named_in, unfolded_times}
+use Rattle.mine_model.specs.Numbered.{leaf_of, tree_of}
 use Rattle.mine_model.specs.Generation.{Matches, MayWrite, WritesAt}
 use Rattle.mine_model.specs.Hierarchy.{Link}
 use Rattle.mine_model.specs.Ranks.{HasRank}

@@ -4,7 +4,8 @@ use Rattle.std.specs.Bool.{IsTrue}
 use Rattle.std.specs.List.{AllByRecursion, Contains, slice_get}
 use Rattle.std.proofs.lemmas.Option.{slice_get-get_or, same_Some, get_or_from_slice_get}
 use Rattle.mine_model.specs.declared.item.Item.{Item}
-use Rattle.mine_model.specs.Expression.{Leaf, leaf_of}
+use Rattle.mine_model.specs.Expression.{Leaf}
+use Rattle.mine_model.specs.Numbered.{leaf_of}
 use Rattle.mine_model.specs.Generation.{Matches, MayWrite, WritesAt}
 use Rattle.mine_model.specs.Hierarchy.{Link}
 use Rattle.mine_model.specs.Ranks.{HasRank}

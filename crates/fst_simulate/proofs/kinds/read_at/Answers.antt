@@ -6,7 +6,8 @@ use Rattle.std.proofs.lemmas.Option.{slice_get-get_or}
 use Rattle.mine_model.proofs.ListLemmas.{Contains-none}
 use Rattle.mine_model.specs.declared.item.Item.{Item}
 use Rattle.mine_model.specs.Ancestry.{Ancestry}
-use Rattle.mine_model.specs.Expression.{named_by, leaf_of}
+use Rattle.mine_model.specs.Expression.{named_by}
+use Rattle.mine_model.specs.Numbered.{leaf_of}
 use Rattle.mine_model.specs.Generation.{Matches, MayWrite}
 use Rattle.mine_model.specs.Ranks.{Ranking, HasRank}
 use Rattle.fst_compile.specs.declared.edge.Label.{Label}

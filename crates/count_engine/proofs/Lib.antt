@@ -1,0 +1,5 @@
+pub mod TrieLemmas
+pub mod SumLemmas
+pub mod RankedLemmas
+pub mod RowLemmas
+pub mod CountLemmas

@@ -1,0 +1,3 @@
+-- what the proofs keep
+pub mod Tries
+pub mod Counts

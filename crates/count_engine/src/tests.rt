@@ -1,0 +1,261 @@
+ghost use Rattle.std.specs.Prelude.{◌≡◌, ◌+◌, ◌<◌, ◌≤◌, All, IfOk, IsTrue};
+ghost use Rattle.std.specs.List.{AllByRecursion};
+ghost use Rattle.mine_model.specs.Expression.{named_in, named_by, unfolded_leaves};
+ghost use Rattle.mine_model.specs.Numbered.{tree_of, leaf_of};
+
+use super::mine;
+use frequency_list::count;
+use fst_compile::compile;
+use fst_simulate::Job;
+use item_names::Names;
+use mine_model::{Db, Expr, Hierarchy, Item, Leaf, NoMemory, Row};
+use std::alloc::{AllocError, Global};
+use std::test::Fail;
+use std::thread::Threads;
+
+const A: Item = Item(0);
+
+const A1: Item = Item(1);
+
+const A2: Item = Item(2);
+
+const B: Item = Item(3);
+
+const C: Item = Item(4);
+
+const D: Item = Item(5);
+
+const E: Item = Item(6);
+
+const WORDS: [&str; 11] = ["A", "a1", "a2", "b", "c", "d", "e", "R", "P", "Q", "x"];
+
+/// Sequences with their weights, or patterns with their supports.
+type Lines = &'static [(u64, &'static [Item])];
+
+/// a1 and a2 stand under A, and x under P and Q, which stand under R.
+fn hierarchy(alloc: Global) -> Result<Hierarchy, NoMemory>
+    ensures { IfOk result (λ h. h.items ≡ 11) }
+{
+    let ends = vec![in alloc; 1, 3, 5, 6, 7, 8, 9, 10, 12, 14, 18]?;
+    let r = Item(7);
+    let p = Item(8);
+    let q = Item(9);
+    let x = Item(10);
+    let lists = vec![in alloc; A, A, A1, A, A2, B, C, D, E, r, r, p, r, q, r, p, q, x]?;
+    Ok(Hierarchy::new(ends, lists))
+}
+
+fn leaf(leaf: Leaf) -> Expr
+    requires { AllByRecursion (λ w. w.0 < 11) (named_by (leaf_of leaf)) }
+    ensures leaves { unfolded_leaves (tree_of result) ≡ 1 }
+    ensures named { AllByRecursion (λ w. w.0 < 11) (named_in (tree_of result)) }
+{
+    Expr::Leaf(leaf)
+}
+
+fn cat(alloc: Global, left: Expr, right: Expr) -> Result<Expr, AllocError>
+    requires left { AllByRecursion (λ w. w.0 < 11) (named_in (tree_of left)) }
+    requires right { AllByRecursion (λ w. w.0 < 11) (named_in (tree_of right)) }
+    ensures leaves { IfOk result (λ e. unfolded_leaves (tree_of e)
+        ≡ unfolded_leaves (tree_of left) + unfolded_leaves (tree_of right)) }
+    ensures named { IfOk result (λ e. AllByRecursion (λ w. w.0 < 11) (named_in (tree_of e))) }
+{
+    Ok(Expr::Cat(Box::new(alloc, left)?, Box::new(alloc, right)?))
+}
+
+fn alt(alloc: Global, left: Expr, right: Expr) -> Result<Expr, AllocError>
+    requires left { AllByRecursion (λ w. w.0 < 11) (named_in (tree_of left)) }
+    requires right { AllByRecursion (λ w. w.0 < 11) (named_in (tree_of right)) }
+    ensures leaves { IfOk result (λ e. unfolded_leaves (tree_of e)
+        ≡ unfolded_leaves (tree_of left) + unfolded_leaves (tree_of right)) }
+    ensures named { IfOk result (λ e. AllByRecursion (λ w. w.0 < 11) (named_in (tree_of e))) }
+{
+    Ok(Expr::Alt(Box::new(alloc, left)?, Box::new(alloc, right)?))
+}
+
+fn star(alloc: Global, inner: Expr) -> Result<Expr, AllocError>
+    requires { AllByRecursion (λ w. w.0 < 11) (named_in (tree_of inner)) }
+    ensures leaves { IfOk result (λ e. unfolded_leaves (tree_of e) ≡ unfolded_leaves (tree_of inner)) }
+    ensures named { IfOk result (λ e. AllByRecursion (λ w. w.0 < 11) (named_in (tree_of e))) }
+{
+    Ok(Expr::Rep {
+        inner: Box::new(alloc, inner)?,
+        least: 0,
+        most: None,
+    })
+}
+
+fn cap(alloc: Global, inner: Expr) -> Result<Expr, AllocError>
+    requires { AllByRecursion (λ w. w.0 < 11) (named_in (tree_of inner)) }
+    ensures leaves { IfOk result (λ e. unfolded_leaves (tree_of e) ≡ unfolded_leaves (tree_of inner)) }
+    ensures named { IfOk result (λ e. AllByRecursion (λ w. w.0 < 11) (named_in (tree_of e))) }
+{
+    Ok(Expr::Cap(Box::new(alloc, inner)?))
+}
+
+/// The expressions of the tests.
+#[derive(Clone, Copy)]
+enum Mined {
+    /// `.*(A)[(.^)|.]*(b).*`
+    Climbing,
+    /// `.*(.).*`
+    One,
+    /// `.*(.)[.*(.)]*.*`
+    Subsequence,
+}
+
+fn expression(alloc: Global, mined: Mined) -> Result<Expr, AllocError>
+    ensures leaves { IfOk result (λ e. unfolded_leaves (tree_of e) ≤ 9) }
+    ensures named { IfOk result (λ e. AllByRecursion (λ w. w.0 < 11) (named_in (tree_of e))) }
+{
+    let front = star(alloc, leaf(Leaf::Any))?;
+    let back = star(alloc, leaf(Leaf::Any))?;
+    let middle = match mined {
+        Mined::Climbing => climbing(alloc)?,
+        Mined::One => cap(alloc, leaf(Leaf::Any))?,
+        Mined::Subsequence => subsequence(alloc)?,
+    };
+    cat(alloc, cat(alloc, front, middle)?, back)
+}
+
+fn climbing(alloc: Global) -> Result<Expr, AllocError>
+    ensures leaves { IfOk result (λ e. unfolded_leaves (tree_of e) ≤ 4) }
+    ensures named { IfOk result (λ e. AllByRecursion (λ w. w.0 < 11) (named_in (tree_of e))) }
+{
+    let first = cap(alloc, leaf(Leaf::Under(A)))?;
+    let either = alt(alloc, cap(alloc, leaf(Leaf::AnyClimb))?, leaf(Leaf::Any))?;
+    let last = cap(alloc, leaf(Leaf::Under(B)))?;
+    cat(alloc, cat(alloc, first, star(alloc, either)?)?, last)
+}
+
+fn subsequence(alloc: Global) -> Result<Expr, AllocError>
+    ensures leaves { IfOk result (λ e. unfolded_leaves (tree_of e) ≤ 4) }
+    ensures named { IfOk result (λ e. AllByRecursion (λ w. w.0 < 11) (named_in (tree_of e))) }
+{
+    let one = cap(alloc, leaf(Leaf::Any))?;
+    let next = cat(
+        alloc,
+        star(alloc, leaf(Leaf::Any))?,
+        cap(alloc, leaf(Leaf::Any))?,
+    )?;
+    cat(alloc, one, star(alloc, next)?)
+}
+
+fn are_known(items: &[Item]) -> bool
+    ensures { IsTrue result → All (λ t. t.0 < 11) items.now }
+{
+    for item in items {
+        if item.0 >= 11 {
+            return false;
+        }
+    }
+    true
+}
+
+/// A database of these lines, each so many times.
+fn database(alloc: Global, lines: Lines, times: u32) -> Result<Db, NoMemory>
+    ensures { IfOk result (λ db. AllByRecursion (λ s. AllByRecursion (λ t. t.0 < 11) s.items) db) }
+{
+    let mut db = Db::new(alloc);
+    for (weight, items) in lines {
+        for _ in 0..times {
+            if are_known(items) && db.sequences() < 4_194_304 && items.len() <= 65_535 {
+                db.push_weighted(items, (*weight).clamp(1, 1_000_000_000))?;
+            }
+        }
+    }
+    Ok(db)
+}
+
+/// The rows that the expression has on these lines, each so many times.
+fn rows<T: Threads + Sync>(
+    rt: &T,
+    alloc: Global,
+    mined: Mined,
+    lines: Lines,
+    times: u32,
+    support: u64,
+) -> Result<Vec<Row>, Fail>
+    requires { 1 ≤ support }
+{
+    let mut names = Names::new(alloc)?;
+    for word in &WORDS {
+        let _item = names.intern(word.as_bytes())?;
+    }
+    let hierarchy = hierarchy(alloc)?;
+    if names.count() < hierarchy.items() {
+        return Err(NoMemory)?;
+    }
+    let db = database(alloc, lines, times)?;
+    let fst = compile(alloc, &expression(alloc, mined)?)?;
+    let ranks = count(rt, alloc, &hierarchy, &db, support, &names)?;
+    let job = Job::new(hierarchy, db, fst, ranks, support);
+    Ok(mine(alloc, &job)?)
+}
+
+fn holds(rows: &[Row], pattern: &[Item], support: u64) -> bool {
+    rows.iter().any(|row| row.support == support && row.pattern.items() == pattern)
+}
+
+const RUNNING: [(u64, &[Item]); 5] = [
+    (1, &[A1, C, D, C, B]),
+    (1, &[E, E, A1, E, A1, E, B]),
+    (1, &[C, D, C, B]),
+    (1, &[A2, D, B]),
+    (1, &[A1, A1, B]),
+];
+
+const WEIGHTS: [(u64, &[Item]); 3] = [(3, &[B, B]), (1_000_000_000, &[C]), (4, &[B, C])];
+
+const SHARED: [(u64, &[Item]); 4] = [
+    (1, &[B, C, D]),
+    (2, &[B, C, E]),
+    (4, &[D, C]),
+    (8, &[B, B, C]),
+];
+
+#[test]
+fn finds_the_frequent_patterns(rt: HostRuntime) -> Result<(), Fail> {
+    let table: [(Mined, Lines, u32, u64, Lines); 8] = [
+        (
+            Mined::Climbing,
+            &RUNNING,
+            1,
+            2,
+            &[(3, &[A1, B]), (2, &[A1, A, B]), (2, &[A1, A1, B])],
+        ),
+        (Mined::Climbing, &RUNNING, 1, 3, &[(3, &[A1, B])]),
+        (Mined::Climbing, &RUNNING, 1, 6, &[]),
+        (Mined::Climbing, &RUNNING, 300, 601, &[(900, &[A1, B])]),
+        (
+            Mined::One,
+            &WEIGHTS,
+            1,
+            5,
+            &[(7, &[B]), (1_000_000_004, &[C])],
+        ),
+        (
+            Mined::Subsequence,
+            &SHARED,
+            1,
+            8,
+            &[
+                (11, &[B]),
+                (15, &[C]),
+                (11, &[B, C]),
+                (8, &[B, B]),
+                (8, &[B, B, C]),
+            ],
+        ),
+        (Mined::Subsequence, &[], 1, 1, &[]),
+        (Mined::Subsequence, &[(1, &[])], 1, 1, &[]),
+    ];
+    for (mined, lines, times, support, want) in table {
+        let found = rows(&rt, rt.alloc(), mined, lines, times, support.max(1))?;
+        assert_eq!(rt; found.len(), want.len());
+        for (support, pattern) in want {
+            assert!(rt; holds(&found, pattern, *support));
+        }
+    }
+    Ok(())
+}
