@@ -30,6 +30,7 @@ fn main(rt: HostRuntime) -> ExitCode {
     let mut files = DiskFiles::new(&rt);
     let mut out = StdSink::out(&rt);
     let status = run(
+        &rt,
         rt.alloc(),
         words.as_slice(),
         &mut files,
