@@ -27,8 +27,11 @@ options = needed (value (codes "support")) ∷ value (codes "hierarchy") ∷ fla
 
 -- the command, as clap sees it: no program's name comes before the words, and no word asks for help
 unfoldable pub desq : App
-desq = record { subs = []; top = record (new_shape (codes "desq"))
-    { no_binary_name = true; disable_help_flag = true; rules = options } }
+desq = record {
+  subs = [];
+  top = record (new_shape (codes "desq"))
+      { no_binary_name = true; disable_help_flag = true; rules = options };
+}
 
 -- why clap refuses the words; empty where it takes them
 unfoldable pub faults : List Text → Kinds

@@ -69,8 +69,8 @@ pub record AreRows (names : List (List ℕ)) (h : Ancestry) (db : List (Sequence
   pub named : AllByRecursion (HasName names) (named_in expression)
   pub frequent : (row : Row) → Contains rows row
       ↔ IsFrequent
-          (record { links = h.links; sequences = db; expression = expression; threshold = threshold })
-          row.pattern row.support
+      (record { links = h.links; sequences = db; expression = expression; threshold = threshold })
+      row.pattern row.support
   pub rises : Rises (map (named_row names) rows)
 
 -- The rows are in the order of their names, the words name an expression that is not refused, and where the
@@ -82,7 +82,7 @@ pub record IsMined (words : List (List ℕ)) (holds : List ℕ → Option (List 
   pub accepted : (input : Input) → IsInput words holds input → IsAccepted input
   pub answer : (input : Input) → IsInput words holds input
       → (tree : Tree Use) × ReadsAs input.command.expression tree
-          × IsAnswer (data_of input tree) (map (named_row names) rows)
+      × IsAnswer (data_of input tree) (map (named_row names) rows)
 
 -- the rows are the frequent patterns by numbers, in the order of their names
 pub record AreOrdered (names : List (List ℕ)) (h : Ancestry) (db : List (Sequence Item))
@@ -90,6 +90,6 @@ pub record AreOrdered (names : List (List ℕ)) (h : Ancestry) (db : List (Seque
     (rows : List Row) : Type 0 where
   pub frequent : (row : Row) → Contains rows row
       ↔ IsFrequent
-          (record { links = h.links; sequences = db; expression = expression; threshold = threshold })
-          row.pattern row.support
+      (record { links = h.links; sequences = db; expression = expression; threshold = threshold })
+      row.pattern row.support
   pub rises : Rises (map (named_row names) rows)

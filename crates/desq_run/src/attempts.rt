@@ -43,8 +43,8 @@ fn mine_files<R: Threads + Sync, F: Files>(
     requires support { 1 ≤ command.now.support }
     ensures mined { (words : List (List ℕ)) → IsCommand words (command_said command.now)
         → IfOk result
-            (λ mined. IsMined words (F.holds files.old) (command_said command.now)
-            mined.names mined.rows.items) }
+        (λ mined. IsMined words (F.holds files.old) (command_said command.now)
+        mined.names mined.rows.items) }
     ensures named { IfOk result (λ mined. All
         (λ row. All (HasName mined.names) row.pattern) mined.rows.items) }
     ensures ends { (words : List (List ℕ)) → IsCommand words (command_said command.now)

@@ -3,8 +3,8 @@ ghost use Rattle.std.specs.Prelude.{◌<◌};
 use super::run;
 use mine_model::OpenGate;
 use std::alloc::Global;
-use std::thread::Threads;
 use std::test::Fail;
+use std::thread::Threads;
 use text_ports::{MemFile, MemFiles, MemSink};
 
 /// What a run left behind.
@@ -88,7 +88,11 @@ fn run_on<R: Threads + Sync>(
 }
 
 /// How many of the cases leave what they should.
-fn count_right<R: Threads + Sync>(rt: &R, alloc: Global, cases: &[Case<'_>]) -> Result<usize, Fail> {
+fn count_right<R: Threads + Sync>(
+    rt: &R,
+    alloc: Global,
+    cases: &[Case<'_>],
+) -> Result<usize, Fail> {
     let mut right = 0;
     for case in cases {
         let ran = run_on(
@@ -860,7 +864,10 @@ fn a_read_fault_comes_before_a_bad_byte(rt: HostRuntime) -> Result<(), Fail> {
     let ran = run_on(&rt, rt.alloc(), &words, b"", b"\x01\nabc\n", faults)?;
     assert_eq!(rt; ran.status, 5);
     assert_eq!(rt; ran.out.len(), 0);
-    assert_eq!(rt; ran.err.as_slice(), b"desq: sequences: read fault\n".as_slice());
+    assert_eq!(rt;
+        ran.err.as_slice(),
+        b"desq: sequences: read fault\n".as_slice()
+    );
     Ok(())
 }
 
@@ -873,7 +880,10 @@ fn a_cycle_is_told_before_the_sequences_are_opened(rt: HostRuntime) -> Result<()
     };
     let ran = run_on(&rt, rt.alloc(), &WORDS, b"x x\n", SEQUENCES, faults)?;
     assert_eq!(rt; ran.status, 3);
-    assert_eq!(rt; ran.err.as_slice(), b"desq: hierarchy: line 1: cycle\n".as_slice());
+    assert_eq!(rt;
+        ran.err.as_slice(),
+        b"desq: hierarchy: line 1: cycle\n".as_slice()
+    );
     Ok(())
 }
 
@@ -898,7 +908,14 @@ fn an_empty_answer_is_no_write(rt: HostRuntime) -> Result<(), Fail> {
         out: &[1],
         ..NO_FAULTS
     };
-    let ran = run_on(&rt, rt.alloc(), &["--support", "2", "(.)", "f"], b"", b"a\nb\n", faults)?;
+    let ran = run_on(
+        &rt,
+        rt.alloc(),
+        &["--support", "2", "(.)", "f"],
+        b"",
+        b"a\nb\n",
+        faults,
+    )?;
     assert_eq!(rt; ran.status, 0);
     assert_eq!(rt; ran.out.len(), 0);
     Ok(())
@@ -953,7 +970,12 @@ fn a_long_answer_is_one_write_and_a_longer_one_is_whole(rt: HostRuntime) -> Resu
 }
 
 /// Whether the expression writes the whole line, which is of one item many times with a blank behind each.
-fn writes_all<R: Threads + Sync>(rt: &R, alloc: Global, expression: &str, line: &[u8]) -> Result<bool, Fail> {
+fn writes_all<R: Threads + Sync>(
+    rt: &R,
+    alloc: Global,
+    expression: &str,
+    line: &[u8],
+) -> Result<bool, Fail> {
     let mut answer = Vec::from_slice(alloc, b"1\t")?;
     answer.extend_from_slice(line)?;
     answer.pop();
@@ -976,7 +998,10 @@ fn every_number_of_leaves_is_mined(rt: HostRuntime) -> Result<(), Fail> {
         let mut expression = String::from_str(alloc, "(a){")?;
         expression.push_str(number.as_str())?;
         expression.push_str("}")?;
-        assert!(rt; writes_all(&rt, alloc, expression.as_str(), line.as_slice())?, "{count}");
+        assert!(rt;
+            writes_all(&rt, alloc, expression.as_str(), line.as_slice())?,
+            "{count}"
+        );
     }
     assert!(rt; writes_all(&rt, alloc, row.as_str(), line.as_slice())?);
     Ok(())
@@ -1088,7 +1113,18 @@ fn a_hierarchy_is_as_high_as_it_may_be(rt: HostRuntime) -> Result<(), Fail> {
     let alloc = rt.alloc();
     let words = ["--support", "1", "--hierarchy", "h", "(i8191^=)", "f"];
     let items = chain(alloc, 8_191)?;
-    assert!(rt; leaves(&rt, alloc, &words, items.as_slice(), b"i1\n", 0, "1\ti8191\n", "")?);
+    assert!(rt;
+        leaves(
+            &rt,
+            alloc,
+            &words,
+            items.as_slice(),
+            b"i1\n",
+            0,
+            "1\ti8191\n",
+            ""
+        )?
+    );
     let items = chain(alloc, 8_192)?;
     let fault = "desq: hierarchy: more than 33554432 ancestors\n";
     assert!(rt; leaves(&rt, alloc, &words, items.as_slice(), b"i1\n", 4, "", fault)?);

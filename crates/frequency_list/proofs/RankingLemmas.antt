@@ -48,11 +48,11 @@ module _ (frequencies : List ℕ) (names : List (List ℕ)) where
     AreRanks-sorted links sequences support ends within least are frequent = record {
       exact = are;
       frequent = λ w. (
-          (λ held. let both = (frequent w).0 held in record { frequency = slice_index frequencies w.0; exact = are w both.0; enough = both.1 }),
-          (λ is.
-          let below : w.0 < length frequencies = HasFrequency-within links (length frequencies) ends sequences w is.frequency within is.exact (omega (arith, least, is.enough)) in
-          let same : is.frequency ≡ slice_index frequencies w.0 = Counts-unique (HoldsUnder links w) sequences is.frequency (slice_index frequencies w.0) is.exact (are w below) in
-          (frequent w).1 (below, omega (arith, same, is.enough))),
+        (λ held. let both = (frequent w).0 held in record { frequency = slice_index frequencies w.0; exact = are w both.0; enough = both.1 }),
+        (λ is.
+            let below : w.0 < length frequencies = HasFrequency-within links (length frequencies) ends sequences w is.frequency within is.exact (omega (arith, least, is.enough)) in
+            let same : is.frequency ≡ slice_index frequencies w.0 = Counts-unique (HoldsUnder links w) sequences is.frequency (slice_index frequencies w.0) is.exact (are w below) in
+            (frequent w).1 (below, omega (arith, same, is.enough))),
       );
       once = order_apart;
       falling = λ i j d less within. comes_falling (get_or order i d) (get_or order j d) (sorted i j d less within);

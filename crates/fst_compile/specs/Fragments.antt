@@ -63,7 +63,7 @@ behind_copy least (Some most) index copy rest = rest.first.items
 abbrev pub AddsCopy : ℕ → Option ℕ → ℕ → Fragment → Fragment → List ℕ → List ℕ → Type 0
 AddsCopy least most index copy rest before after =
     Adds before after (λ j k. Contains copy.last.items j
-        × Contains (behind_copy least most index copy rest) k)
+    × Contains (behind_copy least most index copy rest) k)
 
 -- the copies of a repetition from an index on
 abbrev pub copies_from : Shape → ℕ → Option ℕ → ℕ → Shape

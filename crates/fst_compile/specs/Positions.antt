@@ -78,9 +78,9 @@ Spells Reads (k ∷ word) input output =
 abbrev pub IsLabelled : List (Link Item) → (ℕ → Item → List Item → Type 0) → Shape → ℕ → Type 0
 IsLabelled links Reads (one l captured) o =
     ((t : Item) (output : List Item) → Reads o t output → Matches links l t
-        × WritesAt links l captured t output)
+    × WritesAt links l captured t output)
     × ((t : Item) (output : List Item) → Matches links l t → WritesAt links l captured t output
-        → Reads o t output)
+    → Reads o t output)
 IsLabelled links Reads nothing o = Unit {0}
 IsLabelled links Reads never o = Unit {0}
 IsLabelled links Reads (both a b) o = IsLabelled links Reads a o × IsLabelled links Reads b (o + size a)

@@ -71,4 +71,4 @@ pub record IsPositionAutomaton (machine : Transducer) (tree : Tree Item) : Type 
 abbrev pub IsTransducerOf : Transducer → Tree Item → Type 0
 IsTransducerOf machine tree =
     (links : List (Link Item)) (input output : List Item)
-        → IsPath links machine 0 input output ↔ Generates links tree false input output
+    → IsPath links machine 0 input output ↔ Generates links tree false input output

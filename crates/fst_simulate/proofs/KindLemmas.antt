@@ -59,7 +59,7 @@ ArePushedSoFar-none order top items found none = record {
   exact = λ rank. (
     (λ held. absurd (Contains-none rank (subst (λ (xs : List ℕ). Contains xs rank) none held))),
     (λ h. let (v, inside, _, _) = h in absurd (Contains-none v inside)),
-  )
+  );
 }
 
 module _ (order : List Item) (top : ℕ) (items : List Item) (found : List ℕ) (index : ℕ) (item : Item) (so_far : ArePushedSoFar order top items found index)
@@ -87,7 +87,7 @@ module _ (order : List Item) (top : ℕ) (items : List Item) (found : List ℕ) 
         | inl before ↦ (so_far.exact rank).1 (v, before, has, low)
         | inr same ↦ absurd (not_here rank (subst (λ (x : Item). HasRank order x rank) same has) low)
       ]),
-    )
+    );
   }
 
   pub ArePushedSoFar-push : AllPairs (λ v w. v ≢ w) order → (rank : ℕ) → HasRank order item rank → rank ≤ top → ArePushedSoFar order top items (found ++ rank ∷ []) (index + 1)
@@ -106,7 +106,7 @@ module _ (order : List Item) (top : ℕ) (items : List Item) (found : List ℕ) 
             let one : r ≡ rank = rank_unique order item r rank once (subst (λ (x : Item). HasRank order x r) same has') has in
             subst (λ (x : ℕ). Contains (found ++ rank ∷ []) x) (sym one) (Contains-append_right found (rank ∷ []) rank (Contains-first rank []))
       ]),
-    )
+    );
   }
 
 pub ArePushedSoFar-all : (order : List Item) (top : ℕ) (items : List Item) (found : List ℕ) (index : ℕ) → ArePushedSoFar order top items found index → length items ≤ index

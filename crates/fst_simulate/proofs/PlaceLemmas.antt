@@ -63,17 +63,25 @@ IsTripleOf-step problem whole bound table is_table t rest class after before is_
         let (k, precedes, either) = (step.unseen q).0 has in
         let leads = (is_table.edges q k state).0 precedes in
         let target = target-of problem whole q k leads in
-        (unseen-step problem whole bound t rest q).1 (k, leads, elim either [
-          | inl (goes, then') ↦ inl ((is_class.goes k target).0 goes, (is_after.unseen k target.1).0 then')
-          | inr (needs, then') ↦ inr ((is_class.needs k target).0 needs, (is_after.seen k target.1).0 then')
-        ])),
+        (unseen-step problem whole bound t rest q).1 (
+          k,
+          leads,
+          elim either [
+            | inl (goes, then') ↦ inl ((is_class.goes k target).0 goes, (is_after.unseen k target.1).0 then')
+            | inr (needs, then') ↦ inr ((is_class.needs k target).0 needs, (is_after.seen k target.1).0 then')
+          ],
+        )),
     (λ completes.
         let (k, leads, either) = (unseen-step problem whole bound t rest q).0 completes in
         let target = target-of problem whole q k leads in
-        (step.unseen q).1 (k, (is_table.edges q k state).1 leads, elim either [
-          | inl (goes, then') ↦ inl ((is_class.goes k target).1 goes, (is_after.unseen k target.1).1 then')
-          | inr (needs, then') ↦ inr ((is_class.needs k target).1 needs, (is_after.seen k target.1).1 then')
-        ])),
+        (step.unseen q).1 (
+          k,
+          (is_table.edges q k state).1 leads,
+          elim either [
+            | inl (goes, then') ↦ inl ((is_class.goes k target).1 goes, (is_after.unseen k target.1).1 then')
+            | inr (needs, then') ↦ inr ((is_class.needs k target).1 needs, (is_after.seen k target.1).1 then')
+          ],
+        )),
   );
   ends = λ q state. (
     (λ has.

@@ -138,7 +138,7 @@ IsTakenSoFar-skip members all index so_far not_here = record {
       | inl same ↦ absurd (not_here (subst (λ (x : ℕ). Has all x) same is))
       | inr other ↦ (so_far.exact q).1 (omega arith, is)
     ]),
-  )
+  );
 }
 
 pub IsTakenSoFar-take : (before after all index : ℕ) → IsTakenSoFar before all index → Has all index → ((r : ℕ) → Has after r ↔ (Has before r ⊎ (r ≡ index)))
@@ -153,7 +153,7 @@ IsTakenSoFar-take before after all index so_far here step = record {
       | inl same ↦ (step q).1 (inr same)
       | inr other ↦ (step q).1 (inl ((so_far.exact q).1 (omega arith, is)))
     ]),
-  )
+  );
 }
 
 -- the next state of a walk is a member

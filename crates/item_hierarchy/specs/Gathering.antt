@@ -81,4 +81,4 @@ abbrev pub AreFew : List Part → List Item → Type 0
 AreFew parts lists =
     (pairs : List (Link Item)) × (length pairs ≤ most_ancestors)
     × ((t w : Item) → t.0 < length parts → Contains (list_in parts lists t.0) w
-        → Contains pairs (record { child = t; parent = w }))
+    → Contains pairs (record { child = t; parent = w }))

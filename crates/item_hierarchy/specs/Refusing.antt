@@ -13,7 +13,7 @@ abbrev pub IsLineRefusal : List (List ℕ) → List (List ℕ) → List ℕ → 
 IsLineRefusal known before text =
     FirstOf (IsTextRefusal Hierarchy (length before + 1) text)
     (λ fault. HasMoreNames most_items (known ++ names_of (before ++ text ∷ []))
-        × (fault ≡ TooManyItems Hierarchy (length before + 1)))
+    × (fault ≡ TooManyItems Hierarchy (length before + 1)))
 
 -- the first refusal of the text and the names of the file; where no name is known before, that is the first
 -- part of the refusals of a hierarchy file

@@ -22,7 +22,7 @@ pub record IsParentsFirst (links : List (Link Item)) (items : ℕ) (order : List
   pub once : AllPairs (λ t w. t ≢ w) order
   pub first : (k : ℕ) (d : Item) (parent : Item) → k < length order
       → Contains links (record { child = slice_index_or order k d; parent = parent })
-          → Contains (take k order) parent
+      → Contains (take k order) parent
 
 -- the open items lead from each to the next by a link; what is done stands behind its parents
 pub record IsWalking (links : List (Link Item)) (items : ℕ) (marks : List Mark)
@@ -33,13 +33,13 @@ pub record IsWalking (links : List (Link Item)) (items : ℕ) (marks : List Mark
   pub apart : AllPairs (λ t w. t ≢ w) open_items
   pub leads : (k : ℕ) (d : Item) → k + 1 < length open_items
       → Contains links
-        (record { child = slice_index_or open_items k d; parent = slice_index_or open_items (k + 1) d })
+      (record { child = slice_index_or open_items k d; parent = slice_index_or open_items (k + 1) d })
   pub are_done : All (λ t. IsMarked marks t Done) order
   pub all_done : (t : Item) → IsMarked marks t Done → Contains order t
   pub once : AllPairs (λ t w. t ≢ w) order
   pub first : (k : ℕ) (d : Item) (parent : Item) → k < length order
       → Contains links (record { child = slice_index_or order k d; parent = parent })
-          → Contains (take k order) parent
+      → Contains (take k order) parent
 
 -- of each item the rows before its next one lead to what is done, or stand on a later line
 abbrev pub HavePassed : ℕ → List ℕ → List EdgeRow → ℕ → List Mark → List ℕ → Type 0
@@ -47,7 +47,7 @@ HavePassed items starts rows line marks next =
     (n : ℕ) → n < items
     → (slice_index starts n ≤ slice_index next n) × (slice_index next n ≤ slice_index starts (n + 1))
     × ((k : ℕ) (d : EdgeRow) → slice_index starts n ≤ k → k < slice_index next n
-        → (slice_index_or rows k d).line ≤ line
+    → (slice_index_or rows k d).line ≤ line
     → IsMarked marks (slice_index_or rows k d).parent Done)
 
 abbrev pub is_new : Mark → Bool

@@ -160,8 +160,7 @@ impl Ancestors {
     fn gather_parent(&mut self, parent: Item, stamp: u32, room: usize) -> Result<bool, NoMemory>
         requires inside { parent.0 < length self.old.parts.items }
         requires seen { length self.old.seen.items ≡ length self.old.parts.items }
-        requires forward {
-            (part_at self.old.parts.items parent.0).from ≤ (part_at self.old.parts.items parent.0).to }
+        requires forward { (part_at self.old.parts.items parent.0).from ≤ (part_at self.old.parts.items parent.0).to }
         requires end { (part_at self.old.parts.items parent.0).to ≤ length self.old.lists.items }
         requires within { All (λ w. w.0 < length self.old.seen.items)
             (list_in self.old.parts.items self.old.lists.items parent.0) }

@@ -83,7 +83,7 @@ pub fn read<F: Files>(
     ensures refused { (fault : HierarchyFault) → result ≡ Err fault
         → fault ≢ HierarchyFault.ReadFault → fault ≢ HierarchyFault.NoMemory
         → IfSome (F.holds files.old name.now)
-            (λ bytes. IsReadRefusal names.old bytes (fault_of_hierarchy fault)) }
+        (λ bytes. IsReadRefusal names.old bytes (fault_of_hierarchy fault)) }
     ensures failed { result ≡ Err HierarchyFault.ReadFault → Rose (F.faults files.old) (F.faults files.new) }
     ensures kept { (added : List (List ℕ)) × (names.new ≡ names.old ++ added) }
 

@@ -111,7 +111,7 @@ impl Walk {
     ) -> Result<bool, NoMemory>
         requires walks { Walks (length self.old.marks.items) starts.now rows.now line
             self.old.marks.items self.old.next.items (self.old.open_items.items ++ top
-                ∷ []) self.old.order.items }
+            ∷ []) self.old.order.items }
         ensures walks { IfOk result (λ on. IsTrue on
             → Walks (length self.old.marks.items) starts.now rows.now line
             self.new.marks.items self.new.next.items self.new.open_items.items self.new.order.items) }

@@ -12,8 +12,8 @@ use mine_model::{Item, NamesFault};
 use text_ports::Span;
 
 impl Names {
-    /// Leaves the items that the fields of a line name. A new name gets the next number. After a refusal the names
-    /// that were met so far are held as well.
+    /// Leaves the items that the fields of a line name. A new name gets the next number. After a refusal the
+    /// names that were met so far are held as well.
     pub fn intern_fields(
         &mut self,
         text: &[u8],

@@ -12,8 +12,8 @@ const MOST_WHOLE: usize = 16;
 /// A number with many ones, spread over the word.
 const MULTIPLIER: u64 = 0x9e37_79b9_7f4a_7c15;
 
-/// The bytes of a name of up to 16 bytes, the first 8 and the others, or the hash of a longer one. `size` is the
-/// number of bytes, or 17.
+/// The bytes of a name of up to 16 bytes, the first 8 and the others, or the hash of a longer one. `size` is
+/// the number of bytes, or 17.
 #[derive(Clone, Copy, Debug)]
 pub(crate) struct Key {
     pub(crate) low: u64,

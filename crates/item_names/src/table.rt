@@ -14,8 +14,8 @@ use std::alloc::Global;
 /// The fewest slots of a table that has any.
 const FEWEST_SLOTS: usize = 16;
 
-/// A place of the table. `held` is the number of a name, counted from 1, and 0 where the slot is free. The other
-/// fields are the key of the name.
+/// A place of the table. `held` is the number of a name, counted from 1, and 0 where the slot is free. The
+/// other fields are the key of the name.
 #[derive(Clone, Copy, Debug)]
 pub(crate) struct Slot {
     low: u64,

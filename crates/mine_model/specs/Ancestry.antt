@@ -53,7 +53,7 @@ abbrev pub links_from_number : ℕ → ℕ → List ℕ → List Item → List (
 links_from_number number start [] lists = []
 links_from_number number start (end ∷ ends) lists =
     links_from_item (item_at number) (slice_range lists start end)
-        ++ links_from_number (number + 1) end ends lists
+    ++ links_from_number (number + 1) end ends lists
 
 abbrev pub ancestry_of : List ℕ → List Item → Ancestry
 ancestry_of ends lists = record { items = length ends; links = links_from_number 0 0 ends lists }

@@ -20,7 +20,7 @@ HasName names item = item.0 < length names
 abbrev pub AreDistinct : List (List ℕ) → Type 0
 AreDistinct names =
     (i j : ℕ) → i < length names → j < length names → slice_index_or names i [] ≡ slice_index_or names j []
-        → i ≡ j
+    → i ≡ j
 
 abbrev pub link_by : {A B : Type 0} → (A → B) → Link A → Link B
 link_by f link = record { child = f link.child; parent = f link.parent }

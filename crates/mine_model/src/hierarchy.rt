@@ -28,7 +28,7 @@ impl Model for Hierarchy {
 
     ghost invariant = { λ h. AreAncestorLists h.ends.items h.lists.items
         × (length h.ends.items ≤ most_ancestors)
-            × (length h.lists.items ≤ most_ancestors + length h.ends.items) };
+        × (length h.lists.items ≤ most_ancestors + length h.ends.items) };
 }
 
 impl Hierarchy {

@@ -11,7 +11,7 @@ unfolding joined words_of
 words_of-joined [] fit = refl
 words_of-joined (word ∷ words) fit =
     rw (mod-mul-add (joined words) (2 ^ 64) word (fit 0), div-mul-add (joined words) (2 ^ 64) word (fit 0))
-        (ap (λ ws. word ∷ ws) (words_of-joined words (λ k. fit (suc k))))
+    (ap (λ ws. word ∷ ws) (words_of-joined words (λ k. fit (suc k))))
 
 -- for words of a set
 pub words_of_set : (width : ℕ) (words : List ℕ) → AreWords width words → words_of width (joined words) ≡ words

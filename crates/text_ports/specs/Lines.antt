@@ -49,7 +49,7 @@ pub record StoppedAt {V : Type 0} (took : V → ℕ → List ℕ → V → Type 
 -- the visitor refused a sound line and took those before it
 pub record Refused {V X : Type 0} (took : V → ℕ → List ℕ → V → Type 0)
     (refused : V → ℕ → List ℕ → X → V → Type 0) (lines : List (List ℕ)) (before after : V)
-        (fault : X) : Type 0 where
+    (fault : X) : Type 0 where
   pub earlier : List (List ℕ)
   pub text : List ℕ
   pub later : List (List ℕ)

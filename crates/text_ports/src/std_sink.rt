@@ -177,8 +177,11 @@ mod tests {
 
     #[test]
     fn an_interrupted_call_is_made_again(rt: HostRuntime) {
-        let table: [(u32, u32, Result<usize, Failed>); 3] =
-            [(63, 63, Ok(1)), (64, 0, Err(Failed)), (0, 64, Err(Failed))];
+        let table: [(u32, u32, Result<usize, Failed>); 3] = [
+            (63, 63, Ok(1)),
+            (64, 0, Err(Failed)),
+            (0, 64, Err(Failed)),
+        ];
         for (writes, flushes, outcome) in table {
             let mut sink = StdSink::new(Interrupted { writes, flushes });
             assert_eq!(rt; sink.write(b"x"), outcome);

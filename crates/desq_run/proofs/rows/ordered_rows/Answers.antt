@@ -20,7 +20,7 @@ returns-clause-rows g c =
     let same = rw c.as_mut_slice.ensures.value at c.order.ensures.same_rows in
     let compiled = rw c.new-job.ensures at c.in_ok-rows.ensures.frequent in
     let frequent : AreFrequent (record { links = c.args.hierarchy.links; sequences = c.args.db; expression = tree_of c.args.expression.now; threshold = c.args.support })
-        c.in_ok-rows.rows.items =
+    c.in_ok-rows.rows.items =
     subst (λ tree. AreFrequent (record { links = c.args.hierarchy.links; sequences = c.args.db; expression = tree; threshold = c.args.support }) c.in_ok-rows.rows.items)
     c.in_ok-fst.ensures.expression compiled in
     rw back

@@ -44,8 +44,7 @@ returns-then-not-is_captured-clause-silent c =
 pub returns-then-not-is_captured-clause-found : goal.returns-then-not-is_captured-clause-found
 returns-then-not-is_captured-clause-found c rank =
     let there = the_label (goal.at.returns-then-not-is_captured-clause-found c).After-is_captured in
-    let label : slice_get c.args.job.now.machine.labels (c.args.k - 1) ≡ Some (record { leaf = c.leaf-leaf.result; captured = false }) = rw c.if-not-is_captured.true at there in
-    (
+    let label : slice_get c.args.job.now.machine.labels (c.args.k - 1) ≡ Some (record { leaf = c.leaf-leaf.result; captured = false }) = rw c.if-not-is_captured.true at there in (
       (λ held. absurd (Contains-none rank (subst (λ (xs : List ℕ). Contains xs rank) c.clear.ensures.items held))),
       (λ writes. absurd (silent_writes c.args.job.now c.args.bound c.args.t c.args.k c.leaf-leaf.result label rank writes)),
     )

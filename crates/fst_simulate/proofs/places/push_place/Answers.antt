@@ -42,7 +42,7 @@ returns-clause-place c = (
   c.in_ok-kind.kind,
   c.in_ok-push.ensures.items,
   HasKind-grow c.args.job.now c.args.bound c.kind_of.new.tables.classes c.step.new.self.classes c.kind_of.new.kinds c.kind_of.new.kinds c.args.t c.in_ok-kind.kind
-  c.in_ok-kind.ensures.kind c.step.ensures.grows.classes (KindsGrow-nothing c.kind_of.new.kinds),
+      c.in_ok-kind.ensures.kind c.step.ensures.grows.classes (KindsGrow-nothing c.kind_of.new.kinds),
 )
 
 pub returns-clause-triple : goal.returns-clause-triple
@@ -65,6 +65,6 @@ returns-clause-triple c rest has =
       before,
       found_before,
       IsTripleOf-step c.args.job.now c.support-support.ensures.whole c.args.bound c.step.new.self table c.args.t rest class after before
-      (subst (IsClassFor c.args.job.now c.args.bound c.args.t) (sym same_class) is_class)
-      (subst (IsTripleOf c.args.job.now c.args.bound rest) (sym same_after) is) step,
+          (subst (IsClassFor c.args.job.now c.args.bound c.args.t) (sym same_class) is_class)
+          (subst (IsTripleOf c.args.job.now c.args.bound rest) (sym same_after) is) step,
     )

@@ -20,7 +20,6 @@ module _ (g : Over) where
       subst (λ (v : TableValue). c.args.after < length v.triples) (sym c.self.view_is) c.requires.after in
       map_at (triple_sets {W = g.row.W}) c.self.inside.triples.keys c.as_slice-3.result.now c.args.after c.index-as_slice-after.result inside c.as_slice-3.ensures.keys c.index-as_slice-after.is
 
-
 pub before-before-requires : goal.before-before-requires
 before-before-requires g c =
     let below : AreBelow (length c.self.inside.predecessors.items) (class_sets {W = g.row.W} c.index-as_slice-class.result) = c.self.invariant.below c.args.class (class_sets {W = g.row.W} c.index-as_slice-class.result) (class_there g c) in
@@ -52,7 +51,7 @@ module _ (g : Over) (c : In_ok-number g) where
         (rw grown (slice_get-grow _ more c.args.after _ triple_is)),
         c.in_ok-number.ensures.there,
         subst (λ (xs : List ℕ). IsStep xs (class_sets {W = g.row.W} c.index-as_slice-class.result) (triple_sets {W = g.row.W} c.index-as_slice-after.result)
-        (triple_sets {W = g.row.W} c.before-before.result)) c.as_slice.ensures.value c.before-before.ensures,
+            (triple_sets {W = g.row.W} c.before-before.result)) c.as_slice.ensures.value c.before-before.ensures,
       )
 
   kept_table : (kept : List ℕ) → slice_get (map (class_sets {W = g.row.W}) c.self.inside.classes.keys) c.args.class ≡ Some (class_sets {W = g.row.W} c.index-as_slice-class.result)
