@@ -1,5 +1,5 @@
 -- Frequencies and an order of the frequent items are the ranks.
-use Rattle.std.proofs.Common.{◌≡◌, ◌≢◌, ℕ, ◌≤◌, ◌<◌, ◌↔◌, inl, inr, List, length, get_or, refl, sym, ap, ◌∙◌, subst, arith}
+use Rattle.std.proofs.Common.{◌≡◌, ◌≢◌, ℕ, ◌≤◌, ◌<◌, ◌↔◌, inl, inr, List, length, get_or, ap, ◌∙◌, arith}
 use Rattle.std.specs.List.{All, AllByRecursion, AllPairs, Contains, slice_index}
 use Rattle.std.specs.Cmp.{tied_itself}
 use Rattle.std.specs.Cmp.Lexicographic.{slice_cmp}
@@ -10,7 +10,7 @@ use Rattle.mine_model.specs.declared.item.Item.{Item}
 use Rattle.mine_model.specs.Hierarchy.{Link}
 use Rattle.mine_model.specs.Names.{name_of}
 use Rattle.mine_model.specs.Support.{Sequence, HoldsUnder}
-use Rattle.mine_model.specs.Ranks.{IsFrequentItem, AreFrequencies, AreRanks, AreTiesByName}
+use Rattle.mine_model.specs.Ranks.{AreFrequencies, AreRanks, AreTiesByName}
 use Rattle.mine_model.proofs.SupportLemmas.{Counts-unique}
 use Rattle.mine_model.proofs.FrequencyLemmas.{HasFrequency-within}
 use Rattle.frequency_list.specs.Order.{ComesBefore}
@@ -48,11 +48,11 @@ module _ (frequencies : List ℕ) (names : List (List ℕ)) where
     AreRanks-sorted links sequences support ends within least are frequent = record {
       exact = are;
       frequent = λ w. (
-          (λ held. let both = (frequent w).0 held in record { frequency = slice_index frequencies w.0; exact = are w both.0; enough = both.1 }),
-          (λ is.
-          let below : w.0 < length frequencies = HasFrequency-within links (length frequencies) ends sequences w is.frequency within is.exact (omega (arith, least, is.enough)) in
-          let same : is.frequency ≡ slice_index frequencies w.0 = Counts-unique (HoldsUnder links w) sequences is.frequency (slice_index frequencies w.0) is.exact (are w below) in
-          (frequent w).1 (below, omega (arith, same, is.enough))),
+        (λ held. let both = (frequent w).0 held in record { frequency = slice_index frequencies w.0; exact = are w both.0; enough = both.1 }),
+        (λ is.
+            let below : w.0 < length frequencies = HasFrequency-within links (length frequencies) ends sequences w is.frequency within is.exact (omega (arith, least, is.enough)) in
+            let same : is.frequency ≡ slice_index frequencies w.0 = Counts-unique (HoldsUnder links w) sequences is.frequency (slice_index frequencies w.0) is.exact (are w below) in
+            (frequent w).1 (below, omega (arith, same, is.enough))),
       );
       once = order_apart;
       falling = λ i j d less within. comes_falling (get_or order i d) (get_or order j d) (sorted i j d less within);

@@ -131,14 +131,34 @@ const RUNNING: [(u64, &[Item]); 5] = [
 fn ranks_by_frequency_and_name(rt: HostRuntime) -> Result<(), Fail> {
     let alloc = rt.alloc();
     let rows: [(&[&str; 11], Lines, u32, &str); 8] = [
-        (&WORDS, &RUNNING, 2, "b A a1 d c | A 4 a1 3 a2 1 b 5 c 2 d 3 e 1"),
+        (
+            &WORDS,
+            &RUNNING,
+            2,
+            "b A a1 d c | A 4 a1 3 a2 1 b 5 c 2 d 3 e 1",
+        ),
         (&WORDS, &RUNNING, 5, "b | A 4 a1 3 a2 1 b 5 c 2 d 3 e 1"),
         (&WORDS, &RUNNING, 6, "| A 4 a1 3 a2 1 b 5 c 2 d 3 e 1"),
         (&WORDS, &[], 1, "|"),
         (&WORDS, &[(1, &[])], 1, "|"),
-        (&WORDS, &[(2, &[X]), (1, &[X, P, X])], 3, "P Q R x | R 3 P 3 Q 3 x 3"),
-        (&PREFIXES, &[(1, &[B, C, D, E])], 1, "a aa ab b | ab 1 a 1 b 1 aa 1"),
-        (&WORDS, &[(1_000_000_000, &[C]), (7, &[]), (2, &[B, C])], 3, "c | b 2 c 1000000002"),
+        (
+            &WORDS,
+            &[(2, &[X]), (1, &[X, P, X])],
+            3,
+            "P Q R x | R 3 P 3 Q 3 x 3",
+        ),
+        (
+            &PREFIXES,
+            &[(1, &[B, C, D, E])],
+            1,
+            "a aa ab b | ab 1 a 1 b 1 aa 1",
+        ),
+        (
+            &WORDS,
+            &[(1_000_000_000, &[C]), (7, &[]), (2, &[B, C])],
+            3,
+            "c | b 2 c 1000000002",
+        ),
     ];
     for (words, lines, support, expected) in rows {
         let text = counted(&rt, alloc, words, lines, 1, support.max(1))?;
