@@ -1,6 +1,6 @@
 -- What is counted in pieces is what is counted in all.
-use Rattle.std.proofs.Common.{◌≡◌, ℕ, zero, suc, ◌+◌, ◌-◌, ◌*◌, ◌/◌, ◌%◌, ◌^◌, ◌≤◌, ◌<◌, min, inl, inr, List, [], ◌∷◌, ◌++◌, Result, Ok, Err, IfOk, length, map, take, drop, get_or, refl, sym, ap, ◌∙◌, subst, arith}
-use Rattle.std.specs.List.{All, AllZip, Contains, slice_index, slice_range, range_with_len, sum_by}
+use Rattle.std.proofs.Common.{◌≡◌, ℕ, zero, suc, ◌+◌, ◌-◌, ◌*◌, ◌/◌, ◌%◌, ◌≤◌, ◌<◌, inl, inr, List, [], ◌∷◌, ◌++◌, Result, Ok, Err, IfOk, length, map, take, refl, sym, ap, ◌∙◌, subst, arith}
+use Rattle.std.specs.List.{All, AllZip, Contains, slice_index, range_with_len, sum_by}
 use Rattle.std.specs.Global.{Vec}
 use Rattle.std.specs.Result.{MatchResult}
 use Rattle.std.proofs.Math.Seq.{take-add}
@@ -13,8 +13,7 @@ use Rattle.mine_model.specs.declared.memory.NoMemory.{NoMemory}
 use Rattle.mine_model.specs.Ancestry.{Ancestry, item_at}
 use Rattle.mine_model.specs.Limits.{most_sequences, most_weight}
 use Rattle.mine_model.specs.Database.{IsWithinLimits}
-use Rattle.mine_model.specs.Support.{Sequence, Counts, HoldsUnder, HasFrequency}
-use Rattle.mine_model.specs.Ranks.{AreFrequencies}
+use Rattle.mine_model.specs.Support.{Sequence, HoldsUnder, HasFrequency}
 use Rattle.mine_model.proofs.FrequencyLemmas.{Counts-append}
 use Rattle.frequency_list.specs.Tallies.{IsTally, place, piece_of, AreTallies}
 use Rattle.frequency_list.proofs.SequenceLemmas.{HasFrequency-most}

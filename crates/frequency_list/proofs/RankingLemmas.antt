@@ -1,5 +1,5 @@
 -- Frequencies and an order of the frequent items are the ranks.
-use Rattle.std.proofs.Common.{◌≡◌, ◌≢◌, ℕ, ◌≤◌, ◌<◌, ◌↔◌, inl, inr, List, length, get_or, refl, sym, ap, ◌∙◌, subst, arith}
+use Rattle.std.proofs.Common.{◌≡◌, ◌≢◌, ℕ, ◌≤◌, ◌<◌, ◌↔◌, inl, inr, List, length, get_or, ap, ◌∙◌, arith}
 use Rattle.std.specs.List.{All, AllByRecursion, AllPairs, Contains, slice_index}
 use Rattle.std.specs.Cmp.{tied_itself}
 use Rattle.std.specs.Cmp.Lexicographic.{slice_cmp}
@@ -10,7 +10,7 @@ use Rattle.mine_model.specs.declared.item.Item.{Item}
 use Rattle.mine_model.specs.Hierarchy.{Link}
 use Rattle.mine_model.specs.Names.{name_of}
 use Rattle.mine_model.specs.Support.{Sequence, HoldsUnder}
-use Rattle.mine_model.specs.Ranks.{IsFrequentItem, AreFrequencies, AreRanks, AreTiesByName}
+use Rattle.mine_model.specs.Ranks.{AreFrequencies, AreRanks, AreTiesByName}
 use Rattle.mine_model.proofs.SupportLemmas.{Counts-unique}
 use Rattle.mine_model.proofs.FrequencyLemmas.{HasFrequency-within}
 use Rattle.frequency_list.specs.Order.{ComesBefore}

@@ -1,5 +1,5 @@
 -- Frequencies among a growing part of the sequences.
-use Rattle.std.proofs.Common.{◌≡◌, ℕ, ◌+◌, ◌-◌, ◌*◌, ◌^◌, ◌≤◌, ◌<◌, inl, inr, List, [], ◌∷◌, ◌++◌, length, get_or, take, drop, refl, sym, ap, ◌∙◌, subst, arith, length-take, length-drop}
+use Rattle.std.proofs.Common.{◌≡◌, ℕ, ◌+◌, ◌-◌, ◌*◌, ◌≤◌, ◌<◌, inl, inr, List, [], ◌∷◌, ◌++◌, length, get_or, take, drop, refl, sym, ap, ◌∙◌, subst, arith, length-take, length-drop}
 use Rattle.std.specs.List.{All, AllByRecursion, slice_index, slice_range}
 use Rattle.std.proofs.lemmas.List.{take_more, get_or-drop, get_or_past}
 use Rattle.std.proofs.lemmas.List.Elements.{All-take, All-drop, All-from_recursion}

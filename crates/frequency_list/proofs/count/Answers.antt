@@ -1,11 +1,9 @@
-use Rattle.std.proofs.Common.{◌≡◌, ℕ, ◌≤◌, ◌<◌, ◌↔◌, List, length, get_or, sym, ap, ◌∙◌, subst, arith}
+use Rattle.std.proofs.Common.{◌≡◌, ℕ, ◌≤◌, ◌<◌, ◌↔◌, List, length, get_or, sym, ap, subst, arith}
 use Rattle.std.specs.List.{All, AllByRecursion, AllPairs, Contains, slice_index}
 use Rattle.std.proofs.lemmas.List.Elements.{Contains-get_or}
 use Rattle.std.proofs.lemmas.Result.{IfOk-weaker}
 use Rattle.mine_model.specs.declared.item.Item.{Item}
-use Rattle.mine_model.specs.Hierarchy.{Link}
-use Rattle.mine_model.specs.Support.{Sequence}
-use Rattle.mine_model.specs.Ranks.{Ranking, AreRanks, AreTiesByName}
+use Rattle.mine_model.specs.Ranks.{AreRanks, AreTiesByName}
 use Rattle.frequency_list.specs.Order.{ComesBefore}
 use Rattle.frequency_list.proofs.RankingLemmas.{order_apart, AreRanks-sorted, AreTiesByName-sorted}
 use Rattle.frequency_list.proofs.count.Goals as goal

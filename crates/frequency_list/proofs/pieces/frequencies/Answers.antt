@@ -1,9 +1,9 @@
-use Rattle.std.proofs.Common.{◌≡◌, ℕ, ◌+◌, ◌*◌, ◌/◌, ◌≤◌, ◌<◌, List, Result, Ok, Err, IfOk, length, min, sym, ap, ◌∙◌, subst, arith}
+use Rattle.std.proofs.Common.{◌≡◌, ℕ, ◌+◌, ◌*◌, ◌/◌, ◌≤◌, List, Result, Ok, Err, IfOk, length, sym, ap, ◌∙◌, subst, arith}
 use Rattle.std.specs.List.{All, slice_index}
 use Rattle.std.specs.Global.{Vec}
 use Rattle.mine_model.specs.Limits.{most_sequences, most_weight}
-use Rattle.frequency_list.specs.Tallies.{IsTally, AreTallies}
-use Rattle.frequency_list.proofs.PieceLemmas.{sum_at, AreTallies-sum, AreTallies-whole, AreTallies-room, IsTally-total, pieces-reach}
+use Rattle.frequency_list.specs.Tallies.{IsTally}
+use Rattle.frequency_list.proofs.PieceLemmas.{sum_at, AreTallies-whole, AreTallies-room, IsTally-total, pieces-reach}
 use Rattle.frequency_list.proofs.pieces.frequencies.Goals as goal
 
 -- what two facts of an answer say together

@@ -1,4 +1,4 @@
-use Rattle.std.proofs.Common.{◌≡◌, ℕ, ◌≤◌, ◌<◌, ◌↔◌}
+use Rattle.std.proofs.Common.{◌≤◌, ◌<◌, ◌↔◌}
 use Rattle.std.specs.List.{slice_index, AllPairs, Contains}
 use Rattle.mine_model.specs.declared.item.Item.{Item}
 use Rattle.frequency_list.proofs.ranking.frequent.Given as goal

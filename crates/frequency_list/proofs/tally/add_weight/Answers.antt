@@ -1,7 +1,5 @@
-use Rattle.std.proofs.Common.{◌≡◌, ◌≤◌, ◌<◌, ℕ, ◌+◌, List, length, get_or, set, take, subst, sym, ap, ◌∙◌, arith, refl, inl, inr, get_or-set_same, get_or-set_other}
-use Rattle.std.specs.List.{slice_index}
+use Rattle.std.proofs.Common.{◌≡◌, ◌<◌, length, get_or, subst, ◌∙◌, arith}
 use Rattle.std.proofs.lemmas.List.{take_all, get_or_default}
-use Rattle.std.proofs.lemmas.Bool.{cases_eq}
 use Rattle.mine_model.specs.declared.item.Item.{Item}
 use Rattle.mine_model.specs.Ancestry.{item_at}
 use Rattle.frequency_list.proofs.TallyLemmas.{AreStampedBy, owned-more, stamped-already, stamped-more, others-more}

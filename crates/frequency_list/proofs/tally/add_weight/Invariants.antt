@@ -1,4 +1,4 @@
-use Rattle.std.proofs.Common.{◌≡◌, ℕ, ◌⊎◌, length, take}
+use Rattle.std.proofs.Common.{◌≡◌, ℕ, ◌⊎◌, take}
 use Rattle.std.specs.List.{slice_index}
 use Rattle.frequency_list.specs.Tallies.{owned}
 use Rattle.frequency_list.proofs.TallyLemmas.{AreStampedBy}

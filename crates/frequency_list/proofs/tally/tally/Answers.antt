@@ -1,12 +1,11 @@
-use Rattle.std.proofs.Common.{◌≡◌, ◌≤◌, ◌<◌, ℕ, ◌+◌, ◌*◌, ◌++◌, List, length, take, drop, sym, ap, ◌∙◌, subst, arith}
+use Rattle.std.proofs.Common.{◌≡◌, ◌≤◌, ◌<◌, ℕ, ◌*◌, ◌++◌, List, length, take, drop, sym, ap, ◌∙◌, subst, arith}
 use Rattle.std.specs.List.{All, AllByRecursion, slice_index, slice_range}
 use Rattle.std.proofs.lemmas.List.{take_all, take-append-le}
 use Rattle.std.proofs.lemmas.List.Elements.{All-from_recursion}
 use Rattle.mine_model.specs.declared.item.Item.{Item}
 use Rattle.mine_model.specs.Limits.{most_sequences, most_weight}
 use Rattle.mine_model.specs.Database.{sequence_at}
-use Rattle.mine_model.specs.Support.{Sequence, HoldsUnder}
-use Rattle.frequency_list.specs.Tallies.{AddsWeight}
+use Rattle.mine_model.specs.Support.{Sequence}
 use Rattle.frequency_list.proofs.SequenceLemmas.{at_number, AreFrequencies-more, AreFrequencies-room, part-limits, part-few}
 use Rattle.frequency_list.proofs.tally.tally.Goals as goal
 
