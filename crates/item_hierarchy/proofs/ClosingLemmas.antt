@@ -1,6 +1,6 @@
 -- From gathered lists to a hierarchy, and why there may be none.
-use Rattle.std.proofs.Common.{◌≡◌, ◌≢◌, ℕ, ◌+◌, ◌≤◌, ◌<◌, ◌⊎◌, ◌↔◌, inl, inr, List, [], ◌∷◌, ◌++◌, map, length, get_or, refl, sym, ap, ◌∙◌, subst, arith, Result, Ok, Err}
-use Rattle.std.specs.List.{All, AllPairs, Contains, slice_index}
+use Rattle.std.proofs.Common.{◌≡◌, ◌≢◌, ℕ, ◌+◌, ◌≤◌, ◌<◌, ◌↔◌, inl, inr, List, [], ◌∷◌, ◌++◌, map, length, get_or, refl, sym, ap, ◌∙◌, subst, arith, Result, Ok, Err}
+use Rattle.std.specs.List.{All, AllPairs, Contains}
 use Rattle.std.specs.List.Sorted.{IsPermutation}
 use Rattle.std.specs.Result.{IfErr}
 use Rattle.std.proofs.lemmas.List.{get_or_default, length_push, length-append, length-map}
@@ -11,7 +11,7 @@ use Rattle.mine_model.specs.declared.item.Item.{Item}
 use Rattle.mine_model.specs.declared.hierarchy_fault.CloseFault.{CloseFault}
 use Rattle.mine_model.specs.declared.hierarchy_fault.CloseFault.TheVariants.{Cycle, TooManyAncestors, NoMemory}
 use Rattle.mine_model.specs.Limits.{most_ancestors}
-use Rattle.mine_model.specs.Hierarchy.{Link, IsWalk, IsAncestor, HasCycle, IsAcyclic, IsCycleLine, HasMoreAncestors}
+use Rattle.mine_model.specs.Hierarchy.{Link, IsWalk, IsAncestor, IsAcyclic, HasMoreAncestors}
 use Rattle.mine_model.specs.Ancestry.{Ancestry, item_at, AreCut, AreRising, list_at, Lists, AreAncestorLists}
 use Rattle.mine_model.proofs.ListLemmas.{Contains-by, Contains-from, AllPairs-append, apart_by_image}
 use Rattle.mine_model.proofs.NameLemmas.{distinct_fit}
@@ -19,9 +19,9 @@ use Rattle.mine_model.proofs.AncestryLemmas.{cut-more, list_at-old, list_at-new}
 use Rattle.mine_model.proofs.WalkLemmas.{IsAncestor-chain, IsAncestor-more, HasCycle-more, IsAcyclic-fewer, same_or_cycle}
 use Rattle.item_hierarchy.specs.declared.edges.EdgeRow.{EdgeRow}
 use Rattle.item_hierarchy.specs.declared.ancestors.Part.{Part}
-use Rattle.item_hierarchy.specs.Edges.{link_of, links_of, placed_of, AreWithin, IsCloseRefusal, Closes}
+use Rattle.item_hierarchy.specs.Edges.{link_of, links_of, AreWithin, IsCloseRefusal, Closes}
 use Rattle.item_hierarchy.specs.Walking.{links_upto, IsParentsFirst}
-use Rattle.item_hierarchy.specs.Gathering.{part_at, list_in, IsGathered, ArePairs, AreGathered, IsPart, AreFew}
+use Rattle.item_hierarchy.specs.Gathering.{list_in, IsGathered, AreGathered, IsPart, AreFew}
 use Rattle.item_hierarchy.proofs.WalkingLemmas.{linked_upto, upto_linked, no_cycle}
 use Rattle.item_hierarchy.proofs.GatheringLemmas.{rising_apart, ancestor_within}
 

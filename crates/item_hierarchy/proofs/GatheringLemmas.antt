@@ -1,10 +1,10 @@
 -- Gathering the ancestors of items from the lists of their parents.
-use Rattle.std.proofs.Common.{◌≡◌, ◌≢◌, ℕ, zero, suc, ◌+◌, ◌-◌, ◌≤◌, ◌<◌, ◌⊎◌, ◌↔◌, ◌==◌, inl, inr, List, [], ◌∷◌, ◌++◌, map, length, get_or, set, take, drop, refl, sym, ap, ◌∙◌, subst, arith, add-one, Result, Ok, Err}
+use Rattle.std.proofs.Common.{◌≡◌, ◌≢◌, ℕ, zero, suc, ◌+◌, ◌-◌, ◌≤◌, ◌<◌, ◌⊎◌, ◌↔◌, ◌==◌, inl, inr, List, [], ◌∷◌, ◌++◌, map, length, get_or, set, take, refl, sym, ap, ◌∙◌, subst, arith, add-one, Result, Ok, Err}
 use Rattle.std.specs.List.{All, AllPairs, Contains, slice_index, slice_range}
 use Rattle.std.specs.List.Sorted.{IsPermutation}
 use Rattle.std.specs.Result.{IfOk}
-use Rattle.std.proofs.lemmas.List.{get_or_default, length_push, length-set, get_or-set_same, get_or-set_other, length-append, length-map, length-drop, length-take, get_or-take, take_all, drop_at}
-use Rattle.std.proofs.lemmas.List.Elements.{Contains-get_or, Contains-append_left, Contains-append_right, Contains-append_cases, Contains-push, Contains-push_cases, All-push, All-append, All-contains, All-contains_itself}
+use Rattle.std.proofs.lemmas.List.{get_or_default, length_push, length-set, get_or-set_same, get_or-set_other, length-append, length-map, length-take, get_or-take, take_all, drop_at}
+use Rattle.std.proofs.lemmas.List.Elements.{Contains-get_or, Contains-append_left, Contains-append_right, Contains-push, Contains-push_cases, All-push, All-append, All-contains}
 use Rattle.std.proofs.lemmas.List.Quantifiers.{all_pairs_push}
 use Rattle.std.specs.Bool.{Decides}
 use Rattle.std.proofs.lemmas.Bool.{cases_lt, cases_eq}
@@ -22,7 +22,7 @@ use Rattle.item_hierarchy.specs.declared.edges.EdgeRow.{EdgeRow}
 use Rattle.item_hierarchy.specs.declared.ancestors.Part.{Part}
 use Rattle.item_hierarchy.specs.Edges.{link_of, links_of, AreWithin}
 use Rattle.item_hierarchy.specs.ByChild.{AreByChild}
-use Rattle.item_hierarchy.specs.Gathering.{AreStamped, AreFor, HoldsAncestors, part_at, list_in, IsGathered, ArePairs, AreGathered, Adds, Overflows}
+use Rattle.item_hierarchy.specs.Gathering.{AreStamped, AreFor, HoldsAncestors, part_at, list_in, IsGathered, AreGathered, Adds, Overflows}
 
 -- Stamps
 

@@ -1,14 +1,13 @@
 -- A walk over all items: what entering an item and leaving it keep.
-use Rattle.std.proofs.Common.{◌≡◌, ◌≢◌, ℕ, zero, suc, ◌+◌, ◌*◌, ◌-◌, ◌≤◌, ◌<◌, ◌⊎◌, inl, inr, Bool, true, false, cond, List, [], ◌∷◌, ◌++◌, map, filter, length, get_or, set, take, replicate, refl, sym, ap, ◌∙◌, subst, arith, add-one, add-zero, count_by, nat_le}
-use Rattle.std.specs.List.{All, AllPairs, Contains}
+use Rattle.std.proofs.Common.{◌≡◌, ◌≢◌, ℕ, zero, suc, ◌+◌, ◌-◌, ◌≤◌, ◌<◌, ◌⊎◌, inl, inr, true, cond, List, [], ◌∷◌, ◌++◌, filter, length, get_or, set, replicate, refl, sym, ap, ◌∙◌, subst, arith, add-zero, count_by, nat_le}
+use Rattle.std.specs.List.{All, Contains}
 use Rattle.std.proofs.lemmas.List.{get_or_append_left, get_or_push, get_or_default, length_push, length-set, get_or-set_same, get_or-set_other, take-append-le, take_at, get_or-replicate, length-replicate, length-take, get_or-take}
-use Rattle.std.proofs.lemmas.List.Elements.{Contains-get_or, Contains-append_left, Contains-push, Contains-push_cases, All-push, All-contains, at_from_Contains}
+use Rattle.std.proofs.lemmas.List.Elements.{Contains-get_or, Contains-append_left, Contains-push, Contains-push_cases, All-push, All-contains}
 use Rattle.std.proofs.lemmas.List.Quantifiers.{all_pairs_push}
 use Rattle.std.proofs.lemmas.List.Sums.{sum_by-set}
 use Rattle.std.proofs.lemmas.Bool.{cases_lt, cases_eq, leb-true, le-leb}
 use Rattle.mine_model.specs.declared.item.Item.{Item}
 use Rattle.mine_model.specs.Hierarchy.{Link, PlacedLink, IsWalk, IsAncestor, HasCycle, IsAcyclic}
-use Rattle.mine_model.specs.Ancestry.{item_at}
 use Rattle.mine_model.proofs.ListLemmas.{Contains-none, Contains-by, Contains-from, Contains-filter, filter-Contains}
 use Rattle.mine_model.proofs.AncestryLemmas.{Item-same}
 use Rattle.mine_model.proofs.WalkLemmas.{IsWalk-join}

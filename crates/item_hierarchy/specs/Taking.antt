@@ -5,7 +5,7 @@ use Rattle.mine_model.specs.declared.hierarchy_fault.HierarchyFault.{HierarchyFa
 use Rattle.mine_model.specs.declared.hierarchy_fault.HierarchyFault.TheVariants.{ReadFault, TooLarge, BadByte, NameTooLong, TooManyItems, NoMemory}
 use Rattle.mine_model.specs.Limits.{most_items}
 use Rattle.mine_model.specs.Text.{fields_of, IsSoundLine}
-use Rattle.mine_model.specs.Names.{name_of, GrowBy}
+use Rattle.mine_model.specs.Names.{GrowBy}
 use Rattle.mine_model.specs.Refusal.{HasMoreNames, names_of, links_of_line, placed_links_of}
 use Rattle.item_hierarchy.specs.declared.edges.EdgeRow.{EdgeRow}
 use Rattle.item_hierarchy.specs.declared.reading.Reading.{Reading}

@@ -1,14 +1,10 @@
-use Rattle.std.proofs.Common.{◌≡◌, ◌≢◌, ◌⊎◌, ◌≤◌, ◌<◌, ℕ, ◌+◌, List, [], ◌∷◌, ◌++◌, length, get_or, take, replicate, inl, inr, refl, sym, ap, ◌∙◌, subst, arith}
-use Rattle.std.specs.List.{All, AllPairs, Contains, slice_index}
-use Rattle.std.proofs.lemmas.List.{take_more, take_all, get_or_past, get_or-replicate}
+use Rattle.std.proofs.Common.{◌≡◌, ◌<◌, ◌+◌, [], ◌∷◌, ◌++◌, get_or, take, ◌∙◌}
+use Rattle.std.proofs.lemmas.List.{take_more}
 use Rattle.std.proofs.lemmas.List.Elements.{All-contains, All-take}
-use Rattle.std.proofs.lemmas.Bool.{cases_lt}
 use Rattle.mine_model.specs.declared.item.Item.{Item}
-use Rattle.mine_model.specs.Hierarchy.{HasMoreAncestors}
-use Rattle.mine_model.specs.Limits.{most_ancestors}
 use Rattle.item_hierarchy.specs.Edges.{links_of}
-use Rattle.item_hierarchy.specs.Gathering.{AreFor, IsGathered, AreGathered}
-use Rattle.item_hierarchy.proofs.GatheringLemmas.{gathered-more, gathered-none, overflow, not_before, stamps-more, stamps-new}
+use Rattle.item_hierarchy.specs.Gathering.{IsGathered}
+use Rattle.item_hierarchy.proofs.GatheringLemmas.{gathered-more, overflow, not_before, stamps-more, stamps-new}
 use Rattle.item_hierarchy.proofs.ancestors.ancestors_of.Goals as goal
 
 abbrev zero_item : Item

@@ -1,6 +1,4 @@
-use Rattle.std.proofs.Common.{◌≡◌, ℕ, ◌+◌, ◌≤◌, ◌⊎◌, length, take}
-use Rattle.std.specs.List.{Contains, slice_index}
-use Rattle.mine_model.specs.declared.item.Item.{Item}
+use Rattle.std.proofs.Common.{◌≡◌, ◌≤◌, length, take}
 use Rattle.mine_model.specs.Limits.{most_ancestors}
 use Rattle.item_hierarchy.specs.Edges.{links_of}
 use Rattle.item_hierarchy.specs.Gathering.{AreGathered, AreFor}

@@ -1,5 +1,5 @@
-use Rattle.std.proofs.Common.{◌≡◌, refl, arith}
-use Rattle.item_hierarchy.proofs.GatheringLemmas.{rising_from_adjacent, adds}
+use Rattle.std.proofs.Common.{refl, arith}
+use Rattle.item_hierarchy.proofs.GatheringLemmas.{rising_from_adjacent}
 use Rattle.item_hierarchy.proofs.ancestors.is_rising.Goals as goal
 
 pub returns : goal.returns

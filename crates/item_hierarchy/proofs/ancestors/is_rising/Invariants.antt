@@ -1,4 +1,4 @@
-use Rattle.std.proofs.Common.{ℕ, ◌+◌, ◌≤◌, ◌<◌, get_or}
+use Rattle.std.proofs.Common.{ℕ, ◌+◌, ◌<◌, get_or}
 use Rattle.mine_model.specs.declared.item.Item.{Item}
 use Rattle.item_hierarchy.proofs.ancestors.is_rising.Given as goal
 

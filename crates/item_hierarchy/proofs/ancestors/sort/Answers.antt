@@ -1,4 +1,4 @@
-use Rattle.std.proofs.Common.{◌≡◌, rules}
+use Rattle.std.proofs.Common.{rules}
 use Rattle.std.proofs.lemmas.List.Sorted.{IsNonDecreasingBy-from_sort_by_key}
 use Rattle.mine_model.specs.declared.item.Item.{Item}
 use Rattle.item_hierarchy.proofs.GatheringLemmas.{apart_by_permutation, rising_from_sorted}

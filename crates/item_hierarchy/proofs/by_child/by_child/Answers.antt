@@ -1,9 +1,6 @@
 use Rattle.std.proofs.Common.{◌<◌, rules}
 use Rattle.std.proofs.lemmas.List.Sorted.{IsNonDecreasingBy-from_sort_by_key, All-permutation}
-use Rattle.mine_model.specs.declared.item.Item.{Item}
 use Rattle.item_hierarchy.specs.declared.edges.EdgeRow.{EdgeRow}
-use Rattle.item_hierarchy.specs.ByChild.{AreSorted}
-use Rattle.item_hierarchy.specs.Edges.{AreWithin}
 use Rattle.item_hierarchy.proofs.by_child.by_child.Goals as goal
 
 pub starts_of-requires-clause-sorted : goal.starts_of-requires-clause-sorted

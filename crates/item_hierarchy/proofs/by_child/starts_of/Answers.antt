@@ -1,4 +1,4 @@
-use Rattle.std.proofs.Common.{◌≡◌, List, [], ◌∷◌, ◌++◌, length, get_or, refl, subst, arith}
+use Rattle.std.proofs.Common.{◌≡◌, [], ◌∷◌, ◌++◌, refl, subst, arith}
 use Rattle.std.proofs.lemmas.Slice.{pushed}
 use Rattle.item_hierarchy.proofs.ByChildLemmas.{AreBelow, more_below, all_below}
 use Rattle.item_hierarchy.proofs.by_child.starts_of.Goals as goal

@@ -1,9 +1,7 @@
-use Rattle.std.proofs.Common.{◌≡◌, ◌<◌, Result, Ok, Err, sym, subst}
+use Rattle.std.proofs.Common.{◌<◌, sym, subst}
 use Rattle.std.specs.List.Sorted.{IsPermutation}
-use Rattle.std.specs.Result.{IfOk, IfErr}
 use Rattle.std.proofs.lemmas.List.Sorted.{All-permutation}
 use Rattle.item_hierarchy.specs.declared.edges.EdgeRow.{EdgeRow}
-use Rattle.item_hierarchy.specs.Edges.{Closes, IsCloseRefusal}
 use Rattle.item_hierarchy.proofs.GatheringLemmas.{IfOk-weaker}
 use Rattle.item_hierarchy.proofs.ClosingLemmas.{closes_moved, refusal_moved, IfErr-weaker}
 use Rattle.item_hierarchy.proofs.closing.close.Goals as goal

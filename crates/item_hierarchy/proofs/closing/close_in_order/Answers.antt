@@ -1,8 +1,8 @@
-use Rattle.std.proofs.Common.{◌≡◌, ◌≤◌, ◌<◌, ℕ, length, sym, ap, ◌∙◌, subst, arith}
+use Rattle.std.proofs.Common.{◌≡◌, ◌≤◌, ◌<◌, ℕ, length, ap, ◌∙◌, arith}
 use Rattle.mine_model.specs.Limits.{most_ancestors}
-use Rattle.mine_model.specs.Ancestry.{AreCut, list_at}
+use Rattle.mine_model.specs.Ancestry.{list_at}
 use Rattle.item_hierarchy.specs.Edges.{links_of}
-use Rattle.item_hierarchy.specs.Gathering.{list_in, AreGathered, IsPart, AreFew}
+use Rattle.item_hierarchy.specs.Gathering.{list_in, AreGathered}
 use Rattle.item_hierarchy.proofs.ClosingLemmas.{parts_of_all, few_pairs, are_lists, closes}
 use Rattle.item_hierarchy.proofs.closing.close_in_order.Goals as goal
 use Rattle.item_hierarchy.proofs.closing.close_in_order.Goals.{In-Some, In_ok-ends-in-Some}

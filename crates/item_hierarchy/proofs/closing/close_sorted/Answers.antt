@@ -1,5 +1,3 @@
-use Rattle.std.proofs.Common.{◌≡◌, sym, subst}
-use Rattle.item_hierarchy.specs.Edges.{links_of}
 use Rattle.item_hierarchy.specs.Walking.{links_upto, IsParentsFirst}
 use Rattle.item_hierarchy.proofs.ClosingLemmas.{first_of_all, acyclic_all}
 use Rattle.item_hierarchy.proofs.closing.close_sorted.Goals as goal

@@ -1,5 +1,4 @@
-use Rattle.std.proofs.Common.{◌≡◌, ◌≤◌, ◌<◌, ℕ, ◌+◌, ◌-◌, ◌/◌, refl, sym, ap, subst, arith}
-use Rattle.mine_model.specs.Hierarchy.{HasCycle, IsAcyclic}
+use Rattle.std.proofs.Common.{ℕ, ◌+◌, ◌-◌, ◌/◌, arith}
 use Rattle.item_hierarchy.specs.Walking.{links_upto, IsParentsFirst}
 use Rattle.item_hierarchy.proofs.ClosingLemmas.{acyclic_before}
 use Rattle.item_hierarchy.proofs.closing.cycle_line.Goals as goal

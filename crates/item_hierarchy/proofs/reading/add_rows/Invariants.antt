@@ -1,5 +1,4 @@
 use Rattle.std.proofs.Common.{◌≡◌, ◌++◌, map, take}
-use Rattle.item_hierarchy.specs.declared.edges.EdgeRow.{EdgeRow}
 use Rattle.item_hierarchy.proofs.TakingLemmas.{row_of}
 use Rattle.item_hierarchy.proofs.reading.add_rows.Given as goal
 

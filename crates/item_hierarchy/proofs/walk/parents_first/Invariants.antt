@@ -1,4 +1,4 @@
-use Rattle.std.proofs.Common.{◌≡◌, ℕ, ◌<◌, [], length}
+use Rattle.std.proofs.Common.{◌≡◌, ◌<◌, [], length}
 use Rattle.mine_model.specs.declared.item.Item.{Item}
 use Rattle.item_hierarchy.specs.declared.walk.Mark.TheVariants.{New}
 use Rattle.item_hierarchy.specs.Walking.{IsMarked, Walks}

@@ -1,15 +1,14 @@
-use Rattle.std.proofs.Common.{◌≡◌, ◌≢◌, ◌⊎◌, ◌↔◌, ◌≤◌, ◌<◌, ℕ, ◌+◌, List, [], ◌∷◌, ◌++◌, length, get_or, inl, inr, refl, sym, ap, ◌∙◌, subst, arith, IsTrue}
-use Rattle.std.specs.List.{All, AllPairs, Contains}
+use Rattle.std.proofs.Common.{◌≡◌, ◌≢◌, ◌↔◌, ◌+◌, List, [], ◌∷◌, ◌++◌, length, inl, inr, sym, ap, ◌∙◌, subst, arith}
+use Rattle.std.specs.List.{Contains}
 use Rattle.std.proofs.lemmas.List.{length_push, length-append}
 use Rattle.std.proofs.lemmas.List.Elements.{Contains-get_or, Contains-push_cases}
 use Rattle.std.proofs.lemmas.List.Quantifiers.{all_pairs_push}
 use Rattle.std.proofs.lemmas.List.Sorted.{length_permutation, Contains-permutation, IsPermutation-sym}
 use Rattle.mine_model.specs.declared.item.Item.{Item}
-use Rattle.mine_model.specs.Limits.{most_ancestors}
 use Rattle.mine_model.specs.Hierarchy.{IsAncestor}
 use Rattle.mine_model.proofs.ListLemmas.{Contains-cases, Contains-none}
 use Rattle.item_hierarchy.specs.Edges.{links_of}
-use Rattle.item_hierarchy.specs.Gathering.{part_at, Adds}
+use Rattle.item_hierarchy.specs.Gathering.{part_at}
 use Rattle.item_hierarchy.proofs.GatheringLemmas.{adds}
 use Rattle.item_hierarchy.proofs.ancestors.Ancestors.add.Goals as goal
 

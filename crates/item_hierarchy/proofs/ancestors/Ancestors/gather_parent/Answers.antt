@@ -1,9 +1,8 @@
-use Rattle.std.proofs.Common.{◌≡◌, ◌⊎◌, ℕ, ap, ◌∙◌, subst, inr, IsTrue}
+use Rattle.std.proofs.Common.{◌≡◌, ◌⊎◌, ap, ◌∙◌, subst, inr, IsTrue}
 use Rattle.std.specs.List.{All, Contains, slice_range}
 use Rattle.std.specs.Result.{IfOk, OnOk}
 use Rattle.std.proofs.lemmas.List.{get_or_default}
 use Rattle.mine_model.specs.declared.item.Item.{Item}
-use Rattle.item_hierarchy.specs.declared.ancestors.Part.{Part}
 use Rattle.item_hierarchy.specs.Gathering.{part_at, list_in}
 use Rattle.item_hierarchy.proofs.GatheringLemmas.{IfOk-weaker}
 use Rattle.item_hierarchy.proofs.ancestors.Ancestors.gather_parent.Goals as goal

@@ -1,14 +1,14 @@
-use Rattle.std.proofs.Common.{◌≡◌, ◌≢◌, ◌⊎◌, ◌↔◌, ◌≤◌, ◌<◌, ℕ, ◌+◌, List, [], ◌∷◌, length, get_or, inl, inr, refl, sym, ap, ◌∙◌, subst, arith, IsTrue}
-use Rattle.std.specs.List.{All, Contains}
+use Rattle.std.proofs.Common.{◌≡◌, ◌↔◌, ◌<◌, ℕ, ◌+◌, List, [], ◌∷◌, length, get_or, inl, inr, refl, sym, ap, ◌∙◌, subst, arith}
+use Rattle.std.specs.List.{Contains}
 use Rattle.std.proofs.lemmas.List.{get_or_default}
 use Rattle.std.proofs.lemmas.Bool.{cases_lt}
 use Rattle.mine_model.specs.declared.item.Item.{Item}
-use Rattle.mine_model.specs.Hierarchy.{Link, IsAncestor}
+use Rattle.mine_model.specs.Hierarchy.{IsAncestor}
 use Rattle.mine_model.proofs.WalkLemmas.{IsAncestor-chain}
 use Rattle.item_hierarchy.specs.declared.edges.EdgeRow.{EdgeRow}
 use Rattle.item_hierarchy.specs.Edges.{links_of}
-use Rattle.item_hierarchy.specs.Gathering.{list_in, IsGathered, HoldsAncestors}
-use Rattle.item_hierarchy.proofs.GatheringLemmas.{row_is_link, list_within, holds-first, holds-more, parent_held, sound-more, holds-all, parents_of_rows}
+use Rattle.item_hierarchy.specs.Gathering.{list_in}
+use Rattle.item_hierarchy.proofs.GatheringLemmas.{row_is_link, list_within, holds-more, parent_held, sound-more, holds-all, parents_of_rows}
 use Rattle.item_hierarchy.proofs.ancestors.Ancestors.gather_parents.Goals as goal
 
 abbrev zero_row : EdgeRow

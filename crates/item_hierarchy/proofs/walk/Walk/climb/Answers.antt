@@ -1,6 +1,5 @@
-use Rattle.std.proofs.Common.{◌≡◌, [], ◌∷◌, ◌++◌, List, length, sym, ap, ◌∙◌, subst, arith, rules}
+use Rattle.std.proofs.Common.{◌≡◌, [], ◌∷◌, ◌++◌, length, sym, ap, ◌∙◌, subst, rules}
 use denote.Enum.Bare.{differs_false}
-use Rattle.mine_model.specs.declared.item.Item.{Item}
 use Rattle.item_hierarchy.specs.contracts.walk.Mark.{the_type}
 use Rattle.item_hierarchy.specs.declared.walk.Mark.TheVariants.{New}
 use Rattle.item_hierarchy.specs.Walking.{IsMarked, Walks}

@@ -6,7 +6,7 @@ use Rattle.item_hierarchy.specs.contracts.walk.Mark.{the_type}
 use Rattle.item_hierarchy.specs.declared.edges.EdgeRow.{EdgeRow}
 use Rattle.item_hierarchy.specs.declared.walk.Mark.{Mark}
 use Rattle.item_hierarchy.specs.declared.walk.Mark.TheVariants.{Open, Done}
-use Rattle.item_hierarchy.specs.Walking.{IsMarked, Walks}
+use Rattle.item_hierarchy.specs.Walking.{IsMarked}
 use Rattle.item_hierarchy.proofs.WalkingLemmas.{walks-leave, walks-cycle, walks-up, steps-up, steps-leave, top_open, top_within, marked_at, mark_of, parent_within}
 use Rattle.item_hierarchy.proofs.walk.Walk.step.Goals as goal
 use Rattle.item_hierarchy.proofs.walk.Walk.step.Goals.{After-next_undone-at}
