@@ -2,9 +2,9 @@
 use Rattle.std.proofs.Common.{◌≡◌, ℕ, ◌+◌, ◌<◌, ◌≤◌, ◌⊎◌, ◌↔◌, inl, inr, List, [], ◌∷◌, ◌++◌, length, set, get_or, arith, refl, sym, ap, ◌∙◌, subst, append_assoc, get_or-set_other, get_or-set_same}
 use Rattle.std.specs.List.{Contains, All}
 use Rattle.std.proofs.Math.ListN.{length-set}
-use Rattle.std.proofs.lemmas.List.{get_or_default, get_or_past, append-nil}
+use Rattle.std.proofs.lemmas.List.{get_or_default, append-nil}
 use Rattle.std.proofs.lemmas.List.Elements.{Contains-get_or, Contains-append_cases, Contains-append_left, Contains-append_right}
-use Rattle.std.proofs.lemmas.Bool.{cases_eq, cases_lt}
+use Rattle.std.proofs.lemmas.Bool.{cases_eq}
 use Rattle.mine_model.proofs.ListLemmas.{Contains-cases, Contains-first, Contains-none}
 use Rattle.state_bits.specs.Members.{Has}
 use Rattle.fst_compile.specs.declared.edge.Edge.{Edge}
@@ -138,7 +138,7 @@ IsTakenSoFar-skip members all index so_far not_here = record {
       | inl same ↦ absurd (not_here (subst (λ (x : ℕ). Has all x) same is))
       | inr other ↦ (so_far.exact q).1 (omega arith, is)
     ]),
-  )
+  );
 }
 
 pub IsTakenSoFar-take : (before after all index : ℕ) → IsTakenSoFar before all index → Has all index → ((r : ℕ) → Has after r ↔ (Has before r ⊎ (r ≡ index)))
@@ -153,7 +153,7 @@ IsTakenSoFar-take before after all index so_far here step = record {
       | inl same ↦ (step q).1 (inr same)
       | inr other ↦ (step q).1 (inl ((so_far.exact q).1 (omega arith, is)))
     ]),
-  )
+  );
 }
 
 -- the next state of a walk is a member

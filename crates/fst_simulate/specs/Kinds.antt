@@ -1,12 +1,10 @@
 -- What items may do under a bound, as it is kept once an item was met.
 use Rattle.std.specs.Prelude.{◌≡◌, ◌≢◌, ℕ, ◌+◌, ◌-◌, ◌≤◌, ◌<◌, ◌⊎◌, ◌↔◌, List, [], ◌++◌, length, slice_index, slice_get, slice_range, Some, None, Option, Contains}
 use Rattle.mine_model.specs.declared.item.Item.{Item}
-use Rattle.mine_model.specs.Ranks.{HasRank}
 use Rattle.state_bits.specs.Members.{Has}
 use Rattle.fst_simulate.specs.declared.bound.Bound.{Bound}
 use Rattle.fst_simulate.specs.declared.kinds.Kind.{Kind}
 use Rattle.fst_simulate.specs.declared.kinds.Kinds.{Kinds}
-use Rattle.fst_simulate.specs.declared.kinds.Scratch.{Scratch}
 use Rattle.fst_simulate.specs.Problems.{Problem}
 use Rattle.fst_simulate.specs.Grids.{Reads, WritesRank}
 use Rattle.fst_simulate.specs.Tables.{ClassSets, unknown}

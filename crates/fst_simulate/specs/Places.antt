@@ -1,5 +1,5 @@
 -- The places of grids as they are kept: the kind of the item there, and the sets of states by their number.
-use Rattle.std.specs.Prelude.{◌≡◌, ℕ, ◌+◌, ◌-◌, ◌≤◌, ◌<◌, ◌↔◌, true, false, List, [], ◌∷◌, length, slice_index, slice_get, drop, Some}
+use Rattle.std.specs.Prelude.{◌≡◌, ℕ, ◌+◌, ◌-◌, ◌≤◌, ◌<◌, ◌↔◌, true, false, List, length, slice_index, slice_get, drop, Some}
 use Rattle.mine_model.specs.declared.item.Item.{Item}
 use Rattle.state_bits.specs.Members.{Has}
 use Rattle.fst_compile.specs.Transducer.{Leads}

@@ -72,7 +72,15 @@ impl<'a> Grids<'a> {
         self.sequences.reserve(1)?;
         self.ends.reserve(1)?;
         let items = self.job.db().sequence(seq);
-        push_places(self.job, self.bound, &mut self.tables, &mut self.kinds, &mut self.scratch, &mut self.places, items)?;
+        push_places(
+            self.job,
+            self.bound,
+            &mut self.tables,
+            &mut self.kinds,
+            &mut self.scratch,
+            &mut self.places,
+            items,
+        )?;
         self.ends.push_reserved(self.places.len());
         self.sequences.push_reserved(seq);
         Ok(())

@@ -178,7 +178,11 @@ impl<const W: usize> Table<W> {
             → (IsTrue result ↔ Has (completing t seen) q) }
     {
         let triple = &self.triples.as_slice()[triple as usize];
-        if seen { triple.seen.has(q) } else { triple.unseen.has(q) }
+        if seen {
+            triple.seen.has(q)
+        } else {
+            triple.unseen.has(q)
+        }
     }
 
     /// The states that complete at a place of the triple, as words.
@@ -190,12 +194,19 @@ impl<const W: usize> Table<W> {
             → (q : ℕ) → q < length self.now.predecessors → (HasBit result.now q ↔ Has (completing t seen) q) }
     {
         let triple = &self.triples.as_slice()[triple as usize];
-        if seen { triple.seen.words() } else { triple.unseen.words() }
+        if seen {
+            triple.seen.words()
+        } else {
+            triple.unseen.words()
+        }
     }
 }
 
 // The number of a class, which is added if it is new.
-fn class_in<const W: usize>(classes: &mut IndexSet<Class<W>>, class: &Class<W>) -> Result<u32, NoMemory>
+fn class_in<const W: usize>(
+    classes: &mut IndexSet<Class<W>>,
+    class: &Class<W>,
+) -> Result<u32, NoMemory>
     requires width { W ≤ 17 }
     ensures grows { AddsTo (map class_sets classes.old.keys) (class_sets class.now)
         (map class_sets classes.new.keys) }
@@ -207,7 +218,10 @@ fn class_in<const W: usize>(classes: &mut IndexSet<Class<W>>, class: &Class<W>) 
 }
 
 // The number of a triple, which is added if it is new.
-fn triple_in<const W: usize>(triples: &mut IndexSet<Triple<W>>, triple: &Triple<W>) -> Result<u32, NoMemory>
+fn triple_in<const W: usize>(
+    triples: &mut IndexSet<Triple<W>>,
+    triple: &Triple<W>,
+) -> Result<u32, NoMemory>
     requires width { W ≤ 17 }
     ensures grows { AddsTo (map triple_sets triples.old.keys) (triple_sets triple.now)
         (map triple_sets triples.new.keys) }
@@ -341,7 +355,11 @@ fn both<const W: usize>(one: &StateSet<W>, other: &StateSet<W>) -> StateSet<W>
 }
 
 // The triple before an item of the class and the triple after it.
-fn before<const W: usize>(predecessors: &[StateSet<W>], class: &Class<W>, after: &Triple<W>) -> Triple<W>
+fn before<const W: usize>(
+    predecessors: &[StateSet<W>],
+    class: &Class<W>,
+    after: &Triple<W>,
+) -> Triple<W>
     requires width { W ≤ 17 }
     requires silent { (k : ℕ) → Has class.now.silent k → k < length predecessors.now }
     requires goes { (k : ℕ) → Has class.now.goes k → k < length predecessors.now }

@@ -1,10 +1,9 @@
-use Rattle.std.proofs.Common.{◌≡◌, ◌∙◌, ◌<◌, ◌+◌, ap, sym, subst, arith, refl, ℕ, length, List, [], ◌∷◌, Some}
-use Rattle.std.specs.List.{slice_get}
+use Rattle.std.proofs.Common.{◌≡◌, ◌∙◌, ◌+◌, sym, arith, refl, length, []}
 use Rattle.std.proofs.lemmas.List.{append-nil}
 use Rattle.fst_simulate.specs.declared.kinds.Kind.{Kind}
 use Rattle.fst_simulate.specs.Grids.{Reads}
-use Rattle.fst_simulate.specs.Tables.{ClassSets, IsClassOf}
-use Rattle.fst_simulate.specs.Kinds.{Goes, Needs, AreKinds, KindsGrow, HasKind, IsKind}
+use Rattle.fst_simulate.specs.Tables.{IsClassOf}
+use Rattle.fst_simulate.specs.Kinds.{Goes, Needs, AreKinds}
 use Rattle.fst_simulate.proofs.KindLemmas.{AreKinds-grow, AreKinds-more, Extends-nothing, KindsGrow-nothing, entered_below, IsClassFor-of, IsKind-of, slice_get-last}
 use Rattle.fst_simulate.proofs.kinds.kind_of.Goals as goal
 
@@ -54,9 +53,9 @@ returns-clause-kind c =
       kind,
       (rw c.in_ok-push.ensures.items (slice_get-last c.args.kinds.now.kinds.items kind c.in_ok-number.number number)),
       IsKind-of c.args.job.now c.args.bound c.class_number.new.self.classes c.push_outputs.new.ends.items c.push_outputs.new.ranks.items c.args.t kind (length c.args.kinds.now.ends.items) base
-      c.in_ok-push_outputs.ensures.row class found
-      (IsClassFor-of c.args.job.now c.args.bound c.args.t class c.push_outputs.new.scratch.silent.items c.push_outputs.new.scratch.goes.items c.push_outputs.new.scratch.needs.items of
-      c.in_ok-push_outputs.ensures.entered),
+          c.in_ok-push_outputs.ensures.row class found
+          (IsClassFor-of c.args.job.now c.args.bound c.args.t class c.push_outputs.new.scratch.silent.items c.push_outputs.new.scratch.goes.items c.push_outputs.new.scratch.needs.items of
+          c.in_ok-push_outputs.ensures.entered),
     )
 
 pub returns-clause-kinds : goal.returns-clause-kinds
@@ -65,5 +64,5 @@ returns-clause-kinds c =
     AreKinds-grow c.args.job.now c.args.bound c.args.tables.now.classes c.class_number.new.self.classes c.args.kinds.now c.args.kinds.now c.requires.kinds c.class_number.ensures.grows.classes
     (KindsGrow-nothing c.args.kinds.now) refl in
     AreKinds-more c.args.job.now c.args.bound c.class_number.new.self.classes c.args.kinds.now _ c.args.t c.in_ok-number.number grown
-    (record { kinds = (_ , c.in_ok-push.ensures.items); ends = c.push_outputs.ensures.ends; ranks = c.push_outputs.ensures.ranks })
+    (record { kinds = (_, c.in_ok-push.ensures.items); ends = c.push_outputs.ensures.ends; ranks = c.push_outputs.ensures.ranks })
     (omega (arith, c.requires.item, c.requires.kinds.all)) refl (returns-clause-kind c)

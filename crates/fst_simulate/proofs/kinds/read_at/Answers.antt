@@ -1,4 +1,4 @@
-use Rattle.std.proofs.Common.{◌≡◌, ◌∙◌, sym, ap, arith, refl, ℕ, ◌-◌, ◌<◌, ◌↔◌, List, subst, length, get_or, Some, true, false}
+use Rattle.std.proofs.Common.{◌≡◌, arith, ℕ, ◌-◌, ◌<◌, ◌↔◌, List, subst, length, get_or, Some, true, false}
 use Rattle.std.specs.List.{slice_get, Contains}
 use Rattle.std.specs.Bool.{IsTrue}
 use Rattle.std.proofs.Common.{rules}
@@ -6,12 +6,10 @@ use Rattle.std.proofs.lemmas.Option.{slice_get-get_or}
 use Rattle.mine_model.proofs.ListLemmas.{Contains-none}
 use Rattle.mine_model.specs.declared.item.Item.{Item}
 use Rattle.mine_model.specs.Ancestry.{Ancestry}
-use Rattle.mine_model.specs.Expression.{named_by, leaf_of}
+use Rattle.mine_model.specs.Expression.{leaf_of}
 use Rattle.mine_model.specs.Generation.{Matches, MayWrite}
-use Rattle.mine_model.specs.Ranks.{Ranking, HasRank}
 use Rattle.fst_compile.specs.declared.edge.Label.{Label}
 use Rattle.fst_compile.specs.Transducer.{Transducer}
-use Rattle.fst_simulate.specs.Grids.{WritesRank}
 use Rattle.fst_simulate.proofs.KindLemmas.{label_at, named_label, silent_reads, silent_writes, captured_silent, captured_writes}
 use Rattle.fst_simulate.proofs.kinds.read_at.Goals as goal
 use Rattle.fst_simulate.proofs.kinds.read_at.Goals.{After-outputs-arg-1, After-is_captured}
@@ -43,8 +41,7 @@ returns-then-not-is_captured-clause-silent c =
 pub returns-then-not-is_captured-clause-found : goal.returns-then-not-is_captured-clause-found
 returns-then-not-is_captured-clause-found c rank =
     let there = the_label (goal.at.returns-then-not-is_captured-clause-found c).After-is_captured in
-    let label : slice_get c.args.job.now.machine.labels (c.args.k - 1) ≡ Some (record { leaf = c.leaf-leaf.result; captured = false }) = rw c.if-not-is_captured.true at there in
-    (
+    let label : slice_get c.args.job.now.machine.labels (c.args.k - 1) ≡ Some (record { leaf = c.leaf-leaf.result; captured = false }) = rw c.if-not-is_captured.true at there in (
       (λ held. absurd (Contains-none rank (subst (λ (xs : List ℕ). Contains xs rank) c.clear.ensures.items held))),
       (λ writes. absurd (silent_writes c.args.job.now c.args.bound c.args.t c.args.k c.leaf-leaf.result label rank writes)),
     )

@@ -1,9 +1,9 @@
-use Rattle.std.proofs.Common.{◌≡◌, ◌∙◌, sym, ap, subst, refl, ℕ, List, ◌∷◌, Some, get_or}
+use Rattle.std.proofs.Common.{◌≡◌, ◌∙◌, sym, ap, subst, refl, List, Some}
 use Rattle.std.specs.List.{slice_get}
 use Rattle.std.proofs.lemmas.Option.{get_or_from_slice_get, same_Some}
 use Rattle.fst_simulate.specs.declared.kinds.Kind.{Kind}
-use Rattle.fst_simulate.specs.Tables.{ClassSets, TripleSets}
-use Rattle.fst_simulate.specs.Kinds.{AreKinds, IsClassFor, HasKind}
+use Rattle.fst_simulate.specs.Tables.{TripleSets}
+use Rattle.fst_simulate.specs.Kinds.{IsClassFor}
 use Rattle.fst_simulate.specs.Places.{IsTableOf, IsTripleOf}
 use Rattle.fst_simulate.proofs.KindLemmas.{AreKinds-grow, HasKind-grow, KindsGrow-nothing}
 use Rattle.fst_simulate.proofs.TableLemmas.{slice_get-grow}
@@ -42,7 +42,7 @@ returns-clause-place c = (
   c.in_ok-kind.kind,
   c.in_ok-push.ensures.items,
   HasKind-grow c.args.job.now c.args.bound c.kind_of.new.tables.classes c.step.new.self.classes c.kind_of.new.kinds c.kind_of.new.kinds c.args.t c.in_ok-kind.kind
-  c.in_ok-kind.ensures.kind c.step.ensures.grows.classes (KindsGrow-nothing c.kind_of.new.kinds),
+      c.in_ok-kind.ensures.kind c.step.ensures.grows.classes (KindsGrow-nothing c.kind_of.new.kinds),
 )
 
 pub returns-clause-triple : goal.returns-clause-triple
@@ -65,6 +65,6 @@ returns-clause-triple c rest has =
       before,
       found_before,
       IsTripleOf-step c.args.job.now c.support-support.ensures.whole c.args.bound c.step.new.self table c.args.t rest class after before
-      (subst (IsClassFor c.args.job.now c.args.bound c.args.t) (sym same_class) is_class)
-      (subst (IsTripleOf c.args.job.now c.args.bound rest) (sym same_after) is) step,
+          (subst (IsClassFor c.args.job.now c.args.bound c.args.t) (sym same_class) is_class)
+          (subst (IsTripleOf c.args.job.now c.args.bound rest) (sym same_after) is) step,
     )

@@ -1,5 +1,4 @@
-use Rattle.std.proofs.Common.{◌≡◌, ◌∙◌, ◌+◌, ◌-◌, ◌<◌, sym, ap, subst, refl, arith, ℕ, suc, List, [], ◌∷◌, ◌++◌, Some, get_or, drop, length}
-use Rattle.std.specs.List.{slice_get}
+use Rattle.std.proofs.Common.{◌≡◌, ◌∙◌, ◌+◌, ◌-◌, ◌<◌, sym, ap, subst, refl, arith, ℕ, suc, List, [], ◌∷◌, get_or, drop, length}
 use Rattle.std.proofs.Math.Seq.{drop-length, drop-cons}
 use Rattle.std.proofs.lemmas.Option.{slice_get_within, slice_get-get_or}
 use Rattle.mine_model.specs.declared.item.Item.{Item}
@@ -52,8 +51,8 @@ loop-position-preserved c =
       kinds_grow = KindsGrow-twice c.args.kinds.now c.loop-position.kinds c.push_place.new.kinds c.loop-position.invariant.kinds_grow c.push_place.ensures.kinds_grow;
       places_grow = Extends-twice c.args.places.now.items c.loop-position.places.items c.push_place.new.places.items c.loop-position.invariant.places_grow c.push_place.ensures.places_grow;
       filled = rw added (AreFilled-more c.args.job.now c.args.bound c.loop-position.tables c.push_place.new.tables c.loop-position.kinds c.push_place.new.kinds c.loop-position.places.items
-      (length c.args.places.now.items) c.args.items.now (c.loop-position.position - 1) place t filled c.push_place.ensures.tables_grow c.push_place.ensures.kinds_grow
-      (slice_get-get_or c.args.items.now (c.loop-position.position - 1) d inside) has triple);
+          (length c.args.places.now.items) c.args.items.now (c.loop-position.position - 1) place t filled c.push_place.ensures.tables_grow c.push_place.ensures.kinds_grow
+          (slice_get-get_or c.args.items.now (c.loop-position.position - 1) d inside) has triple);
       triple = triple;
     }
 

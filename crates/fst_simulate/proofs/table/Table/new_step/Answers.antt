@@ -1,7 +1,7 @@
-use Rattle.std.proofs.Common.{arith, rules, ◌<◌, ◌+◌, ◌*◌, ◌⊎◌, ◌≢◌, ◌≡◌, ◌++◌, ℕ, List, map, length, sym, refl, ◌∙◌, ap, subst, Some}
+use Rattle.std.proofs.Common.{arith, rules, ◌<◌, ◌+◌, ◌*◌, ◌⊎◌, ◌≢◌, ◌≡◌, ℕ, List, map, length, sym, ap, subst, Some}
 use Rattle.std.specs.List.{slice_get, slice_index}
 use Rattle.state_bits.specs.Members.{Has}
-use Rattle.fst_simulate.specs.Tables.{TableValue, ClassSets, TripleSets, class_sets, triple_sets, AreBelow, IsTable, IsStep, IsStepAt, unknown}
+use Rattle.fst_simulate.specs.Tables.{TableValue, class_sets, triple_sets, AreBelow, IsTable, IsStep, IsStepAt, unknown}
 use Rattle.fst_simulate.proofs.TableLemmas.{map_at, slice_get-grow, IsTable-triples, IsTable-keep}
 use Rattle.fst_simulate.proofs.table.Table.new_step.Given.{Over}
 use Rattle.fst_simulate.proofs.table.Table.new_step.Goals as goal
@@ -19,7 +19,6 @@ module _ (g : Over) where
       let inside : c.args.after < length (map (triple_sets {W = g.row.W}) c.self.inside.triples.keys) =
       subst (λ (v : TableValue). c.args.after < length v.triples) (sym c.self.view_is) c.requires.after in
       map_at (triple_sets {W = g.row.W}) c.self.inside.triples.keys c.as_slice-3.result.now c.args.after c.index-as_slice-after.result inside c.as_slice-3.ensures.keys c.index-as_slice-after.is
-
 
 pub before-before-requires : goal.before-before-requires
 before-before-requires g c =
@@ -52,7 +51,7 @@ module _ (g : Over) (c : In_ok-number g) where
         (rw grown (slice_get-grow _ more c.args.after _ triple_is)),
         c.in_ok-number.ensures.there,
         subst (λ (xs : List ℕ). IsStep xs (class_sets {W = g.row.W} c.index-as_slice-class.result) (triple_sets {W = g.row.W} c.index-as_slice-after.result)
-        (triple_sets {W = g.row.W} c.before-before.result)) c.as_slice.ensures.value c.before-before.ensures,
+            (triple_sets {W = g.row.W} c.before-before.result)) c.as_slice.ensures.value c.before-before.ensures,
       )
 
   kept_table : (kept : List ℕ) → slice_get (map (class_sets {W = g.row.W}) c.self.inside.classes.keys) c.args.class ≡ Some (class_sets {W = g.row.W} c.index-as_slice-class.result)
