@@ -1,4 +1,5 @@
-//! What can still come of each place of a sequence: which states lead to its end, and what may be written there.
+//! What can still come of each place of a sequence: which states lead to its end, and what may be written
+//! there.
 #![tactic(auto)]
 
 mod bound;

@@ -12,7 +12,7 @@ use Rattle.fst_compile.specs.declared.edge.Label.{Label}
 use Rattle.fst_compile.specs.Transducer.{Transducer}
 use Rattle.fst_simulate.proofs.KindLemmas.{label_at, named_label, silent_reads, silent_writes, captured_silent, captured_writes}
 use Rattle.fst_simulate.proofs.kinds.read_at.Goals as goal
-use Rattle.fst_simulate.proofs.kinds.read_at.Goals.{After-outputs-arg-1, After-is_captured}
+use Rattle.fst_simulate.proofs.kinds.read_at.Goals.{After-is_captured}
 
 pub outputs-requires-clause-named : goal.outputs-requires-clause-named
 outputs-requires-clause-named c =
