@@ -1,9 +1,8 @@
 //! The sequences in pieces, each counted by a thread of its own.
 
 ghost use Rattle.std.specs.Prelude.{◌≡◌, ℕ, ◌+◌, ◌*◌, ◌^◌, ◌≤◌, ◌<◌, length, min, slice_index, All, IfOk, sum_by};
-ghost use Rattle.std.specs.List.{AllByRecursion, slice_index_or};
-ghost use Rattle.std.specs.declared.vec.Vec.{Vec};
-ghost use Rattle.frequency_list.specs.Tallies.{IsTally, piece_of, place};
+ghost use Rattle.std.specs.List.{AllByRecursion};
+ghost use Rattle.frequency_list.specs.Tallies.{IsTally, piece_of, AreTallies};
 
 use super::tally::tally;
 use mine_model::{Db, Hierarchy, NoMemory};
@@ -46,15 +45,21 @@ fn tallies<R: Threads + Sync>(
     size: u32,
     pieces: u32,
 ) -> Result<Vec<Vec<u64>>, NoMemory>
-    requires { AllByRecursion
+    requires items { AllByRecursion
         (λ sequence. AllByRecursion (λ t. t.0 < hierarchy.now.items) sequence.items) db.now }
-    ensures length { IfOk result (λ parts. length parts.items ≡ pieces) }
+    requires few { pieces ≤ 16 }
+    requires short { size < 2 ^ 24 }
+    ensures { IfOk result (λ parts. AreTallies hierarchy.now size db.now pieces parts.items) }
 {
     (0..pieces)
         .into_par_iter()
         .with_min_len(1)
         .map(
             |piece: u32| -> Result<Vec<u64>, NoMemory>
+                requires { (piece < 16) × (size < 2 ^ 24) × AllByRecursion
+                    (λ sequence. AllByRecursion (λ t. t.0 < hierarchy.now.items) sequence.items) db.now }
+                ensures { IfOk result (λ sums.
+                    IsTally hierarchy.entry.now (piece_of size db.entry.now piece) sums.items) }
             { piece_tally(alloc, hierarchy, db, size, piece) },
         )
         .collect::<Result<Vec<Vec<u64>>, NoMemory>>(rt, alloc)?

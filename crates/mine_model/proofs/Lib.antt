@@ -26,3 +26,6 @@ pub mod ShiftLemmas
 pub mod NameLemmas
 pub mod RenamingLemmas
 pub mod RankLemmas
+pub mod AboveLemmas
+pub mod FrequencyLemmas
+pub mod TestedLists

@@ -1,6 +1,6 @@
 -- The table of ranks, filled place by place.
-use Rattle.std.proofs.Common.{◌≡◌, ◌≢◌, ℕ, zero, suc, ◌+◌, ◌-◌, ◌≤◌, ◌<◌, inl, inr, eqb, true, List, [], ◌∷◌, ◌++◌, map, take, length, get_or, set, replicate, refl, sym, ap, ◌∙◌, subst, arith, Some, None, get_or-set_same, get_or-set_other}
-use Rattle.std.specs.List.{slice_index, slice_get, list_any, All, AllPairs, Contains, IsDistinct}
+use Rattle.std.proofs.Common.{◌≡◌, ◌≢◌, ℕ, ◌+◌, ◌-◌, ◌≤◌, ◌<◌, inl, inr, List, [], ◌∷◌, ◌++◌, map, take, length, get_or, set, replicate, refl, sym, ap, ◌∙◌, subst, arith, Some, get_or-set_same, get_or-set_other}
+use Rattle.std.specs.List.{slice_index, slice_get, All, AllPairs, Contains}
 use Rattle.std.proofs.lemmas.List.{length-map, length-replicate, get_or-replicate, get_or_past, take_more, take_all}
 use Rattle.std.proofs.lemmas.List.Elements.{Contains-append_cases, All-contains}
 use Rattle.std.proofs.lemmas.Bool.{cases_eq, cases_lt, eqb-true}

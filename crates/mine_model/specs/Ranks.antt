@@ -15,8 +15,8 @@ use Rattle.mine_model.specs.Support.{Sequence, HasFrequency}
 -- the words of the promise
 
 -- the frequency of the item reaches the threshold
-pub record IsFrequentItem {A : Type 0} (links : List (Link A)) (sequences : List (Sequence A)) (threshold : ℕ) (w : A)
-    : Type 0 where
+pub record IsFrequentItem {A : Type 0} (links : List (Link A)) (sequences : List (Sequence A)) (threshold : ℕ)
+    (w : A) : Type 0 where
   pub frequency : ℕ
   pub exact : HasFrequency links sequences w frequency
   pub enough : threshold ≤ frequency
@@ -45,10 +45,10 @@ AreFrequencies links sequences frequencies =
 abbrev pub frequency_in : Ranking → Item → ℕ
 frequency_in ranking w = slice_index ranking.frequencies w.0
 
--- The ranking is that of the sequences: it has the frequency of each item, and ranks the frequent items alone,
--- each once, by falling frequency.
-pub record AreRanks (links : List (Link Item)) (sequences : List (Sequence Item)) (threshold : ℕ) (ranking : Ranking)
-    : Type 0 where
+-- The ranking is that of the sequences: it has the frequency of each item, and ranks the frequent items
+-- alone, each once, by falling frequency.
+pub record AreRanks (links : List (Link Item)) (sequences : List (Sequence Item)) (threshold : ℕ)
+    (ranking : Ranking) : Type 0 where
   pub exact : AreFrequencies links sequences ranking.frequencies
   pub frequent : (w : Item) → Contains ranking.order w ↔ IsFrequentItem links sequences threshold w
   pub once : AllPairs (λ v w. v ≢ w) ranking.order

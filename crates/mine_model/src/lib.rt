@@ -6,6 +6,7 @@ mod cover_laws;
 mod database;
 mod expression;
 mod fault;
+mod frequency_laws;
 mod gate;
 mod hierarchy;
 mod hierarchy_fault;
@@ -24,6 +25,9 @@ pub use cover_laws::{at_most_one_cover, cover_is_the_tree, short_tree_has_a_cove
 pub use database::Db;
 pub use expression::{Expr, Leaf};
 pub use fault::{Fault, Which};
+pub use frequency_laws::{
+    frequent_items_suffice, pattern_stands_above_its_sequence, support_is_at_most_a_frequency,
+};
 pub use gate::{Gate, OpenGate};
 pub use hierarchy::Hierarchy;
 pub use hierarchy_fault::{CloseFault, HierarchyFault};

@@ -68,6 +68,7 @@ impl Ranks {
     /// How many items have a rank. Takes no memory.
     pub fn count(&self) -> u32
         ensures count { result ≡ length self.now.order }
+        ensures most { result ≤ length self.now.frequencies }
         ensures different { AllPairs (λ v w. v ≢ w) self.now.order }
         ensures within { All (λ w. w.0 < length self.now.frequencies) self.now.order }
         ensures few { length self.now.frequencies < 2 ^ 32 }

@@ -1,4 +1,4 @@
-use Rattle.std.proofs.Common.{◌≡◌, ◌≤◌, length, get_or, subst, arith, refl, ◌∙◌, ap, length-set}
+use Rattle.std.proofs.Common.{◌≡◌, ◌≤◌, length, get_or, subst, arith, ◌∙◌, ap, length-set}
 use Rattle.std.proofs.lemmas.List.{length-replicate, get_or_default}
 use Rattle.mine_model.specs.declared.item.Item.{Item}
 use Rattle.mine_model.specs.Ancestry.{item_at}

@@ -1,4 +1,4 @@
-use Rattle.std.proofs.Common.{◌≡◌, ◌∙◌, ap, subst, sym}
+use Rattle.std.proofs.Common.{◌≡◌, ◌∙◌, ap, subst}
 use Rattle.std.specs.List.{slice_index}
 use Rattle.mine_model.specs.Ranks.{HasRank, Ranking}
 use Rattle.mine_model.proofs.RankLemmas.{HasRank-held, HasRank-most}

@@ -1,0 +1,5 @@
+pub mod TallyLemmas
+pub mod SequenceLemmas
+pub mod OrderLemmas
+pub mod PieceLemmas
+pub mod RankingLemmas
