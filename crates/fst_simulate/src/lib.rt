@@ -11,6 +11,8 @@ mod number;
 mod places;
 mod table;
 mod tables;
+#[cfg(test)]
+mod tests;
 
 pub use bound::Bound;
 pub use grid::Grid;
