@@ -1,26 +1,23 @@
 -- Grids behind each other.
-use Rattle.std.proofs.Common.{◌≡◌, ℕ, ◌+◌, ◌-◌, ◌<◌, ◌≤◌, ◌↔◌, inl, inr, Bool, true, false, List, [], ◌∷◌, ◌++◌, drop, length, get_or, arith, refl, sym, ap, ◌∙◌, subst, Some}
-use Rattle.std.specs.List.{All, AllByRecursion, Contains, slice_get, slice_index, slice_range}
+use Rattle.std.proofs.Common.{◌≡◌, ℕ, ◌+◌, ◌-◌, ◌<◌, ◌≤◌, ◌↔◌, inl, inr, Bool, true, false, List, [], ◌∷◌, ◌++◌, length, get_or, arith, refl, sym, ap, ◌∙◌, subst, Some}
+use Rattle.std.specs.List.{All, AllByRecursion, slice_get, slice_index}
 use Rattle.std.proofs.Math.Seq.{get_or-append_seam}
-use Rattle.std.proofs.lemmas.List.{get_or_append_left, length-append, get_or_default}
+use Rattle.std.proofs.lemmas.List.{get_or_append_left, length-append}
 use Rattle.std.proofs.lemmas.List.Elements.{Contains-get_or}
 use Rattle.std.proofs.lemmas.Option.{slice_get_within, slice_get-get_or, same_Some}
 use Rattle.std.proofs.lemmas.Bool.{cases_eq}
 use Rattle.mine_model.specs.declared.item.Item.{Item}
 use Rattle.mine_model.specs.Support.{Sequence}
-use Rattle.mine_model.specs.Database.{sequence_at}
 use Rattle.mine_model.proofs.ListLemmas.{AllByRecursion-contained}
 use Rattle.state_bits.specs.Members.{Has}
 use Rattle.fst_simulate.specs.declared.bound.Bound.{Bound}
-use Rattle.fst_simulate.specs.declared.kinds.Kind.{Kind}
 use Rattle.fst_simulate.specs.declared.kinds.Kinds.{Kinds}
 use Rattle.fst_simulate.specs.declared.places.Place.{Place}
 use Rattle.fst_simulate.specs.Problems.{Problem, IsWhole, items_of}
-use Rattle.fst_simulate.specs.Grids.{Completes, Ends, WritesRank, GridList, items_at}
+use Rattle.fst_simulate.specs.Grids.{Completes, GridList, items_at}
 use Rattle.fst_simulate.specs.Tables.{TripleSets, TableValue, Grows, completing}
-use Rattle.fst_simulate.specs.Kinds.{IsTarget, IsKind, HasKind, HasCell, AreKinds, KindsGrow, Extends}
+use Rattle.fst_simulate.specs.Kinds.{IsTarget, HasKind, HasCell, AreKinds, KindsGrow, Extends}
 use Rattle.fst_simulate.specs.Places.{IsTripleOf, IsTableOf, IsPlaceAt, ArePlaces, AreGrids}
-use Rattle.fst_simulate.proofs.KindLemmas.{AreKinds-grow}
 use Rattle.fst_simulate.proofs.PlaceLemmas.{IsTableOf-grow, ArePlaces-grow}
 
 -- the items of a sequence are items of the hierarchy

@@ -1,23 +1,21 @@
 -- What an item may do, found out state by state.
-use Rattle.std.proofs.Common.{◌≡◌, ◌≢◌, ℕ, zero, suc, ◌+◌, ◌-◌, ◌<◌, ◌≤◌, ◌⊎◌, ◌↔◌, inl, inr, Bool, true, false, ◌||◌, not, rules, List, [], ◌∷◌, ◌++◌, map, take, length, get_or, arith, refl, sym, ap, ◌∙◌, subst, Some, None, append_assoc, set, get_or-set_same, get_or-set_other}
+use Rattle.std.proofs.Common.{◌≡◌, ◌≢◌, ℕ, zero, suc, ◌+◌, ◌-◌, ◌<◌, ◌≤◌, ◌⊎◌, ◌↔◌, inl, inr, Bool, true, false, ◌||◌, not, rules, List, [], ◌∷◌, ◌++◌, map, take, length, get_or, arith, refl, sym, ap, ◌∙◌, subst, Some, append_assoc, set, get_or-set_same, get_or-set_other}
 use Rattle.std.specs.Bool.{IsTrue, ◌==◌}
 use Rattle.std.specs.List.{All, AllPairs, AllByRecursion, Contains, slice_get, slice_index, slice_range}
 use Rattle.std.proofs.Math.ListN.{length-set}
 use Rattle.std.proofs.Math.Seq.{get_or-append_seam, drop-append_seam}
-use Rattle.std.proofs.lemmas.List.{get_or_default, get_or_append_left, append-nil, length-append, take_more, take_all}
-use Rattle.std.proofs.lemmas.List.Elements.{All-contains, Contains-get_or, Contains-append_cases, Contains-append_left, Contains-append_right}
+use Rattle.std.proofs.lemmas.List.{get_or_append_left, append-nil, length-append, take_more, take_all}
+use Rattle.std.proofs.lemmas.List.Elements.{Contains-get_or, Contains-append_cases, Contains-append_left, Contains-append_right}
 use Rattle.std.proofs.lemmas.Option.{slice_get_within, get_or_from_slice_get, slice_get_read, slice_get-get_or, same_Some}
-use Rattle.std.proofs.lemmas.Bool.{cases_Bool, cases_lt, cases_eq}
+use Rattle.std.proofs.lemmas.Bool.{cases_lt, cases_eq}
 use Rattle.mine_model.specs.declared.item.Item.{Item}
 use Rattle.mine_model.specs.declared.expression.Leaf.{Leaf as ItemLeaf}
 use Rattle.mine_model.specs.Expression.{Tree, leaf, cat, alt, rep, cap, named_by, named_in, unfolded_times}
 use Rattle.mine_model.specs.Numbered.{leaf_of, tree_of}
 use Rattle.mine_model.specs.Generation.{Matches, MayWrite, WritesAt}
-use Rattle.mine_model.specs.Hierarchy.{Link}
 use Rattle.mine_model.specs.Ranks.{HasRank}
 use Rattle.mine_model.proofs.ListLemmas.{Contains-cases, Contains-first, Contains-none, Contains-by, AllByRecursion-contained, slice_range-append}
 use Rattle.mine_model.proofs.AncestryLemmas.{Item-same}
-use Rattle.mine_model.proofs.RankLemmas.{HasRank-held}
 use Rattle.fst_compile.specs.declared.edge.Label.{Label}
 use Rattle.fst_compile.specs.Shape.{Entry, labels_of, unfold_tree}
 use Rattle.fst_compile.specs.Transducer.{entry_of}
@@ -28,7 +26,7 @@ use Rattle.fst_simulate.specs.declared.kinds.Kinds.{Kinds}
 use Rattle.fst_simulate.specs.Problems.{Problem, IsWhole}
 use Rattle.fst_simulate.specs.Grids.{Reads, WritesRank}
 use Rattle.fst_simulate.specs.Tables.{ClassSets, IsClassOf, unknown}
-use Rattle.fst_simulate.specs.Kinds.{IsNeededRank, Goes, Needs, IsTarget, IsClassFor, IsCell, IsRow, AreEntered, Extends, IsKind, HasKind, AreKinds, KindsGrow}
+use Rattle.fst_simulate.specs.Kinds.{IsNeededRank, Goes, Needs, IsClassFor, IsCell, IsRow, AreEntered, Extends, IsKind, HasKind, AreKinds, KindsGrow}
 use Rattle.fst_simulate.proofs.TableLemmas.{slice_get-grow}
 
 -- ---- ranks

@@ -1,19 +1,16 @@
 -- The equations by which what completes and what ends follows from the next place.
-use Rattle.std.proofs.Common.{◌≡◌, ◌≢◌, ℕ, suc, ◌+◌, ◌-◌, ◌<◌, ◌≤◌, ◌⊎◌, ◌↔◌, inl, inr, Bool, true, false, List, [], ◌∷◌, ◌++◌, length, get_or, arith, refl, sym, ap, ◌∙◌, subst, Some, None, Option, rules}
-use Rattle.std.specs.Bool.{IsTrue}
-use Rattle.std.specs.List.{AllByRecursion, Contains, slice_get}
-use Rattle.std.proofs.lemmas.Option.{slice_get-get_or, same_Some, get_or_from_slice_get}
+use Rattle.std.proofs.Common.{◌≡◌, ℕ, suc, ◌-◌, ◌⊎◌, ◌↔◌, inl, inr, Bool, true, false, List, [], ◌∷◌, ◌++◌, length, arith, refl, sym, ap, ◌∙◌, subst, Some, None, Option, rules}
+use Rattle.std.specs.List.{AllByRecursion, slice_get}
+use Rattle.std.proofs.lemmas.Option.{slice_get-get_or, same_Some}
 use Rattle.mine_model.specs.declared.item.Item.{Item}
-use Rattle.mine_model.specs.Expression.{Leaf}
-use Rattle.mine_model.specs.Numbered.{leaf_of}
-use Rattle.mine_model.specs.Generation.{Matches, MayWrite, WritesAt}
+use Rattle.mine_model.specs.Expression.{Leaf, leaf_of}
+use Rattle.mine_model.specs.Generation.{Matches, WritesAt}
 use Rattle.mine_model.specs.Hierarchy.{Link}
 use Rattle.mine_model.specs.Ranks.{HasRank}
-use Rattle.mine_model.proofs.ListLemmas.{Contains-cases, Contains-first, Contains-other, Contains-none}
-use Rattle.state_bits.specs.Members.{Has}
+use Rattle.mine_model.proofs.ListLemmas.{Contains-cases, Contains-first, Contains-other}
 use Rattle.fst_compile.specs.declared.edge.Edge.{Edge}
 use Rattle.fst_compile.specs.declared.edge.Label.{Label}
-use Rattle.fst_compile.specs.Transducer.{Transducer, IsPath, Enters, Leads, edges_from}
+use Rattle.fst_compile.specs.Transducer.{IsPath, Enters, Leads}
 use Rattle.fst_simulate.specs.declared.bound.Bound.{Bound}
 use Rattle.fst_simulate.specs.Problems.{Problem, IsWhole}
 use Rattle.fst_simulate.specs.Grids.{IsAllowed, IsNeeded, HoldsNeeded, Completes, Ends, Reads, WritesRank}

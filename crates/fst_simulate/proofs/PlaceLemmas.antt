@@ -1,23 +1,19 @@
 -- The places of a sequence, from its end.
-use Rattle.std.proofs.Common.{◌≡◌, ◌≢◌, ℕ, suc, ◌+◌, ◌-◌, ◌<◌, ◌≤◌, ◌⊎◌, ◌↔◌, inl, inr, Bool, true, false, List, [], ◌∷◌, ◌++◌, drop, length, get_or, arith, refl, sym, ap, ◌∙◌, subst, Some, None, rules, append_assoc}
-use Rattle.std.specs.Bool.{IsTrue}
-use Rattle.std.specs.List.{AllByRecursion, Contains, slice_get, slice_index}
+use Rattle.std.proofs.Common.{◌≡◌, ℕ, ◌+◌, ◌-◌, ◌<◌, ◌≤◌, inl, inr, List, [], ◌∷◌, ◌++◌, drop, length, arith, refl, sym, ap, ◌∙◌, subst, Some, rules}
+use Rattle.std.specs.List.{Contains, slice_get}
 use Rattle.std.proofs.Math.ListN.{drop_of_length-le}
-use Rattle.std.proofs.lemmas.List.{append-nil, length-append}
-use Rattle.std.proofs.lemmas.Option.{slice_get_within, slice_get-get_or, same_Some, get_or_from_slice_get}
-use Rattle.std.proofs.lemmas.Bool.{cases_eq, cases_lt}
+use Rattle.std.proofs.lemmas.List.{length-append}
+use Rattle.std.proofs.lemmas.Option.{slice_get_within, same_Some}
+use Rattle.std.proofs.lemmas.Bool.{cases_eq}
 use Rattle.mine_model.specs.declared.item.Item.{Item}
 use Rattle.mine_model.proofs.ListLemmas.{Contains-none}
-use Rattle.state_bits.specs.Members.{Has}
-use Rattle.fst_compile.specs.Transducer.{Leads}
 use Rattle.fst_simulate.specs.declared.bound.Bound.{Bound}
 use Rattle.fst_simulate.specs.declared.kinds.Kinds.{Kinds}
 use Rattle.fst_simulate.specs.declared.places.Place.{Place}
-use Rattle.fst_simulate.specs.Problems.{Problem, IsWhole, items_of}
-use Rattle.fst_simulate.specs.Grids.{Completes, Ends, HoldsNeeded}
-use Rattle.fst_simulate.specs.Tables.{ClassSets, TripleSets, TableValue, Precedes, Grows, IsStep, IsLast}
-use Rattle.fst_simulate.specs.Kinds.{IsTarget, IsClassFor, HasKind, AreKinds, KindsGrow, Extends}
-use Rattle.fst_simulate.specs.Places.{IsTripleOf, HasTriple, IsTableOf, IsPlaceAt, ArePlaces, AreGrids}
+use Rattle.fst_simulate.specs.Problems.{Problem, IsWhole}
+use Rattle.fst_simulate.specs.Tables.{ClassSets, TripleSets, TableValue, Grows, IsStep, IsLast}
+use Rattle.fst_simulate.specs.Kinds.{IsClassFor, HasKind, KindsGrow, Extends}
+use Rattle.fst_simulate.specs.Places.{IsTripleOf, HasTriple, IsTableOf, IsPlaceAt, ArePlaces}
 use Rattle.fst_simulate.proofs.TableLemmas.{slice_get-grow}
 use Rattle.fst_simulate.proofs.KindLemmas.{HasKind-grow, slice_get-last}
 use Rattle.fst_simulate.proofs.PathLemmas.{target-of, ends-step, seen-step, unseen-step}

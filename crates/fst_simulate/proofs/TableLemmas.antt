@@ -1,10 +1,10 @@
 -- Tables that grow keep what they say.
-use Rattle.std.proofs.Common.{◌≡◌, ◌≢◌, ℕ, zero, suc, ◌+◌, ◌-◌, ◌*◌, ◌/◌, ◌%◌, ◌^◌, ◌<◌, ◌≤◌, ◌⊎◌, ◌↔◌, inl, inr, Bool, true, false, List, [], ◌∷◌, ◌++◌, map, length, get_or, arith, refl, sym, ap, ◌∙◌, subst, Some, None, ◌&&◌, append_assoc}
+use Rattle.std.proofs.Common.{◌≡◌, ◌≢◌, ℕ, zero, suc, ◌+◌, ◌-◌, ◌*◌, ◌/◌, ◌%◌, ◌^◌, ◌<◌, ◌≤◌, ◌⊎◌, ◌↔◌, inl, inr, Bool, true, List, [], ◌∷◌, ◌++◌, map, length, get_or, arith, refl, sym, ap, ◌∙◌, Some, ◌&&◌, append_assoc}
 use Rattle.std.specs.Bool.{◌==◌}
 use Rattle.std.specs.List.{All, Contains, slice_get, slice_index, list_any}
-use Rattle.std.proofs.lemmas.List.{get_or_default, get_or_append_left, append-nil, length-append, length-map, map-append, get_or-append-add}
+use Rattle.std.proofs.lemmas.List.{get_or_append_left, append-nil, length-append, length-map, map-append, get_or-append-add}
 use Rattle.std.proofs.lemmas.List.Elements.{All-contains}
-use Rattle.std.proofs.lemmas.Option.{slice_get_within, get_or_from_slice_get, slice_get_read, slice_get-get_or, slice_get-map}
+use Rattle.std.proofs.lemmas.Option.{slice_get_within, get_or_from_slice_get, slice_get_read, slice_get-map}
 use Rattle.std.proofs.lemmas.Bool.{cases_Bool, cases_lt, and_parts, eqb-true}
 use Rattle.indexmap.specs.IndexSet.{insert_key}
 use Rattle.mine_model.proofs.ListLemmas.{Contains-cases, Contains-none}
@@ -15,7 +15,7 @@ use Rattle.fst_compile.proofs.RowLemmas.{Has-none}
 use Rattle.fst_simulate.specs.Grids.{HasBit}
 use Rattle.fst_simulate.specs.declared.table.Class.{Class}
 use Rattle.fst_simulate.specs.declared.table.Triple.{Triple}
-use Rattle.fst_simulate.specs.Tables.{ClassSets, TripleSets, TableValue, class_sets, triple_sets, IsClassOf, Grows, IsLast, IsStep, IsStepAt, AreSteps, AreBelow, AddsTo, IsTable, row, unknown}
+use Rattle.fst_simulate.specs.Tables.{ClassSets, TripleSets, TableValue, class_sets, triple_sets, IsClassOf, Grows, IsLast, IsStepAt, AreBelow, AddsTo, IsTable, row, unknown}
 
 pub slice_get-grow : {X : Type 0} (xs ys : List X) (i : ℕ) (x : X) → slice_get xs i ≡ Some x → slice_get (xs ++ ys) i ≡ Some x
 slice_get-grow xs ys i x found =

@@ -1,4 +1,4 @@
--- Sets of states as a table keeps them, and the step from the sets of a place to those of the place before it.
+-- Sets of states as a table keeps them, and the step from the sets of a place to those of the one before it.
 use Rattle.std.specs.Prelude.{◌≡◌, ◌≢◌, ℕ, ◌*◌, ◌/◌, ◌%◌, ◌≤◌, ◌<◌, ◌⊎◌, ◌↔◌, Bool, true, false, List, ◌++◌, length, slice_index, slice_get, Some, Contains}
 use Rattle.state_bits.specs.Members.{Has}
 use Rattle.fst_compile.specs.declared.edge.Edge.{Edge}
@@ -6,14 +6,14 @@ use Rattle.fst_compile.specs.Rows.{IsSetOf}
 use Rattle.fst_simulate.specs.declared.table.Class.{Class}
 use Rattle.fst_simulate.specs.declared.table.Triple.{Triple}
 
--- the states whose edges match an item and write nothing; those whose edges match it and write nothing or something
--- that is allowed; those whose edges may write what is needed
+-- the states whose edges match an item and write nothing; those whose edges match it and write nothing or
+-- something that is allowed; those whose edges may write what is needed
 pub record ClassSets : Type 0 where
   pub silent : ℕ
   pub goes : ℕ
   pub needs : ℕ
 
--- the states that complete where what is needed was seen, those that complete where it was not, and those that end
+-- the states that complete where what is needed was seen, those that complete where it was not, those that end
 pub record TripleSets : Type 0 where
   pub seen : ℕ
   pub unseen : ℕ
@@ -65,7 +65,8 @@ pub record Grows (before after : TableValue) : Type 0 where
 abbrev pub IsStepAt : List ℕ → List ClassSets → List TripleSets → ℕ → ℕ → ℕ → Type 0
 IsStepAt predecessors classes triples class after before =
     (c : ClassSets) × (a : TripleSets) × (b : TripleSets)
-    × (slice_get classes class ≡ Some c) × (slice_get triples after ≡ Some a) × (slice_get triples before ≡ Some b)
+    × (slice_get classes class ≡ Some c) × (slice_get triples after ≡ Some a)
+    × (slice_get triples before ≡ Some b)
     × IsStep predecessors c a b
 
 -- the triple of the end of all sequences
@@ -93,10 +94,11 @@ AreSteps predecessors classes triples steps =
     (i : ℕ) → i < length steps → slice_index steps i ≢ unknown
     → IsStepAt predecessors classes triples (i % row) (i / row) (slice_index steps i)
 
-pub record IsTable (width : ℕ) (predecessors : List ℕ) (classes : List ClassSets) (triples : List TripleSets) (kept : List ℕ)
-    : Type 0 where
+pub record IsTable (width : ℕ) (predecessors : List ℕ) (classes : List ClassSets) (triples : List TripleSets)
+    (kept : List ℕ) : Type 0 where
   pub room : length predecessors ≤ 64 * width
-  pub below : (number : ℕ) (class : ClassSets) → slice_get classes number ≡ Some class → AreBelow (length predecessors) class
+  pub below : (number : ℕ) (class : ClassSets) → slice_get classes number ≡ Some class
+      → AreBelow (length predecessors) class
   pub steps : AreSteps predecessors classes triples kept
 
 -- the class has these states

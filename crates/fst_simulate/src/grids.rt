@@ -12,8 +12,8 @@ use mine_model::NoMemory;
 use std::alloc::Global;
 use std::marker::Model;
 
-/// Grids of sequences of a job under one bound: which states can still lead to the end of a sequence at each place
-/// of it, and what may be written there. What was found out for one sequence serves the next ones.
+/// Grids of sequences of a job under one bound: which states can still lead to the end of a sequence at each
+/// place of it, and what may be written there. What was found out for one sequence serves the next ones.
 #[derive(Drop)]
 pub struct Grids<'a> {
     job: &'a Job,
@@ -95,7 +95,8 @@ impl<'a> Grids<'a> {
         self.sequences.clear();
     }
 
-    /// Whether state q completes at a position of a grid, where what is needed was seen or was not. Takes no memory.
+    /// Whether state q completes at a position of a grid, where what is needed was seen or was not. Takes no
+    /// memory.
     pub fn completes(&self, grid: u32, pos: u32, q: State, seen: bool) -> bool
         requires grid { grid < length self.now.sequences }
         requires pos { pos ≤ length (items_at self.now grid) }
@@ -131,7 +132,8 @@ impl<'a> Grids<'a> {
         self.tables.completing(place.triple, seen)
     }
 
-    /// Whether the edges into state k match the item at a position of a grid and write nothing. Takes no memory.
+    /// Whether the edges into state k match the item at a position of a grid and write nothing. Takes no
+    /// memory.
     pub fn is_silent(&self, grid: u32, pos: u32, k: State) -> bool
         requires grid { grid < length self.now.sequences }
         requires pos { pos < length (items_at self.now grid) }

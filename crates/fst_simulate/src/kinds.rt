@@ -35,8 +35,8 @@ pub(crate) struct Kinds {
     pub(crate) ranks: Vec<u32>,
 }
 
-/// Room for what is found out of one item: the states that it leads into without an output, at all, and with an
-/// output that is needed; the outputs at one state, and their ranks.
+/// Room for what is found out of one item: the states that it leads into without an output, at all, and with
+/// an output that is needed; the outputs at one state, and their ranks.
 #[derive(Drop)]
 pub(crate) struct Scratch {
     pub(crate) silent: Vec<u32>,
@@ -79,7 +79,8 @@ pub(crate) fn outputs_of(kinds: &Kinds, number: u32, k: u32) -> &[u32]
     requires state { 0 < k }
     requires cell { HasCell kinds.now number k }
     ensures { (kind : Kind) → slice_get kinds.now.kinds.items number ≡ Some kind
-        → result.now ≡ slice_range kinds.now.ranks.items (slice_index kinds.now.ends.items (kind.base + k - 1))
+        → result.now ≡ slice_range kinds.now.ranks.items
+        (slice_index kinds.now.ends.items (kind.base + k - 1))
         (slice_index kinds.now.ends.items (kind.base + k)) }
 {
     let end = kinds.kinds[number as usize].base + k as usize;

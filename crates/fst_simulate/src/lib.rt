@@ -1,4 +1,5 @@
-//! What can still come of each place of a sequence: which states lead to its end, and what may be written there.
+//! What can still come of each place of a sequence: which states lead to its end, and what may be written
+//! there.
 #![tactic(auto)]
 
 mod bound;
@@ -10,6 +11,8 @@ mod number;
 mod places;
 mod table;
 mod tables;
+#[cfg(test)]
+mod tests;
 
 pub use bound::Bound;
 pub use grid::Grid;

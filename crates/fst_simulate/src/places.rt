@@ -53,7 +53,7 @@ pub(crate) fn push_places(
     Ok(())
 }
 
-// The place of an item before those of the rest, whose triple has the number; gives the triple's number there.
+// The place of an item before those of the rest, whose triple has the number; gives the number of its triple.
 fn push_place(
     job: &Job,
     bound: Bound,

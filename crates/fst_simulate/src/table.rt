@@ -24,8 +24,8 @@ pub(crate) struct Class<const W: usize> {
     pub(crate) needs: StateSet<W>,
 }
 
-/// The states that complete at a place where what is needed was seen, those that complete where it was not, and
-/// those that end.
+/// The states that complete at a place where what is needed was seen, those that complete where it was not,
+/// and those that end.
 #[derive(Clone, Copy, Debug, PartialEq, Eq, Hash)]
 pub(crate) struct Triple<const W: usize> {
     pub(crate) seen: StateSet<W>,
@@ -154,7 +154,8 @@ impl<const W: usize> Table<W> {
         requires width { W ≤ 17 }
         requires class { class < length self.now.classes }
         requires state { k < length self.now.predecessors }
-        ensures { (c : ClassSets) → slice_get self.now.classes class ≡ Some c → (IsTrue result ↔ Has c.silent k) }
+        ensures { (c : ClassSets) → slice_get self.now.classes class ≡ Some c
+            → (IsTrue result ↔ Has c.silent k) }
     {
         self.classes.as_slice()[class as usize].silent.has(k)
     }
@@ -164,7 +165,8 @@ impl<const W: usize> Table<W> {
         requires width { W ≤ 17 }
         requires triple { triple < length self.now.triples }
         requires state { q < length self.now.predecessors }
-        ensures { (t : TripleSets) → slice_get self.now.triples triple ≡ Some t → (IsTrue result ↔ Has t.ends q) }
+        ensures { (t : TripleSets) → slice_get self.now.triples triple ≡ Some t
+            → (IsTrue result ↔ Has t.ends q) }
     {
         self.triples.as_slice()[triple as usize].ends.has(q)
     }

@@ -101,7 +101,8 @@ impl Tables {
     pub(crate) fn is_silent(&self, class: u32, k: u32) -> bool
         requires class { class < length self.now.classes }
         requires state { k < length self.now.predecessors }
-        ensures { (c : ClassSets) → slice_get self.now.classes class ≡ Some c → (IsTrue result ↔ Has c.silent k) }
+        ensures { (c : ClassSets) → slice_get self.now.classes class ≡ Some c
+            → (IsTrue result ↔ Has c.silent k) }
     {
         on_table!(&self.width, table => table.is_silent(class, k))
     }
@@ -110,7 +111,8 @@ impl Tables {
     pub(crate) fn ends(&self, triple: u32, q: u32) -> bool
         requires triple { triple < length self.now.triples }
         requires state { q < length self.now.predecessors }
-        ensures { (t : TripleSets) → slice_get self.now.triples triple ≡ Some t → (IsTrue result ↔ Has t.ends q) }
+        ensures { (t : TripleSets) → slice_get self.now.triples triple ≡ Some t
+            → (IsTrue result ↔ Has t.ends q) }
     {
         on_table!(&self.width, table => table.ends(triple, q))
     }

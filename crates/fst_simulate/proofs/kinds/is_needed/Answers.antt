@@ -1,5 +1,3 @@
-use Rattle.std.proofs.Common.{◌≡◌, not, ap, length}
-use Rattle.std.specs.Bool.{◌==◌, IsTrue}
 use Rattle.fst_simulate.proofs.KindLemmas.{some_element}
 use Rattle.fst_simulate.proofs.kinds.is_needed.Goals as goal
 

@@ -1,10 +1,9 @@
-use Rattle.std.proofs.Common.{◌≡◌, ◌∙◌, ◌<◌, ◌+◌, ap, sym, subst, arith, refl, ℕ, length, List, [], ◌∷◌, Some}
-use Rattle.std.specs.List.{slice_get}
+use Rattle.std.proofs.Common.{◌≡◌, ◌∙◌, ◌+◌, sym, arith, refl, length, []}
 use Rattle.std.proofs.lemmas.List.{append-nil}
 use Rattle.fst_simulate.specs.declared.kinds.Kind.{Kind}
 use Rattle.fst_simulate.specs.Grids.{Reads}
-use Rattle.fst_simulate.specs.Tables.{ClassSets, IsClassOf}
-use Rattle.fst_simulate.specs.Kinds.{Goes, Needs, AreKinds, KindsGrow, HasKind, IsKind}
+use Rattle.fst_simulate.specs.Tables.{IsClassOf}
+use Rattle.fst_simulate.specs.Kinds.{Goes, Needs, AreKinds}
 use Rattle.fst_simulate.proofs.KindLemmas.{AreKinds-grow, AreKinds-more, Extends-nothing, KindsGrow-nothing, entered_below, IsClassFor-of, IsKind-of, slice_get-last}
 use Rattle.fst_simulate.proofs.kinds.kind_of.Goals as goal
 

@@ -1,8 +1,8 @@
-use Rattle.std.proofs.Common.{◌≡◌, ◌∙◌, ◌↔◌, ◌||◌, ◌++◌, ap, sym, subst, arith, refl, ℕ, length, List, []}
+use Rattle.std.proofs.Common.{◌≡◌, ◌∙◌, ◌↔◌, ◌||◌, ◌++◌, ap, sym, subst, arith, ℕ, length, List, []}
 use Rattle.std.specs.Bool.{IsTrue}
 use Rattle.std.specs.List.{Contains}
 use Rattle.fst_simulate.specs.Grids.{Reads, WritesRank}
-use Rattle.fst_simulate.specs.Kinds.{IsNeededRank, Goes, Needs}
+use Rattle.fst_simulate.specs.Kinds.{Goes, Needs}
 use Rattle.fst_simulate.proofs.KindLemmas.{IsRow-more, entered_more, goes_holds, needs_holds}
 use Rattle.fst_simulate.proofs.kinds.push_at.Goals as goal
 

@@ -1,4 +1,4 @@
-use Rattle.std.proofs.Common.{◌≡◌, ◌∙◌, ◌+◌, ap, sym, subst, arith, ℕ, length}
+use Rattle.std.proofs.Common.{◌≡◌, ◌∙◌, ◌+◌, ap, subst, arith, ℕ, length}
 use Rattle.fst_compile.specs.Transducer.{Transducer}
 use Rattle.fst_simulate.specs.Kinds.{IsRow, AreEntered}
 use Rattle.fst_simulate.proofs.KindLemmas.{Extends-twice}

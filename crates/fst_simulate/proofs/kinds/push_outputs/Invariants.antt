@@ -1,4 +1,4 @@
-use Rattle.std.proofs.Common.{length, ◌≤◌}
+use Rattle.std.proofs.Common.{length}
 use Rattle.fst_simulate.specs.Kinds.{IsRow, AreEntered, Extends}
 use Rattle.fst_simulate.proofs.kinds.push_outputs.Given as goal
 

@@ -1,10 +1,8 @@
-use Rattle.std.proofs.Common.{◌≡◌, ◌∙◌, sym, arith, ℕ, ◌≤◌, subst, get_or, refl}
-use Rattle.std.specs.List.{Contains}
+use Rattle.std.proofs.Common.{◌≡◌, arith, get_or, refl}
 use Rattle.std.proofs.lemmas.List.{get_or_default}
-use Rattle.mine_model.specs.Ranks.{HasRank}
 use Rattle.mine_model.specs.declared.item.Item.{Item}
 use Rattle.mine_model.proofs.RankLemmas.{HasRank-held}
-use Rattle.fst_simulate.proofs.KindLemmas.{ArePushedSoFar, ArePushedSoFar-none, ArePushedSoFar-skip, ArePushedSoFar-push, ArePushedSoFar-all, rank_unique}
+use Rattle.fst_simulate.proofs.KindLemmas.{ArePushedSoFar-none, ArePushedSoFar-skip, ArePushedSoFar-push, ArePushedSoFar-all, rank_unique}
 use Rattle.fst_simulate.proofs.kinds.push_ranks.Goals as goal
 use Rattle.fst_simulate.proofs.kinds.push_ranks.Goals.{in-Some+then-rank-top+in_ok-push, in-Some+else-rank-top, in_default}
 

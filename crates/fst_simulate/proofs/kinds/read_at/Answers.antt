@@ -1,4 +1,4 @@
-use Rattle.std.proofs.Common.{◌≡◌, ◌∙◌, sym, ap, arith, refl, ℕ, ◌-◌, ◌<◌, ◌↔◌, List, subst, length, get_or, Some, true, false}
+use Rattle.std.proofs.Common.{◌≡◌, arith, ℕ, ◌-◌, ◌<◌, ◌↔◌, List, subst, length, get_or, Some, true, false}
 use Rattle.std.specs.List.{slice_get, Contains}
 use Rattle.std.specs.Bool.{IsTrue}
 use Rattle.std.proofs.Common.{rules}
@@ -6,16 +6,13 @@ use Rattle.std.proofs.lemmas.Option.{slice_get-get_or}
 use Rattle.mine_model.proofs.ListLemmas.{Contains-none}
 use Rattle.mine_model.specs.declared.item.Item.{Item}
 use Rattle.mine_model.specs.Ancestry.{Ancestry}
-use Rattle.mine_model.specs.Expression.{named_by}
-use Rattle.mine_model.specs.Numbered.{leaf_of}
+use Rattle.mine_model.specs.Expression.{leaf_of}
 use Rattle.mine_model.specs.Generation.{Matches, MayWrite}
-use Rattle.mine_model.specs.Ranks.{Ranking, HasRank}
 use Rattle.fst_compile.specs.declared.edge.Label.{Label}
 use Rattle.fst_compile.specs.Transducer.{Transducer}
-use Rattle.fst_simulate.specs.Grids.{WritesRank}
 use Rattle.fst_simulate.proofs.KindLemmas.{label_at, named_label, silent_reads, silent_writes, captured_silent, captured_writes}
 use Rattle.fst_simulate.proofs.kinds.read_at.Goals as goal
-use Rattle.fst_simulate.proofs.kinds.read_at.Goals.{After-outputs-arg-1, After-is_captured}
+use Rattle.fst_simulate.proofs.kinds.read_at.Goals.{After-is_captured}
 
 pub outputs-requires-clause-named : goal.outputs-requires-clause-named
 outputs-requires-clause-named c =

@@ -1,9 +1,9 @@
-use Rattle.std.proofs.Common.{◌≡◌, ◌∙◌, sym, ap, subst, refl, ℕ, List, ◌∷◌, Some, get_or}
+use Rattle.std.proofs.Common.{◌≡◌, ◌∙◌, sym, ap, subst, refl, List, Some}
 use Rattle.std.specs.List.{slice_get}
 use Rattle.std.proofs.lemmas.Option.{get_or_from_slice_get, same_Some}
 use Rattle.fst_simulate.specs.declared.kinds.Kind.{Kind}
-use Rattle.fst_simulate.specs.Tables.{ClassSets, TripleSets}
-use Rattle.fst_simulate.specs.Kinds.{AreKinds, IsClassFor, HasKind}
+use Rattle.fst_simulate.specs.Tables.{TripleSets}
+use Rattle.fst_simulate.specs.Kinds.{IsClassFor}
 use Rattle.fst_simulate.specs.Places.{IsTableOf, IsTripleOf}
 use Rattle.fst_simulate.proofs.KindLemmas.{AreKinds-grow, HasKind-grow, KindsGrow-nothing}
 use Rattle.fst_simulate.proofs.TableLemmas.{slice_get-grow}

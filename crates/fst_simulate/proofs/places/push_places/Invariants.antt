@@ -1,4 +1,4 @@
-use Rattle.std.proofs.Common.{length, drop, ℕ}
+use Rattle.std.proofs.Common.{length, drop}
 use Rattle.fst_simulate.specs.Tables.{Grows}
 use Rattle.fst_simulate.specs.Kinds.{AreKinds, KindsGrow, Extends}
 use Rattle.fst_simulate.specs.Places.{HasTriple, IsTableOf}

@@ -1,8 +1,7 @@
 use Rattle.std.proofs.Common.{map, ℕ, ◌≡◌, ◌∙◌, sym, ap, subst, Some}
 use Rattle.std.specs.List.{slice_get}
 use Rattle.std.proofs.lemmas.Result.{IfOk-weaker}
-use Rattle.fst_simulate.specs.declared.table.Class.{Class}
-use Rattle.fst_simulate.specs.Tables.{ClassSets, class_sets}
+use Rattle.fst_simulate.specs.Tables.{class_sets}
 use Rattle.fst_simulate.proofs.TableLemmas.{inserted, same_class, class_eq, slice_get-mapped_by}
 use Rattle.fst_simulate.proofs.table.class_in.Goals as goal
 

@@ -1,6 +1,6 @@
-use Rattle.std.proofs.Common.{◌≡◌, ◌∙◌, ℕ, arith, sym, subst}
+use Rattle.std.proofs.Common.{◌∙◌, arith}
 use Rattle.std.proofs.lemmas.List.{get_or_default}
-use Rattle.fst_simulate.proofs.SetLemmas.{AreSourcesSoFar-none, AreSourcesSoFar-more, AreSourcesSoFar-all, next_source}
+use Rattle.fst_simulate.proofs.SetLemmas.{AreSourcesSoFar-none, AreSourcesSoFar-more, next_source}
 use Rattle.fst_simulate.proofs.table.sources.Goals as goal
 
 pub loop-k-init : goal.loop-k-init

@@ -1,8 +1,7 @@
 use Rattle.std.proofs.Common.{map, ℕ, ◌≡◌, ◌∙◌, sym, ap, subst, Some}
 use Rattle.std.specs.List.{slice_get}
 use Rattle.std.proofs.lemmas.Result.{IfOk-weaker}
-use Rattle.fst_simulate.specs.declared.table.Triple.{Triple}
-use Rattle.fst_simulate.specs.Tables.{TripleSets, triple_sets}
+use Rattle.fst_simulate.specs.Tables.{triple_sets}
 use Rattle.fst_simulate.proofs.TableLemmas.{inserted, same_triple, triple_eq, slice_get-mapped_by}
 use Rattle.fst_simulate.proofs.table.triple_in.Goals as goal
 

@@ -1,16 +1,7 @@
-use Rattle.std.proofs.Common.{◌≡◌, ◌∙◌, ◌↔◌, ◌+◌, ◌-◌, ◌<◌, ◌≤◌, sym, ap, subst, refl, arith, ℕ, List, [], ◌∷◌, ◌++◌, Some, get_or, drop, length}
-use Rattle.std.specs.Bool.{IsTrue}
-use Rattle.std.specs.List.{Contains, slice_get, slice_index, slice_range}
-use Rattle.std.proofs.lemmas.Option.{slice_get_within, get_or_from_slice_get, slice_get-get_or, same_Some}
-use Rattle.state_bits.specs.Members.{Has}
-use Rattle.mine_model.specs.declared.item.Item.{Item}
-use Rattle.fst_simulate.specs.declared.kinds.Kind.{Kind}
-use Rattle.fst_simulate.specs.declared.places.Place.{Place}
-use Rattle.fst_simulate.specs.Grids.{Reads, WritesRank, HasBit, Completes, items_at, rest_at, GridList}
-use Rattle.fst_simulate.specs.Tables.{ClassSets, TripleSets, completing}
-use Rattle.fst_simulate.specs.Kinds.{HasKind, HasCell}
+use Rattle.std.proofs.lemmas.Option.{slice_get_within}
+use Rattle.fst_simulate.specs.Grids.{items_at}
 use Rattle.fst_simulate.specs.Places.{IsPlaceAt}
-use Rattle.fst_simulate.proofs.GridLemmas.{at_grid, at_end, at_place, the_place, states_are, both_ways, completes_by, HasCell-of, item_there}
+use Rattle.fst_simulate.proofs.GridLemmas.{at_place, the_place, both_ways}
 use Rattle.fst_simulate.proofs.grids.Grids.ends.Goals as goal
 use Rattle.fst_simulate.proofs.grids.Grids.ends.Goals.{After-place_of-place}
 

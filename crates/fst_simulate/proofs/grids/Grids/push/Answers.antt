@@ -1,5 +1,4 @@
-use Rattle.std.proofs.Common.{◌≡◌, ◌∙◌, ◌<◌, sym, ap, subst, refl, arith, ℕ, List, length}
-use Rattle.std.specs.List.{All}
+use Rattle.std.proofs.Common.{◌≡◌, ◌∙◌, ◌<◌, sym, ap, subst, arith, ℕ, List, length}
 use Rattle.mine_model.specs.declared.item.Item.{Item}
 use Rattle.mine_model.specs.Support.{Sequence}
 use Rattle.mine_model.specs.Database.{sequence_at}

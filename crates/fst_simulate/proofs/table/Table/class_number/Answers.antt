@@ -1,7 +1,7 @@
-use Rattle.std.proofs.Common.{arith, ◌<◌, ◌≡◌, ℕ, map, length, sym, subst}
+use Rattle.std.proofs.Common.{◌<◌, map, length, sym, subst}
 use Rattle.std.specs.List.{All}
-use Rattle.fst_simulate.specs.Tables.{TableValue, ClassSets, class_sets, triple_sets, AreBelow, IsTable}
-use Rattle.fst_simulate.proofs.TableLemmas.{IsTable-classes, AreBelow-of, All-wider}
+use Rattle.fst_simulate.specs.Tables.{TableValue, class_sets, triple_sets, AreBelow}
+use Rattle.fst_simulate.proofs.TableLemmas.{IsTable-classes, AreBelow-of}
 use Rattle.fst_simulate.proofs.table.Table.class_number.Goals as goal
 
 pub invariant_of-self : goal.invariant_of-self

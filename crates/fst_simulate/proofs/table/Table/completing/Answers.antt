@@ -1,4 +1,4 @@
-use Rattle.std.proofs.Common.{arith, ◌<◌, ◌≤◌, ◌*◌, ◌≡◌, ◌↔◌, ℕ, map, length, sym, subst, ap, ◌∙◌, Some, true, false}
+use Rattle.std.proofs.Common.{◌≤◌, ◌*◌, ◌≡◌, map, length, sym, subst, Some}
 use Rattle.std.specs.List.{slice_get}
 use Rattle.fst_simulate.specs.Tables.{TableValue, triple_sets}
 use Rattle.fst_simulate.proofs.TableLemmas.{mapped_is, words_long, words_bit}

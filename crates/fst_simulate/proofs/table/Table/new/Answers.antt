@@ -1,6 +1,5 @@
-use Rattle.std.proofs.Common.{◌≡◌, map, [], ◌∷◌, refl, sym, ap, ◌∙◌, List}
 use Rattle.fst_simulate.specs.declared.table.Triple.{Triple}
-use Rattle.fst_simulate.specs.Tables.{TripleSets, IsLast, triple_sets}
+use Rattle.fst_simulate.specs.Tables.{triple_sets}
 use Rattle.fst_simulate.proofs.TableLemmas.{first_inserted, IsLast-of, triple_eq}
 use Rattle.fst_simulate.proofs.table.Table.new.Goals as goal
 

@@ -1,7 +1,7 @@
-use Rattle.std.proofs.Common.{arith, rules, ◌<◌, ◌+◌, ◌*◌, ◌⊎◌, ◌≢◌, ◌≡◌, ◌++◌, ℕ, List, map, length, sym, refl, ◌∙◌, ap, subst, Some}
+use Rattle.std.proofs.Common.{arith, rules, ◌<◌, ◌+◌, ◌*◌, ◌⊎◌, ◌≢◌, ◌≡◌, ℕ, List, map, length, sym, ap, subst, Some}
 use Rattle.std.specs.List.{slice_get, slice_index}
 use Rattle.state_bits.specs.Members.{Has}
-use Rattle.fst_simulate.specs.Tables.{TableValue, ClassSets, TripleSets, class_sets, triple_sets, AreBelow, IsTable, IsStep, IsStepAt, unknown}
+use Rattle.fst_simulate.specs.Tables.{TableValue, class_sets, triple_sets, AreBelow, IsTable, IsStep, IsStepAt, unknown}
 use Rattle.fst_simulate.proofs.TableLemmas.{map_at, slice_get-grow, IsTable-triples, IsTable-keep}
 use Rattle.fst_simulate.proofs.table.Table.new_step.Given.{Over}
 use Rattle.fst_simulate.proofs.table.Table.new_step.Goals as goal
