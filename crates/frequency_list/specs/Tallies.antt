@@ -18,12 +18,14 @@ place size sequences piece = min (piece * size) (length sequences)
 
 -- the sequences of a piece of this size, by its number
 abbrev pub piece_of : ℕ → List (Sequence Item) → ℕ → List (Sequence Item)
-piece_of size sequences piece = slice_range sequences (place size sequences piece) (place size sequences (piece + 1))
+piece_of size sequences piece =
+    slice_range sequences (place size sequences piece) (place size sequences (piece + 1))
 
 -- so many parts are what is counted in the pieces, in order
 abbrev pub AreTallies : Ancestry → ℕ → List (Sequence Item) → ℕ → List (Vec ℕ) → Type 0
 AreTallies hierarchy size sequences pieces parts =
-    AllZip (λ piece part. IsTally hierarchy (piece_of size sequences piece) part.items) (range_with_len 0 pieces) parts
+    AllZip (λ piece part. IsTally hierarchy (piece_of size sequences piece) part.items)
+    (range_with_len 0 pieces) parts
 
 -- the sum has grown by the weight where the property holds, and else is as it was
 abbrev pub AddsWeight : Type 0 → ℕ → ℕ → ℕ → Type 0

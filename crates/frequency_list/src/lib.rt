@@ -16,11 +16,11 @@ use ranking::ranked;
 use std::alloc::Global;
 use std::thread::Threads;
 
-/// The frequency of each item of the hierarchy, and the ranks of those whose frequency reaches the support: by
-/// falling frequency, and those of one frequency by their names in byte order, a proper prefix first.
+/// The frequency of each item of the hierarchy, and the ranks of those whose frequency reaches the support:
+/// by falling frequency, and those of one frequency by their names in byte order, a proper prefix first.
 ///
-/// The sequences are cut into as many pieces as there are processors, and each piece is counted by a thread of
-/// its own.
+/// The sequences are cut into as many pieces as there are processors, at most 16, and each piece is counted by
+/// a thread of its own; a few sequences are counted by the caller alone.
 pub fn count<R: Threads + Sync>(
     rt: &R,
     alloc: Global,

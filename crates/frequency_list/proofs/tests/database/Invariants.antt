@@ -5,5 +5,5 @@ use Rattle.frequency_list.proofs.tests.database.Given as goal
 abbrev pub invariant-loop-weight : goal.invariant-loop-weight
 invariant-loop-weight l = AllByRecursion (λ s. AllByRecursion (λ t. t.0 < 11) s.items) l.db
 
-abbrev pub invariant-loop-in-loop-weight : goal.invariant-loop-in-loop-weight
-invariant-loop-in-loop-weight l = AllByRecursion (λ s. AllByRecursion (λ t. t.0 < 11) s.items) l.db
+abbrev pub invariant-loop : goal.invariant-loop
+invariant-loop l = AllByRecursion (λ s. AllByRecursion (λ t. t.0 < 11) s.items) l.db
