@@ -11,3 +11,6 @@ mod walk;
 
 pub use listing::CandidateList;
 pub use patterns::candidates;
+
+#[cfg(test)]
+mod tests;
