@@ -1,5 +1,5 @@
-ghost use Rattle.std.specs.Prelude.{◌≡◌, ◌≢◌, ◌↔◌, ℕ, ◌+◌, ◌^◌, ◌<◌, ◌≤◌, List, [], ◌∷◌, length, IfOk, OnOk, Some};
-ghost use Rattle.std.specs.List.{All, AllPairs, Contains, slice_get, slice_index};
+ghost use Rattle.std.specs.Prelude.{◌≡◌, ◌≢◌, ◌↔◌, ℕ, ◌+◌, ◌^◌, ◌<◌, ◌≤◌, List, [], ◌∷◌, IfOk, OnOk, Some};
+ghost use Rattle.std.specs.List.{length, All, AllPairs, Contains, slice_get, slice_index};
 ghost use Rattle.mine_model.specs.declared.row.Row.{Row};
 ghost use Rattle.candidate_gen.specs.Candidates.{AreRanked};
 ghost use Rattle.count_engine.specs.Tries.{Extends};
@@ -13,8 +13,8 @@ use std::marker::Model;
 
 /// Lists of ranks, each with a sum of weights.
 ///
-/// The lists stand in a trie, and the path has the numbers of the prefixes of the list that was added last: the
-/// candidates of a sequence come in an order where neighbours share prefixes.
+/// The lists stand in a trie, and the path has the numbers of the prefixes of the list that was added last:
+/// the candidates of a sequence come in an order where neighbours share prefixes.
 #[derive(Drop)]
 pub(crate) struct Counts {
     trie: Trie,
