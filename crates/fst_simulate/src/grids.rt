@@ -1,20 +1,30 @@
-ghost use Rattle.std.specs.Prelude.{◌≡◌, ℕ, ◌+◌, ◌*◌, ◌≤◌, ◌<◌, ◌↔◌, length, [], ◌∷◌, ◌++◌, IfOk, OnOk, OnErr, IsTrue, Contains, Some, slice_get};
+ghost use Rattle.std.specs.Prelude.{◌≡◌, ℕ, ◌+◌, ◌-◌, ◌*◌, ◌≤◌, ◌<◌, ◌↔◌, length, [], ◌∷◌, ◌++◌, IfOk, OnOk, OnErr, IsTrue, Contains, Some, slice_get, slice_index};
 ghost use Rattle.mine_model.specs.declared.item.Item.{Item};
 ghost use Rattle.fst_simulate.specs.Grids.{Completes, Ends, Reads, WritesRank, HasBit, items_at, rest_at};
 
 use super::bound::Bound;
 use super::job::Job;
+use super::kinds::{Kinds, Scratch, outputs_of};
+use super::places::{Place, push_places};
+use super::tables::Tables;
 use fst_compile::State;
 use mine_model::NoMemory;
 use std::alloc::Global;
 use std::marker::Model;
 
-/// Grids of sequences of a job under one bound: which states can still lead to the end of a sequence at each place
-/// of it, and what may be written there. What was found out for one sequence serves the next ones.
+/// Grids of sequences of a job under one bound: which states can still lead to the end of a sequence at each
+/// place of it, and what may be written there. What was found out for one sequence serves the next ones.
 #[derive(Drop)]
 pub struct Grids<'a> {
     job: &'a Job,
     bound: Bound,
+    tables: Tables,
+    kinds: Kinds,
+    scratch: Scratch,
+    // The places of all grids, those of one from the last to the first.
+    places: Vec<Place>,
+    // The number of places up to the end of each grid, and the number of its sequence.
+    ends: Vec<usize>,
     sequences: Vec<u32>,
 }
 
@@ -30,7 +40,10 @@ impl<'a> Model for Grids<'a> {
 
     ghost view = { λ g. record { problem = g.job.now; bound = g.bound; sequences = g.sequences.items } };
 
-    ghost invariant = { λ g. ⊥ };
+    ghost use Rattle.fst_simulate.specs.Places.{AreGrids};
+
+    ghost invariant = { λ g. AreGrids g.job.now g.bound g.tables g.kinds g.places.items g.ends.items
+        g.sequences.items };
 }
 
 impl<'a> Grids<'a> {
@@ -38,10 +51,16 @@ impl<'a> Grids<'a> {
     pub fn new(alloc: Global, job: &'a Job, bound: Bound) -> Result<Grids<'a>, NoMemory>
         ensures { IfOk result (λ grids. grids ≡ record { problem = job.now; bound = bound; sequences = [] }) }
     {
-        let _alloc = alloc;
-        let _job = job;
-        let _bound = bound;
-        Err(NoMemory)
+        Ok(Grids {
+            job,
+            bound,
+            tables: Tables::new(alloc, job.fst())?,
+            kinds: Kinds::new(alloc, job.hierarchy().items())?,
+            scratch: Scratch::new(alloc),
+            places: Vec::new(alloc),
+            ends: Vec::new(alloc),
+            sequences: Vec::new(alloc),
+        })
     }
 
     /// Makes the grid of a sequence, behind the others.
@@ -50,19 +69,34 @@ impl<'a> Grids<'a> {
         ensures ok { OnOk result (self.new ≡ record self.old { sequences = self.old.sequences ++ seq ∷ [] }) }
         ensures err { OnErr result (self.new ≡ self.old) }
     {
-        let _sequences = &self.sequences;
-        let _seq = seq;
-        Err(NoMemory)
+        self.sequences.reserve(1)?;
+        self.ends.reserve(1)?;
+        let items = self.job.db().sequence(seq);
+        push_places(
+            self.job,
+            self.bound,
+            &mut self.tables,
+            &mut self.kinds,
+            &mut self.scratch,
+            &mut self.places,
+            items,
+        )?;
+        self.ends.push_reserved(self.places.len());
+        self.sequences.push_reserved(seq);
+        Ok(())
     }
 
     /// Drops all grids, and keeps what serves the next ones. Takes no memory.
     pub fn clear(&mut self)
         ensures { self.new ≡ record self.old { sequences = [] } }
     {
+        self.places.clear();
+        self.ends.clear();
         self.sequences.clear();
     }
 
-    /// Whether state q completes at a position of a grid, where what is needed was seen or was not. Takes no memory.
+    /// Whether state q completes at a position of a grid, where what is needed was seen or was not. Takes no
+    /// memory.
     pub fn completes(&self, grid: u32, pos: u32, q: State, seen: bool) -> bool
         requires grid { grid < length self.now.sequences }
         requires pos { pos ≤ length (items_at self.now grid) }
@@ -70,12 +104,8 @@ impl<'a> Grids<'a> {
         ensures { IsTrue result
             ↔ Completes self.now.problem self.now.bound (rest_at self.now grid pos) q.0 seen }
     {
-        let _sequences = &self.sequences;
-        let _grid = grid;
-        let _pos = pos;
-        let _q = q;
-        let _seen = seen;
-        false
+        let place = place_of(self.places.as_slice(), self.ends.as_slice(), grid, pos);
+        self.tables.completes(place.triple, q.0, seen)
     }
 
     /// Whether state q ends at a position of a grid. Takes no memory.
@@ -85,11 +115,8 @@ impl<'a> Grids<'a> {
         requires state { q.0 ≤ length self.now.problem.machine.labels }
         ensures { IsTrue result ↔ Ends self.now.problem (rest_at self.now grid pos) q.0 }
     {
-        let _sequences = &self.sequences;
-        let _grid = grid;
-        let _pos = pos;
-        let _q = q;
-        false
+        let place = place_of(self.places.as_slice(), self.ends.as_slice(), grid, pos);
+        self.tables.ends(place.triple, q.0)
     }
 
     /// The states that complete at a position of a grid, as words of 64 of them. Takes no memory.
@@ -101,14 +128,12 @@ impl<'a> Grids<'a> {
             → (HasBit result.now state
             ↔ Completes self.now.problem self.now.bound (rest_at self.now grid pos) state seen) }
     {
-        let _sequences = &self.sequences;
-        let _grid = grid;
-        let _pos = pos;
-        let _seen = seen;
-        &[]
+        let place = place_of(self.places.as_slice(), self.ends.as_slice(), grid, pos);
+        self.tables.completing(place.triple, seen)
     }
 
-    /// Whether the edges into state k match the item at a position of a grid and write nothing. Takes no memory.
+    /// Whether the edges into state k match the item at a position of a grid and write nothing. Takes no
+    /// memory.
     pub fn is_silent(&self, grid: u32, pos: u32, k: State) -> bool
         requires grid { grid < length self.now.sequences }
         requires pos { pos < length (items_at self.now grid) }
@@ -117,11 +142,9 @@ impl<'a> Grids<'a> {
         ensures { (t : Item) → slice_get (items_at self.now grid) pos ≡ Some t
             → (IsTrue result ↔ Reads self.now.problem t k.0 []) }
     {
-        let _sequences = &self.sequences;
-        let _grid = grid;
-        let _pos = pos;
-        let _k = k;
-        false
+        let place = place_of(self.places.as_slice(), self.ends.as_slice(), grid, pos);
+        let class = self.kinds.kinds[place.kind as usize].class;
+        self.tables.is_silent(class, k.0)
     }
 
     /// What the edges into state k may write at a position of a grid, as ranks. Takes no memory.
@@ -133,10 +156,17 @@ impl<'a> Grids<'a> {
         ensures { (t : Item) (rank : ℕ) → slice_get (items_at self.now grid) pos ≡ Some t
             → (Contains result.now rank ↔ WritesRank self.now.problem self.now.bound t k.0 rank) }
     {
-        let _sequences = &self.sequences;
-        let _grid = grid;
-        let _pos = pos;
-        let _k = k;
-        &[]
+        let place = place_of(self.places.as_slice(), self.ends.as_slice(), grid, pos);
+        outputs_of(&self.kinds, place.kind, k.0)
     }
+}
+
+// The place at a position of a grid.
+fn place_of(places: &[Place], ends: &[usize], grid: u32, pos: u32) -> Place
+    requires grid { grid < length ends.now }
+    requires before { pos < slice_index ends.now grid }
+    requires within { slice_index ends.now grid - 1 - pos < length places.now }
+    ensures { slice_get places.now (slice_index ends.now grid - 1 - pos) ≡ Some result }
+{
+    places[ends[grid as usize] - 1 - pos as usize]
 }

@@ -9,8 +9,8 @@ use fst_compile::Fst;
 use mine_model::{Db, Hierarchy, Ranks};
 use std::marker::Model;
 
-/// What an engine mines: the sequences with their hierarchy, the transducer of the expression, the ranks of the
-/// frequent items, and the least support.
+/// What an engine mines: the sequences with their hierarchy, the transducer of the expression, the ranks of
+/// the frequent items, and the least support.
 #[derive(Drop)]
 pub struct Job {
     hierarchy: Hierarchy,

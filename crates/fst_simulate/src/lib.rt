@@ -1,10 +1,16 @@
-//! What can still come of each place of a sequence: which states lead to its end, and what may be written there.
+//! What can still come of each place of a sequence: which states lead to its end, and what may be written
+//! there.
 #![tactic(auto)]
 
 mod bound;
 mod grid;
 mod grids;
 mod job;
+mod kinds;
+mod number;
+mod places;
+mod table;
+mod tables;
 
 pub use bound::Bound;
 pub use grid::Grid;

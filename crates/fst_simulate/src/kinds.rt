@@ -1,0 +1,245 @@
+//! What items may do under a bound, found out when they are first met.
+
+ghost use Rattle.std.specs.Prelude.{◌≡◌, ◌≢◌, ℕ, ◌+◌, ◌≤◌, ◌<◌, ◌⊎◌, ◌↔◌, AllPairs, ◌-◌, [], length, slice_index, slice_get, slice_range, Some, Contains, IfOk, OnOk, IsTrue};
+ghost use Rattle.mine_model.specs.declared.item.Item.{Item};
+ghost use Rattle.mine_model.specs.Ranks.{HasRank};
+ghost use Rattle.fst_simulate.specs.Grids.{Reads, WritesRank};
+ghost use Rattle.fst_simulate.specs.Tables.{Grows, unknown};
+ghost use Rattle.fst_simulate.specs.Kinds.{IsTarget, IsNeededRank, IsRow, AreEntered, Extends, HasKind, HasCell, AreKinds, KindsGrow};
+ghost use Rattle.fst_simulate.specs.declared.kinds.Kind.{Kind};
+
+use super::bound::Bound;
+use super::job::Job;
+use super::number::{NONE, to_number};
+use super::tables::Tables;
+use fst_compile::{State, outputs};
+use mine_model::{Item, NoMemory, Ranks};
+use std::alloc::Global;
+
+/// What an item may do: the class of its steps, and where the ends of its outputs begin.
+#[derive(Clone, Copy, Debug)]
+pub(crate) struct Kind {
+    pub(crate) class: u32,
+    pub(crate) base: usize,
+}
+
+/// The kinds of the items met so far, and their outputs as ranks, state by state behind each other.
+///
+/// From the base of a kind on there is where its outputs begin, and then where those of each state end.
+#[derive(Drop)]
+pub(crate) struct Kinds {
+    // By the number of an item that of its kind, or `NONE`.
+    pub(crate) numbers: Vec<u32>,
+    pub(crate) kinds: Vec<Kind>,
+    pub(crate) ends: Vec<u32>,
+    pub(crate) ranks: Vec<u32>,
+}
+
+/// Room for what is found out of one item: the states that it leads into without an output, at all, and with
+/// an output that is needed; the outputs at one state, and their ranks.
+#[derive(Drop)]
+pub(crate) struct Scratch {
+    pub(crate) silent: Vec<u32>,
+    pub(crate) goes: Vec<u32>,
+    pub(crate) needs: Vec<u32>,
+    written: Vec<Item>,
+    found: Vec<u32>,
+}
+
+impl Scratch {
+    /// Empty room.
+    pub(crate) fn new(alloc: Global) -> Scratch {
+        Scratch {
+            silent: Vec::new(alloc),
+            goes: Vec::new(alloc),
+            needs: Vec::new(alloc),
+            written: Vec::new(alloc),
+            found: Vec::new(alloc),
+        }
+    }
+}
+
+impl Kinds {
+    /// No kinds yet of so many items.
+    pub(crate) fn new(alloc: Global, items: u32) -> Result<Kinds, NoMemory>
+        ensures { IfOk result (λ kinds. (length kinds.numbers.items ≡ items)
+            × ((k : ℕ) → k < length kinds.numbers.items → slice_index kinds.numbers.items k ≡ unknown)) }
+    {
+        Ok(Kinds {
+            numbers: vec![in alloc; NONE; items as usize]?,
+            kinds: Vec::new(alloc),
+            ends: Vec::new(alloc),
+            ranks: Vec::new(alloc),
+        })
+    }
+}
+
+/// What the edges into state k may write at an item of the kind with this number, as ranks.
+pub(crate) fn outputs_of(kinds: &Kinds, number: u32, k: u32) -> &[u32]
+    requires state { 0 < k }
+    requires cell { HasCell kinds.now number k }
+    ensures { (kind : Kind) → slice_get kinds.now.kinds.items number ≡ Some kind
+        → result.now ≡ slice_range kinds.now.ranks.items
+        (slice_index kinds.now.ends.items (kind.base + k - 1))
+        (slice_index kinds.now.ends.items (kind.base + k)) }
+{
+    let end = kinds.kinds[number as usize].base + k as usize;
+    &kinds.ranks[kinds.ends[end - 1] as usize..kinds.ends[end] as usize]
+}
+
+/// The number of the kind of an item, which is found out if it was not yet met.
+pub(crate) fn kind_of(
+    job: &Job,
+    bound: Bound,
+    tables: &mut Tables,
+    kinds: &mut Kinds,
+    scratch: &mut Scratch,
+    t: Item,
+) -> Result<u32, NoMemory>
+    requires item { t.0 < job.now.hierarchy.items }
+    requires states { length tables.old.predecessors ≡ length job.now.machine.labels + 1 }
+    requires kinds { AreKinds job.now bound tables.old.classes kinds.old }
+    ensures tables { Grows tables.old tables.new }
+    ensures grow { KindsGrow kinds.old kinds.new }
+    ensures kinds { AreKinds job.now bound tables.new.classes kinds.new }
+    ensures kind { IfOk result (λ number. HasKind job.now bound tables.new.classes kinds.new t number) }
+{
+    let known = kinds.numbers[t.0 as usize];
+    if known != NONE {
+        return Ok(known);
+    }
+    let base = kinds.ends.len();
+    push_outputs(job, bound, t, &mut kinds.ends, &mut kinds.ranks, scratch)?;
+    let class = tables.class_number(
+        scratch.silent.as_slice(),
+        scratch.goes.as_slice(),
+        scratch.needs.as_slice(),
+    )?;
+    let number = to_number(kinds.kinds.len())?;
+    kinds.kinds.push(Kind { class, base })?;
+    kinds.numbers[t.0 as usize] = number;
+    Ok(number)
+}
+
+// The outputs of an item at all states behind the others, and the states that it leads into.
+fn push_outputs(
+    job: &Job,
+    bound: Bound,
+    t: Item,
+    ends: &mut Vec<u32>,
+    ranks: &mut Vec<u32>,
+    scratch: &mut Scratch,
+) -> Result<(), NoMemory>
+    requires { t.0 < job.now.hierarchy.items }
+    ensures ends { Extends ends.old.items ends.new.items }
+    ensures ranks { Extends ranks.old.items ranks.new.items }
+    ensures row { OnOk result (IsRow job.now bound t (length ends.old.items) ends.new.items ranks.new.items
+        (length job.now.machine.labels + 1)) }
+    ensures entered { OnOk result (AreEntered job.now bound t (length job.now.machine.labels + 1)
+        scratch.new.silent.items scratch.new.goes.items scratch.new.needs.items) }
+{
+    scratch.silent.clear();
+    scratch.goes.clear();
+    scratch.needs.clear();
+    ends.push(to_number(ranks.len())?)?;
+    for k in 1..job.fst().states() {
+        push_at(job, bound, t, k, ends, ranks, scratch)?;
+    }
+    Ok(())
+}
+
+// The same at one state, where it is done for those before it. The row begins where `base` says.
+fn push_at(
+    job: &Job,
+    bound: Bound,
+    t: Item,
+    k: u32,
+    ends: &mut Vec<u32>,
+    ranks: &mut Vec<u32>,
+    scratch: &mut Scratch,
+) -> Result<(), NoMemory>
+    requires item { t.0 < job.now.hierarchy.items }
+    requires state { IsTarget job.now k }
+    ensures ends { Extends ends.old.items ends.new.items }
+    ensures ranks { Extends ranks.old.items ranks.new.items }
+    ensures row { OnOk result ((base : ℕ) → IsRow job.now bound t base ends.old.items ranks.old.items k
+        → IsRow job.now bound t base ends.new.items ranks.new.items (k + 1)) }
+    ensures entered { OnOk result (AreEntered job.now bound t k
+        scratch.old.silent.items scratch.old.goes.items scratch.old.needs.items
+        → AreEntered job.now bound t (k + 1)
+        scratch.new.silent.items scratch.new.goes.items scratch.new.needs.items) }
+{
+    let silent = read_at(job, bound, t, k, &mut scratch.written, &mut scratch.found)?;
+    let found = scratch.found.as_slice();
+    let any = is_needed(None, found);
+    let needed = is_needed(bound.need, found);
+    push_if(&mut scratch.silent, k, silent)?;
+    push_if(&mut scratch.goes, k, silent | any)?;
+    push_if(&mut scratch.needs, k, needed)?;
+    ranks.extend_from_slice(found)?;
+    ends.push(to_number(ranks.len())?)?;
+    Ok(())
+}
+
+// What edges into state k may write at an item, as ranks, and whether they match it and write nothing.
+fn read_at(
+    job: &Job,
+    bound: Bound,
+    t: Item,
+    k: u32,
+    written: &mut Vec<Item>,
+    found: &mut Vec<u32>,
+) -> Result<bool, NoMemory>
+    requires item { t.0 < job.now.hierarchy.items }
+    requires state { IsTarget job.now k }
+    ensures silent { IfOk result (λ silent. IsTrue silent ↔ Reads job.now t k []) }
+    ensures found { OnOk result ((rank : ℕ) → Contains found.new.items rank
+        ↔ WritesRank job.now bound t k rank) }
+{
+    found.clear();
+    let leaf = job.fst().leaf(State(k));
+    let matches = outputs(job.hierarchy(), &leaf, t, written)?;
+    if !job.fst().is_captured(State(k)) {
+        return Ok(matches);
+    }
+    push_ranks(job.ranks(), written.as_slice(), bound.top, found)?;
+    Ok(false)
+}
+
+// The ranks up to the top of those of the items that have one.
+fn push_ranks(ranks: &Ranks, items: &[Item], top: u32, found: &mut Vec<u32>) -> Result<(), NoMemory>
+    requires once { AllPairs (λ v w. v ≢ w) ranks.now.order }
+    requires empty { found.old.items ≡ [] }
+    ensures { OnOk result ((rank : ℕ) → Contains found.new.items rank
+        ↔ ((v : Item) × Contains items.now v × HasRank ranks.now.order v rank × (rank ≤ top))) }
+{
+    for item in items {
+        if let Some(rank) = ranks.rank(*item) {
+            if rank <= top {
+                found.push(rank)?;
+            }
+        }
+    }
+    Ok(())
+}
+
+// Whether one of the ranks is the one that is needed; where none is, any is.
+fn is_needed(need: Option<u32>, ranks: &[u32]) -> bool
+    ensures { IsTrue result ↔ ((rank : ℕ) × Contains ranks.now rank × IsNeededRank need rank) }
+{
+    match need {
+        None => !ranks.is_empty(),
+        Some(need) => ranks.contains(&need),
+    }
+}
+
+// Appends the number where the condition holds.
+fn push_if(list: &mut Vec<u32>, k: u32, holds: bool) -> Result<(), NoMemory>
+    ensures { OnOk result ((j : ℕ) → Contains list.new.items j
+        ↔ (Contains list.old.items j ⊎ ((j ≡ k) × IsTrue holds))) }
+{
+    if holds {
+        list.push(k)?;
+    }
+    Ok(())
+}
