@@ -1,5 +1,5 @@
 -- The places of a prefix at one position, taken one by one.
-use Rattle.std.proofs.Common.{◌≡◌, ◌↔◌, ℕ, ◌≤◌, ◌⊎◌, inl, inr, Bool, true, false, IsTrue, List, [], ◌∷◌, ◌++◌, length, drop, refl, sym, ap, ◌∙◌, subst, append_assoc}
+use Rattle.std.proofs.Common.{◌≡◌, ◌↔◌, ℕ, ◌≤◌, ◌⊎◌, inl, inr, Bool, true, false, List, [], ◌∷◌, ◌++◌, length, drop, refl, sym, ap, ◌∙◌, subst, append_assoc}
 use Rattle.std.specs.List.{Contains}
 use Rattle.std.proofs.lemmas.List.{append-nil}
 use Rattle.std.proofs.lemmas.List.Elements.{Contains-append_left, Contains-append_right, Contains-append_cases}
@@ -15,7 +15,7 @@ use Rattle.candidate_gen.specs.Steps.{AreStates, Absorbs}
 pub last-cases : {X : Type 0} (xs ys : List X) (y x : X) → xs ≡ ys ++ y ∷ [] → Contains xs x → Contains ys x ⊎ (x ≡ y)
 last-cases xs ys y x same inside = elim (Contains-append_cases ys (y ∷ []) x (subst (λ l. Contains l x) same inside)) [
   | inl early ↦ inl early
-  | inr last ↦ elim (Contains-cases y [] x last) [ | inl is ↦ inr is | inr none ↦ absurd (Contains-none x none) ]
+  | inr last ↦ elim (Contains-cases y [] x last) [ inl is ↦ inr is | inr none ↦ absurd (Contains-none x none) ]
 ]
 
 pub last-held : {X : Type 0} (xs ys : List X) (y : X) → xs ≡ ys ++ y ∷ [] → Contains xs y
@@ -49,11 +49,10 @@ module _ (space : Space) (depth rank position : ℕ) where
       (within : state ≤ length space.problem.machine.labels)
       (adds : (other : ℕ) → Has now other ↔ (Has live other ⊎ ((other ≡ state) × WritesMore space position state))) where
     cut-more : (taken : List Place) × (before ≡ rest ++ taken)
-    cut-more = let (taken, same) = so_far.cut in
-        (
-          (record { depth = depth; rank = rank; position = position; state = state }) ∷ taken,
-          same ∙ ap (λ l. l ++ taken) next_is ∙ append_assoc rest ((record { depth = depth; rank = rank; position = position; state = state }) ∷ []) taken,
-        )
+    cut-more = let (taken, same) = so_far.cut in (
+      (record { depth = depth; rank = rank; position = position; state = state }) ∷ taken,
+      same ∙ ap (λ l. l ++ taken) next_is ∙ append_assoc rest ((record { depth = depth; rank = rank; position = position; state = state }) ∷ []) taken,
+    )
 
     parts-more : (p : Place) → Contains before p → Contains rest p ⊎ IsOf depth rank p
     parts-more p inside = elim (so_far.parts p inside) [
@@ -121,9 +120,9 @@ module _ (space : Space) (depth rank position : ℕ) where
       ends = (
         (λ h. elim (so_far.ends.0 h) [
           | inl stopped ↦ inl stopped
-          | inr waits ↦ elim ((follows-rest []).0 waits) [ | inl still ↦ inr still | inr stops ↦ absurd (goes stops) ]
+          | inr waits ↦ elim ((follows-rest []).0 waits) [ inl still ↦ inr still | inr stops ↦ absurd (goes stops) ]
         ]),
-        (λ h. so_far.ends.1 (elim h [ | inl stopped ↦ inl stopped | inr still ↦ inr ((follows-rest []).1 (inl still)) ])),
+        (λ h. so_far.ends.1 (elim h [ inl stopped ↦ inl stopped | inr still ↦ inr ((follows-rest []).1 (inl still)) ])),
       );
       states = states-more;
     }

@@ -1,18 +1,14 @@
 -- One item of the sequence, read from all live states.
-use Rattle.std.proofs.Common.{◌≡◌, ◌↔◌, ℕ, ◌+◌, ◌<◌, ◌≤◌, ◌⊎◌, inl, inr, Bool, true, false, Some, List, [], ◌∷◌, ◌++◌, length, map, drop, refl, sym, ap, ◌∙◌, subst, arith}
-use Rattle.std.specs.List.{Contains, slice_get, slice_index_or}
-use Rattle.std.proofs.lemmas.List.{append-nil}
+use Rattle.std.proofs.Common.{◌≡◌, ◌↔◌, ℕ, ◌+◌, ◌≤◌, ◌⊎◌, inl, inr, Some, List, ◌++◌, length, map, drop, refl, sym, ap, ◌∙◌, subst}
+use Rattle.std.specs.List.{Contains, slice_get}
 use Rattle.std.proofs.lemmas.List.Elements.{Contains-append_left, Contains-append_right, Contains-append_cases}
-use Rattle.state_bits.specs.Members.{Has}
 use Rattle.mine_model.specs.declared.item.Item.{Item}
-use Rattle.mine_model.specs.Ranks.{HasRank}
-use Rattle.mine_model.proofs.ListLemmas.{Contains-cases, Contains-first, Contains-none, Contains-from, Contains-by}
-use Rattle.fst_simulate.specs.Grids.{Reads}
+use Rattle.mine_model.proofs.ListLemmas.{Contains-from, Contains-by}
 use Rattle.candidate_gen.specs.declared.place.Place.{Place}
 use Rattle.candidate_gen.specs.Paths.{Space, Writes}
-use Rattle.candidate_gen.specs.Places.{FollowsFound, FollowsLive}
-use Rattle.candidate_gen.specs.Views.{WritesMore, WritesAs}
-use Rattle.candidate_gen.specs.Steps.{IsAhead, FollowsInto, AreStates, AddsPlaces}
+use Rattle.candidate_gen.specs.Places.{FollowsFound}
+use Rattle.candidate_gen.specs.Views.{WritesAs}
+use Rattle.candidate_gen.specs.Steps.{AddsPlaces}
 
 -- the places of these ranks
 abbrev pub places_of : ℕ → ℕ → ℕ → List ℕ → List Place
@@ -36,13 +32,13 @@ module _ (space : Space) (depth position state : ℕ) (found now : List Place) (
       | inl (place, inside, is, follows) ↦
           (place, subst (λ l. Contains l place) (sym pushed) (Contains-append_left found (places_of depth position state ranks) place inside), is, follows)
       | inr (held, follows) ↦ (
-          record { depth = depth; rank = next; position = position; state = state },
-          subst (λ l. Contains l (record { depth = depth; rank = next; position = position; state = state })) (sym pushed)
-              (Contains-append_right found (places_of depth position state ranks) (record { depth = depth; rank = next; position = position; state = state })
-              (Contains-by (λ r. record { depth = depth; rank = r; position = position; state = state }) ranks next held)),
-          refl,
-          follows,
-        )
+        record { depth = depth; rank = next; position = position; state = state },
+        subst (λ l. Contains l (record { depth = depth; rank = next; position = position; state = state })) (sym pushed)
+            (Contains-append_right found (places_of depth position state ranks) (record { depth = depth; rank = next; position = position; state = state })
+            (Contains-by (λ r. record { depth = depth; rank = r; position = position; state = state }) ranks next held)),
+        refl,
+        follows,
+      )
     ]),
   )
 
@@ -67,8 +63,8 @@ pub entered-writing : (space : Space) (depth position state : ℕ) (found now : 
     ⊎ (WritesAs space.problem t state next × Writes space (drop (position + 1) space.sequence) state others))
 entered-writing space depth position state found now ranks pushed says t at next others =
     let law = found-pushed space depth (position + 1) state found now ranks pushed next others in (
-      (λ h. elim (law.0 h) [ | inl old ↦ inl old | inr (held, follows) ↦ inr ((says t next at).0 held, follows) ]),
-      (λ h. law.1 (elim h [ | inl old ↦ inl old | inr (writes, follows) ↦ inr ((says t next at).1 writes, follows) ])),
+      (λ h. elim (law.0 h) [ inl old ↦ inl old | inr (held, follows) ↦ inr ((says t next at).0 held, follows) ]),
+      (λ h. law.1 (elim h [ inl old ↦ inl old | inr (writes, follows) ↦ inr ((says t next at).1 writes, follows) ])),
     )
 
 -- where no path goes on behind the state nothing is found there
@@ -78,4 +74,4 @@ pub entered-nowhere : (space : Space) (position state : ℕ) (found : List Place
     → FollowsFound space found next others ↔ (FollowsFound space found next others
     ⊎ (WritesAs space.problem t state next × Writes space (drop (position + 1) space.sequence) state others))
 entered-nowhere space position state found nowhere t at next others =
-    (inl, (λ h. elim h [ | inl old ↦ old | inr (writes, follows) ↦ absurd (nowhere (others, follows)) ]))
+    (inl, (λ h. elim h [ inl old ↦ old | inr (writes, follows) ↦ absurd (nowhere (others, follows)) ]))

@@ -1,5 +1,5 @@
 -- The stack at the start of a walk, after each step, and at its end.
-use Rattle.std.proofs.Common.{◌≡◌, ◌↔◌, ◌≢◌, ℕ, suc, ◌+◌, ◌-◌, ◌^◌, ◌<◌, ◌≤◌, ◌⊎◌, inl, inr, None, Some, get_or, Bool, true, false, IsTrue, List, [], ◌∷◌, ◌++◌, length, take, drop, refl, sym, ap, ◌∙◌, subst, arith, lit≤}
+use Rattle.std.proofs.Common.{◌≡◌, ℕ, suc, ◌+◌, ◌-◌, ◌^◌, ◌<◌, ◌≤◌, inl, inr, None, Some, get_or, Bool, true, false, List, [], ◌∷◌, ◌++◌, length, take, drop, refl, sym, ap, ◌∙◌, subst, arith, lit≤}
 use Rattle.std.specs.List.{Contains, AllPairs, slice_get}
 use Rattle.std.proofs.lemmas.Option.{slice_get-get_or}
 use Rattle.std.specs.List.Sorted.{IsPermutation}
@@ -7,9 +7,8 @@ use Rattle.std.proofs.lemmas.List.Sorted.{Contains-permutation, IsPermutation-sy
 use Rattle.mine_model.proofs.ListLemmas.{Contains-cases, Contains-first, Contains-none}
 use Rattle.mine_model.proofs.ElementLemmas.{no_members}
 use Rattle.candidate_gen.specs.declared.place.Place.{Place}
-use Rattle.candidate_gen.specs.Candidates.{IsEarlier}
 use Rattle.candidate_gen.specs.Paths.{Space, Writes}
-use Rattle.candidate_gen.specs.Places.{FollowsFound, IsOf, IsPlace, IsBelow, Fits, AreWaiting, prefix_of, grown}
+use Rattle.candidate_gen.specs.Places.{IsOf, IsPlace, IsBelow, Fits, AreWaiting, prefix_of, grown}
 use Rattle.candidate_gen.specs.Walk.{IsWritten, IsToCome, IsListed, AreWritten, Takes, Keeps, Grows, weight}
 use Rattle.candidate_gen.proofs.AbsorbLemmas.{front-held, last-held, last-cases}
 use Rattle.candidate_gen.proofs.PairLemmas.{pairs-across}
@@ -86,7 +85,7 @@ root = record { depth = 0; rank = 0; position = 0; state = 0 }
 
 module _ (space : Space) where
   pub root-only : (place : Place) → Contains (root ∷ []) place → place ≡ root
-  root-only place inside = elim (Contains-cases root [] place inside) [ | inl same ↦ same | inr none ↦ absurd (Contains-none place none) ]
+  root-only place inside = elim (Contains-cases root [] place inside) [ inl same ↦ same | inr none ↦ absurd (Contains-none place none) ]
 
   pub root-of : (place : Place) → Contains (root ∷ []) place → IsOf 0 0 place
   root-of place inside = subst (λ (p : Place). IsOf 0 0 p) (sym (root-only place inside)) (refl, refl)
@@ -138,7 +137,7 @@ module _ (space : Space) where
       earlier = λ first second none coming. absurd (Contains-none first none);
       exact = λ ranks. (
         (λ written. inr (written-to-come ranks written)),
-        (λ h. elim h [ | inl none ↦ absurd (Contains-none ranks none) | inr coming ↦ to-come-written ranks coming ]),
+        (λ h. elim h [ inl none ↦ absurd (Contains-none ranks none) | inr coming ↦ to-come-written ranks coming ]),
       );
     })
 

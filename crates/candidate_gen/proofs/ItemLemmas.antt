@@ -1,6 +1,6 @@
 -- One item of the sequence, read from all live states.
-use Rattle.std.proofs.Common.{◌≡◌, ◌↔◌, ℕ, suc, ◌+◌, ◌-◌, ◌<◌, ◌≤◌, ◌⊎◌, inl, inr, Bool, true, false, Some, List, [], ◌∷◌, ◌++◌, length, drop, get_or, refl, sym, ap, ◌∙◌, subst, arith, append_assoc}
-use Rattle.std.specs.List.{Contains, slice_get, slice_index_or}
+use Rattle.std.proofs.Common.{◌≡◌, ◌↔◌, ℕ, ◌+◌, ◌-◌, ◌<◌, ◌≤◌, ◌⊎◌, inl, inr, Bool, true, false, Some, List, [], ◌∷◌, ◌++◌, length, drop, get_or, refl, sym, ap, ◌∙◌, subst, arith, append_assoc}
+use Rattle.std.specs.List.{Contains, slice_get}
 use Rattle.std.proofs.lemmas.List.{append-nil, drop_more, drop_all}
 use Rattle.std.proofs.lemmas.List.Elements.{Contains-append_left, Contains-append_right, Contains-append_cases}
 use Rattle.std.proofs.lemmas.Option.{slice_get-get_or}
@@ -78,10 +78,18 @@ module _ (space : Space) (position : ℕ) (inside : position < length space.sequ
         let (edge, read, behind) = (writes-step space t (drop (position + 1) space.sequence) state (next ∷ others)).0 (subst (λ l. Writes space l state (next ∷ others)) cut path) in
         let held : Has targets edge.to.0 = (leads edge.to.0).1 (state, has, (edge, read.0, refl)) in
         elim behind [
-          | inl (silent, onward) ↦ (edge.to.0, held, (t, at, inl (
-              reads-edge state edge [] t read.0 read.1 (subst (λ b. WritesAt space.problem.hierarchy.links (leaf_of edge.leaf) b t []) (sym silent) refl),
-              onward,
-            )))
+          | inl (silent, onward) ↦ (
+            edge.to.0,
+            held,
+            (
+              t,
+              at,
+              inl (
+                reads-edge state edge [] t read.0 read.1 (subst (λ b. WritesAt space.problem.hierarchy.links (leaf_of edge.leaf) b t []) (sym silent) refl),
+                onward,
+              ),
+            ),
+          )
           | inr (captured, (v, rank, more, may, ranked, begins, onward)) ↦
               let rank_is : rank ≡ next = cc in
               let more_is : more ≡ others = cc in
@@ -100,14 +108,32 @@ module _ (space : Space) (position : ℕ) (inside : position < length space.sequ
         let path : Writes space (t ∷ drop (position + 1) space.sequence) state (next ∷ others) =
         (writes-step space t (drop (position + 1) space.sequence) state (next ∷ others)).1 (elim either [
           | inl (reads, onward) ↦
-              let own = edge-reads state edge [] t leaves (subst (λ k. Reads space.problem t k []) (sym to_is) reads) in
-              (edge, (leaves, own.0), inl (silent-captured space.problem.hierarchy.links (leaf_of edge.leaf) edge.captured t own.1,
-              subst (λ k. Writes space (drop (position + 1) space.sequence) k (next ∷ others)) (sym to_is) onward))
+              let own = edge-reads state edge [] t leaves (subst (λ k. Reads space.problem t k []) (sym to_is) reads) in (
+                edge,
+                (leaves, own.0),
+                inl (
+                  silent-captured space.problem.hierarchy.links (leaf_of edge.leaf) edge.captured t own.1,
+                  subst (λ k. Writes space (drop (position + 1) space.sequence) k (next ∷ others)) (sym to_is) onward,
+                ),
+              )
           | inr ((v, ranked, reads), onward) ↦
               let own = edge-reads state edge (v ∷ []) t leaves (subst (λ k. Reads space.problem t k (v ∷ [])) (sym to_is) reads) in
-              let written = written-captured space.problem.hierarchy.links (leaf_of edge.leaf) edge.captured t v own.1 in
-              (edge, (leaves, own.0), inr (written.0, (v, next, others, written.1, ranked, refl,
-              subst (λ k. Writes space (drop (position + 1) space.sequence) k others) (sym to_is) onward)))
+              let written = written-captured space.problem.hierarchy.links (leaf_of edge.leaf) edge.captured t v own.1 in (
+                edge,
+                (leaves, own.0),
+                inr (
+                  written.0,
+                  (
+                    v,
+                    next,
+                    others,
+                    written.1,
+                    ranked,
+                    refl,
+                    subst (λ k. Writes space (drop (position + 1) space.sequence) k others) (sym to_is) onward,
+                  ),
+                ),
+              )
         ]) in
         (state, has, subst (λ l. Writes space l state (next ∷ others)) (sym begins) path)
 
@@ -124,8 +150,8 @@ module _ (space : Space) (depth position targets : ℕ) (before : List Place) wh
   step-none left members = record {
     members = members;
     ahead = λ next others. (
-      (λ h. elim h [ | inl (state, has, path) ↦ absurd (Has-none state has) | inr old ↦ inl old ]),
-      (λ h. elim h [ | inl old ↦ inr old | inr (to, none, into) ↦ absurd (Contains-none to none) ]),
+      (λ h. elim h [ inl (state, has, path) ↦ absurd (Has-none state has) | inr old ↦ inl old ]),
+      (λ h. elim h [ inl old ↦ inr old | inr (to, none, into) ↦ absurd (Contains-none to none) ]),
     );
     states = λ state has. absurd (Has-none state has);
     places = λ place inside. inl inside;
@@ -156,7 +182,7 @@ module _ (space : Space) (depth position targets : ℕ) (before : List Place) wh
           | inl had ↦ so_far.states s had
           | inr (is, reads, more) ↦ subst (λ k. k ≤ length space.problem.machine.labels) (sym is) within
         ];
-        places = λ place held. elim (adds place held) [ | inl old ↦ so_far.places place old | inr new ↦ inr new ];
+        places = λ place held. elim (adds place held) [ inl old ↦ so_far.places place old | inr new ↦ inr new ];
       }
     where
       wider : (next : ℕ) (others : List ℕ) → (FollowsFound space before next others ⊎ ((to : ℕ) × Contains done to × FollowsInto space position to next others))
@@ -171,8 +197,11 @@ module _ (space : Space) (depth position targets : ℕ) (before : List Place) wh
       out next others t at h = elim h [
         | inl (s, has, path) ↦ elim ((silent t at s).0 has) [
           | inl had ↦ wider next others ((so_far.ahead next others).0 (inl (s, had, path)))
-          | inr (is, reads, more) ↦ inr (state, Contains-append_right done (state ∷ []) state (Contains-first state []),
-              (t, at, inl (reads, subst (λ k. Writes space (drop (position + 1) space.sequence) k (next ∷ others)) is path)))
+          | inr (is, reads, more) ↦ inr (
+            state,
+            Contains-append_right done (state ∷ []) state (Contains-first state []),
+            (t, at, inl (reads, subst (λ k. Writes space (drop (position + 1) space.sequence) k (next ∷ others)) is path)),
+          )
         ]
         | inr new ↦ elim ((writing t at next others).0 new) [
           | inl old ↦ wider next others ((so_far.ahead next others).0 (inr old))
@@ -252,5 +281,5 @@ step-past space position live found over next others = (
         absurd (cc)
     | inr old ↦ inr old
   ]),
-  (λ h. elim h [ | inl (state, has, path) ↦ absurd (Has-none state has) | inr old ↦ inr old ]),
+  (λ h. elim h [ inl (state, has, path) ↦ absurd (Has-none state has) | inr old ↦ inr old ]),
 )

@@ -1,13 +1,10 @@
 -- The order of lists of ranks, and lists that rise.
-use Rattle.std.proofs.Common.{◌≡◌, ℕ, ◌<◌, inl, inr, List, [], ◌∷◌, ◌++◌, refl, sym, subst}
-use Rattle.std.specs.List.{Contains, AllByRecursion}
+use Rattle.std.proofs.Common.{◌≡◌, ℕ, ◌<◌, List, [], ◌∷◌, ◌++◌, refl, subst}
 use Rattle.std.specs.Ordering.{nat_cmp, ordering_then}
 use Rattle.std.specs.Cmp.{nat_cmp_is}
 use Rattle.std.specs.Cmp.Lexicographic.{slice_cmp}
 use Rattle.std.specs.declared.cmp.Ordering.{Ordering}
 use Rattle.std.specs.declared.cmp.Ordering.TheVariants.{Less, Equal}
-use Rattle.std.proofs.lemmas.List.Elements.{Contains-append_cases}
-use Rattle.mine_model.proofs.ListLemmas.{Contains-first, Contains-other, AllByRecursion-contained}
 use Rattle.candidate_gen.specs.Candidates.{IsEarlier}
 
 same-first : (x : ℕ) (xs ys : List ℕ) → IsEarlier xs ys → IsEarlier (x ∷ xs) (x ∷ ys)

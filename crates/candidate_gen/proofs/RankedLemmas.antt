@@ -1,16 +1,14 @@
 -- Items and their ranks, and what is written as ranks.
-use Rattle.std.proofs.Common.{◌≡◌, ◌↔◌, ◌≢◌, ℕ, zero, suc, ◌+◌, ◌-◌, ◌<◌, ◌≤◌, ◌⊎◌, inl, inr, Some, List, [], ◌∷◌, ◌++◌, length, take, get_or, refl, sym, ap, ◌∙◌, subst, arith}
-use Rattle.std.specs.List.{AllByRecursion, AllPairs, All, Contains, slice_get}
-use Rattle.std.proofs.lemmas.List.{take_all}
+use Rattle.std.proofs.Common.{◌≡◌, ◌↔◌, ℕ, zero, suc, ◌-◌, ◌<◌, ◌≤◌, inl, inr, Some, List, [], ◌∷◌, ◌++◌, length, get_or, refl, ap, ◌∙◌, subst, arith}
+use Rattle.std.specs.List.{AllByRecursion, All, Contains, slice_get}
 use Rattle.std.proofs.lemmas.List.Elements.{Contains-get_or}
-use Rattle.std.proofs.lemmas.Option.{slice_get-get_or, get_or_from_slice_get}
+use Rattle.std.proofs.lemmas.Option.{slice_get-get_or}
 use Rattle.mine_model.specs.declared.item.Item.{Item}
-use Rattle.mine_model.specs.Expression.{tree_of}
-use Rattle.mine_model.specs.Ranks.{HasRank, IsFrequentItem, IsCandidateOf}
+use Rattle.mine_model.specs.Ranks.{HasRank, IsFrequentItem}
 use Rattle.mine_model.proofs.ElementLemmas.{get-held}
 use Rattle.mine_model.proofs.ListLemmas.{Contains-cases}
 use Rattle.fst_simulate.specs.Problems.{Problem, IsWhole, items_of}
-use Rattle.candidate_gen.specs.Candidates.{IsCandidate, AreRanked, AreAllRanked, IsEarlier, AreCandidateRanks, ComesEarlier, AreCandidates}
+use Rattle.candidate_gen.specs.Candidates.{IsCandidate, AreRanked, AreAllRanked, AreCandidateRanks, AreCandidates}
 use Rattle.candidate_gen.specs.Walk.{IsWritten, AreWritten}
 use Rattle.candidate_gen.proofs.ViewLemmas.{rank-within}
 
@@ -88,21 +86,21 @@ module _ (problem : Problem) (seq : ℕ) (whole : IsWhole problem) where
       ↔ ((pattern : List Item) × IsCandidate problem seq pattern × AreRanked problem.ranking.order pattern ranks)
   written-candidates ranks = (
     (λ h. let (some, (output, path, ranked)) = h in (
-        output,
-        record {
-          generated = (
-            (λ none. some (empty ranks (subst (λ o. AreRanked problem.ranking.order o ranks) none ranked))),
-            (whole.paths problem.hierarchy.links (items_of problem seq) output).0 path,
-          );
-          allowed = each-mapped (Contains problem.ranking.order) (IsFrequentItem problem.hierarchy.links problem.sequences problem.threshold)
-              (λ v held. (whole.ranks.frequent v).0 held) output (ranked-held problem.ranking.order output ranks ranked);
-        },
-        ranked,
-      )),
+      output,
+      record {
+        generated = (
+          (λ none. some (empty ranks (subst (λ o. AreRanked problem.ranking.order o ranks) none ranked))),
+          (whole.paths problem.hierarchy.links (items_of problem seq) output).0 path,
+        );
+        allowed = each-mapped (Contains problem.ranking.order) (IsFrequentItem problem.hierarchy.links problem.sequences problem.threshold)
+            (λ v held. (whole.ranks.frequent v).0 held) output (ranked-held problem.ranking.order output ranks ranked);
+      },
+      ranked,
+    )),
     (λ h. let (pattern, candidate, ranked) = h in (
-        (λ none. candidate.generated.0 (no_items pattern (subst (λ r. AreRanked problem.ranking.order pattern r) none ranked))),
-        (pattern, (whole.paths problem.hierarchy.links (items_of problem seq) pattern).1 candidate.generated.1, ranked),
-      )),
+      (λ none. candidate.generated.0 (no_items pattern (subst (λ r. AreRanked problem.ranking.order pattern r) none ranked))),
+      (pattern, (whole.paths problem.hierarchy.links (items_of problem seq) pattern).1 candidate.generated.1, ranked),
+    )),
   )
     where
       empty : (r : List ℕ) → AreRanked problem.ranking.order [] r → r ≡ []

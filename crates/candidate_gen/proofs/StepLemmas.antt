@@ -1,5 +1,5 @@
 -- One step of the walk: a prefix is taken from the stack, and the prefixes that are longer by one wait in its place.
-use Rattle.std.proofs.Common.{◌≡◌, ◌↔◌, ℕ, suc, ◌+◌, ◌-◌, ◌<◌, ◌≤◌, ◌⊎◌, inl, inr, Bool, IsTrue, List, [], ◌∷◌, ◌++◌, length, take, drop, get_or, refl, sym, ap, ◌∙◌, subst, arith, append_assoc}
+use Rattle.std.proofs.Common.{◌≡◌, ℕ, suc, ◌+◌, ◌-◌, ◌<◌, ◌≤◌, ◌⊎◌, inl, inr, Bool, IsTrue, List, [], ◌∷◌, ◌++◌, length, take, drop, get_or, refl, sym, ap, ◌∙◌, subst, arith, append_assoc}
 use Rattle.std.specs.List.{Contains, AllPairs}
 use Rattle.std.proofs.Math.Seq.{drop-cons}
 use Rattle.std.proofs.lemmas.List.{append-nil, take-append-drop, length-append, length-take-le, take-take, take-append-le, take_all, get_or_append_left, get_or-take, get_or_at}
@@ -8,8 +8,8 @@ use Rattle.mine_model.proofs.ListLemmas.{Contains-cases, Contains-first, Contain
 use Rattle.candidate_gen.specs.declared.place.Place.{Place}
 use Rattle.candidate_gen.specs.Paths.{Space}
 use Rattle.candidate_gen.specs.Candidates.{IsEarlier}
-use Rattle.candidate_gen.specs.Places.{Follows, FollowsOf, FollowsFound, prefix_of, grown, IsBelow, Fits, AreWaiting, IsOf}
-use Rattle.candidate_gen.specs.Walk.{IsWritten, IsToCome, IsListed, Takes}
+use Rattle.candidate_gen.specs.Places.{Follows, prefix_of, grown, IsBelow, Fits, AreWaiting, IsOf}
+use Rattle.candidate_gen.specs.Walk.{IsToCome, IsListed, Takes}
 use Rattle.candidate_gen.proofs.OrderLemmas.{prefix-earlier, branch-earlier}
 use Rattle.candidate_gen.proofs.PairLemmas.{pairs-front, pairs-across}
 

@@ -17,7 +17,6 @@ use Rattle.fst_simulate.specs.Grids.{IsAllowed, HoldsNeeded, Completes, Ends, Wr
 use Rattle.candidate_gen.specs.Candidates.{AreRanked}
 use Rattle.candidate_gen.specs.Paths.{Space, Writes}
 use Rattle.candidate_gen.specs.Views.{IsGridOf, WritesMore, WritesAs, LeadsFrom}
-use Rattle.candidate_gen.proofs.PathLemmas.{ranked-first}
 
 -- a rank is that of a place of the order
 pub rank-within : (order : List Item) (v : Item) (rank : ℕ) → HasRank order v rank → (1 ≤ rank) × (rank ≤ length order)
@@ -132,8 +131,12 @@ module _ (edges : List Edge) (before : ℕ) where
         | inl old ↦ inl old
         | inr (edge, held, same) ↦ inr (edge, subst (λ l. Contains l edge) (sym (take_more edges index d inside)) (Contains-append_left (take index edges) (get_or edges index d ∷ []) edge held), same)
       ]
-      | inr same ↦ inr (get_or edges index d, subst (λ l. Contains l (get_or edges index d)) (sym (take_more edges index d inside))
-          (Contains-append_right (take index edges) (get_or edges index d ∷ []) (get_or edges index d) (Contains-first (get_or edges index d) [])), sym same)
+      | inr same ↦ inr (
+        get_or edges index d,
+        subst (λ l. Contains l (get_or edges index d)) (sym (take_more edges index d inside))
+            (Contains-append_right (take index edges) (get_or edges index d ∷ []) (get_or edges index d) (Contains-first (get_or edges index d) [])),
+        sym same,
+      )
     ]),
     (λ h. elim h [
       | inl old ↦ (add to).1 (inl ((so_far to).1 (inl old)))

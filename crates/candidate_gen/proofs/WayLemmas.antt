@@ -1,5 +1,5 @@
 -- The way of one prefix through the sequence.
-use Rattle.std.proofs.Common.{◌≡◌, ◌↔◌, ℕ, ◌+◌, ◌<◌, ◌≤◌, ◌⊎◌, inl, inr, Bool, true, false, IsTrue, List, [], ◌∷◌, ◌++◌, length, drop, refl, sym, ap, ◌∙◌, subst, arith, append_assoc}
+use Rattle.std.proofs.Common.{◌≡◌, ◌↔◌, ℕ, ◌+◌, ◌<◌, ◌≤◌, ◌⊎◌, inl, inr, Bool, true, false, IsTrue, List, [], ◌∷◌, ◌++◌, length, refl, sym, ap, ◌∙◌, subst, arith, append_assoc}
 use Rattle.std.specs.List.{Contains, AllPairs}
 use Rattle.std.proofs.lemmas.List.{append-nil, same_from_push}
 use Rattle.std.proofs.lemmas.Bool.{cases_lt}
@@ -8,7 +8,7 @@ use Rattle.mine_model.proofs.ListLemmas.{Contains-first, Contains-none}
 use Rattle.fst_compile.proofs.RowLemmas.{Has-none}
 use Rattle.candidate_gen.specs.declared.place.Place.{Place}
 use Rattle.candidate_gen.specs.Paths.{Space}
-use Rattle.candidate_gen.specs.Places.{FollowsOf, FollowsLive, FollowsFound, IsOf, IsPlace, IsBelow}
+use Rattle.candidate_gen.specs.Places.{FollowsOf, FollowsLive, IsOf, IsPlace, IsBelow}
 use Rattle.candidate_gen.specs.Steps.{IsAhead, AreStates, AddsPlaces, Absorbs, TopIsNot, IsOnWay}
 use Rattle.candidate_gen.specs.Walk.{Takes}
 use Rattle.candidate_gen.proofs.PairLemmas.{pairs-front, pairs-across}
@@ -100,7 +100,7 @@ module _ (space : Space) (depth rank start : ℕ) (before : List Place) where
     pub way-within : at ≤ length space.sequence
     way-within = elim so_far.inside [
       | inl none ↦ by none
-      | inr few ↦ elim near [ | inl same ↦ omega (arith, few, same) | inr none ↦ by none ]
+      | inr few ↦ elim near [ inl same ↦ omega (arith, few, same) | inr none ↦ by none ]
     ]
       where
         by : live ≡ 0 → at ≤ length space.sequence
@@ -136,9 +136,9 @@ module _ (space : Space) (depth rank start : ℕ) (before : List Place) where
     live-at more = elim near [
       | inl same ↦ (subst (λ k. FollowsLive space k live more) (sym same), subst (λ k. FollowsLive space k live more) same)
       | inr none ↦ (
-          (λ h. let (state, has, path) = h in absurd (Has-none state (subst (λ l. Has l state) none has))),
-          (λ h. let (state, has, path) = h in absurd (Has-none state (subst (λ l. Has l state) none has))),
-        )
+        (λ h. let (state, has, path) = h in absurd (Has-none state (subst (λ l. Has l state) none has))),
+        (λ h. let (state, has, path) = h in absurd (Has-none state (subst (λ l. Has l state) none has))),
+      )
     ]
 
     module _ (rest longer : List Place) (taken_live live_after : ℕ) (stops now : Bool)
@@ -178,7 +178,7 @@ module _ (space : Space) (depth rank start : ℕ) (before : List Place) where
         where
           on : (FollowsOf space depth rank rest (next ∷ others) ⊎ FollowsLive space at taken_live (next ∷ others))
               → FollowsOf space depth rank rest (next ∷ others) ⊎ IsAhead space (at + 1) live_after longer next others
-          on g = elim g [ | inl still ↦ inl still | inr alive ↦ inr ((ahead next others).0 (inl alive)) ]
+          on g = elim g [ inl still ↦ inl still | inr alive ↦ inr ((ahead next others).0 (inl alive)) ]
 
       more-in : (next : ℕ) (others : List ℕ) → (FollowsOf space depth rank rest (next ∷ others) ⊎ IsAhead space (at + 1) live_after longer next others)
           → FollowsOf space depth rank before (next ∷ others)
@@ -192,7 +192,7 @@ module _ (space : Space) (depth rank start : ℕ) (before : List Place) where
         where
           on : (FollowsOf space depth rank waiting (next ∷ others) ⊎ FollowsLive space at live (next ∷ others))
               → FollowsOf space depth rank waiting (next ∷ others) ⊎ IsAhead space position live found next others
-          on g = elim g [ | inl waits ↦ inl waits | inr alive ↦ inr (inl ((live-at (next ∷ others)).1 alive)) ]
+          on g = elim g [ inl waits ↦ inl waits | inr alive ↦ inr (inl ((live-at (next ∷ others)).1 alive)) ]
 
       longer-place : (place : Place) → Contains longer place → (place.depth ≡ depth + 1) × (start < place.position) × IsPlace space place
       longer-place place h = elim (cases_lt at (length space.sequence)) [
@@ -213,22 +213,22 @@ module _ (space : Space) (depth rank start : ℕ) (before : List Place) where
       pub way-more : IsOnWay space depth rank start (at + 1) before rest longer live_after now
       way-more = record {
         cut = rest-cut;
-        parts = λ place h. elim (so_far.parts place h) [ | inl waits ↦ absorbs.parts place waits | inr of ↦ inr of ];
+        parts = λ place h. elim (so_far.parts place h) [ inl waits ↦ absorbs.parts place waits | inr of ↦ inr of ];
         begun = let forward = way-forward in let from = so_far.begun in omega (arith, forward, from);
         later = rest-later;
         more = λ next others. (more-out next others, more-in next others);
         ends = (
           (λ h. elim (so_far.ends.0 h) [
             | inl stopped ↦ inl (now_is.1 (inl stopped))
-            | inr waits ↦ elim (absorbs.ends.0 waits) [ | inl stopped ↦ inl (now_is.1 (inr stopped)) | inr still ↦ inr still ]
+            | inr waits ↦ elim (absorbs.ends.0 waits) [ inl stopped ↦ inl (now_is.1 (inr stopped)) | inr still ↦ inr still ]
           ]),
           (λ h. so_far.ends.1 (elim h [
-            | inl stopped ↦ elim (now_is.0 stopped) [ | inl old ↦ inl old | inr new ↦ inr (absorbs.ends.1 (inl new)) ]
+            | inl stopped ↦ elim (now_is.0 stopped) [ inl old ↦ inl old | inr new ↦ inr (absorbs.ends.1 (inl new)) ]
             | inr still ↦ inr (absorbs.ends.1 (inr still))
           ])),
         );
         states = states;
-        inside = elim (cases_lt at (length space.sequence)) [ | inl less ↦ inr (omega (arith, less)) | inr over ↦ inl (inside over) ];
+        inside = elim (cases_lt at (length space.sequence)) [ inl less ↦ inr (omega (arith, less)) | inr over ↦ inl (inside over) ];
         longer = longer-place;
       }
 
@@ -243,7 +243,7 @@ module _ (space : Space) (depth rank start : ℕ) (before : List Place) where
     parts = so_far.parts;
     ends = (
       (λ h. so_far.ends.1 (inl h)),
-      (λ h. elim (so_far.ends.0 h) [ | inl stopped ↦ stopped | inr (place, inside, of, path) ↦ absurd (gone place inside of) ]),
+      (λ h. elim (so_far.ends.0 h) [ inl stopped ↦ stopped | inr (place, inside, of, path) ↦ absurd (gone place inside of) ]),
     );
     found = λ next others. (
       (λ h. elim ((so_far.more next others).0 h) [

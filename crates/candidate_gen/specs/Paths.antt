@@ -1,5 +1,5 @@
 -- What the paths of a transducer write over the rest of a sequence, as ranks of frequent items.
-use Rattle.std.specs.Prelude.{◌≡◌, ℕ, ◌⊎◌, true, false, List, [], ◌∷◌, Contains}
+use Rattle.std.specs.Prelude.{◌≡◌, ℕ, ◌⊎◌, true, false, List, ◌∷◌, Contains}
 use Rattle.mine_model.specs.declared.item.Item.{Item}
 use Rattle.mine_model.specs.Expression.{leaf_of}
 use Rattle.mine_model.specs.Generation.{Matches, MayWrite}

@@ -1,12 +1,12 @@
 -- What a walk asks of a sequence.
-use Rattle.std.specs.Prelude.{◌≡◌, ℕ, ◌<◌, ◌≤◌, ◌↔◌, List, [], ◌∷◌, length, drop, None}
+use Rattle.std.specs.Prelude.{◌≡◌, ℕ, ◌≤◌, List, [], ◌∷◌, length, drop, None}
 use Rattle.state_bits.specs.Members.{Has}
 use Rattle.mine_model.specs.declared.item.Item.{Item}
 use Rattle.mine_model.specs.Limits.{most_length}
 use Rattle.mine_model.specs.Ranks.{HasRank}
 use Rattle.fst_compile.specs.Transducer.{Transducer, Leads}
-use Rattle.fst_simulate.specs.Problems.{Problem, IsWhole}
-use Rattle.fst_simulate.specs.Grids.{GridList, Reads, items_at}
+use Rattle.fst_simulate.specs.Problems.{Problem}
+use Rattle.fst_simulate.specs.Grids.{GridList, Reads}
 use Rattle.candidate_gen.specs.Paths.{Space, Writes}
 
 -- the grids are those of the problem, and any frequent item may be written

@@ -248,7 +248,13 @@ pub(crate) fn advance(
     let mut ended = false;
     let mut live = States::new();
     let mut position = start;
-    'positions: while let Some(at) = next_position(waiting.as_slice(), depth, rank, position, &live) {
+    'positions: while let Some(at) = next_position(
+        waiting.as_slice(),
+        depth,
+        rank,
+        position,
+        &live,
+    ) {
         if absorb(view, depth, rank, at, waiting, &mut live) {
             ended = true;
         }

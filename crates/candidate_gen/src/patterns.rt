@@ -19,11 +19,7 @@ pub fn candidates(alloc: Global, job: &Job, seq: u32) -> Result<Vec<Pattern>, No
 }
 
 // The patterns of all lists.
-fn patterns_of(
-    alloc: Global,
-    job: &Job,
-    list: &CandidateList,
-) -> Result<Vec<Pattern>, NoMemory>
+fn patterns_of(alloc: Global, job: &Job, list: &CandidateList) -> Result<Vec<Pattern>, NoMemory>
     requires { All (All (λ rank. (1 ≤ rank) × (rank ≤ length job.now.ranking.order))) list.now.listed }
     ensures { IfOk result (λ patterns.
         AreAllRanked job.now.ranking.order patterns.items list.now.listed) }

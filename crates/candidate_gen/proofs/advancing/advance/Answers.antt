@@ -1,4 +1,4 @@
-use Rattle.std.proofs.Common.{◌≡◌, ℕ, ◌≤◌, ◌⊎◌, ◌↔◌, ◌++◌, [], ◌∷◌, List, Bool, IsTrue, length, arith, subst}
+use Rattle.std.proofs.Common.{◌⊎◌, ◌↔◌, List, IsTrue, arith, subst}
 use Rattle.candidate_gen.specs.declared.place.Place.{Place}
 use Rattle.candidate_gen.specs.Places.{IsOf}
 use Rattle.candidate_gen.specs.Steps.{TopIsNot}

@@ -1,5 +1,5 @@
 use Rattle.std.proofs.Common.{◌+◌, arith}
-use Rattle.candidate_gen.proofs.EnterLemmas.{entered-writing, entered-nowhere, adds-pushed}
+use Rattle.candidate_gen.proofs.EnterLemmas.{entered-writing, adds-pushed}
 use Rattle.candidate_gen.proofs.advancing.enter_writing.Goals as goal
 
 pub overflow_add-position : goal.overflow_add-position

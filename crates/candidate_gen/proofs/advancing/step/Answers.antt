@@ -1,6 +1,5 @@
-use Rattle.std.proofs.Common.{◌≡◌, ℕ, ◌<◌, length, arith, sym, subst}
+use Rattle.std.proofs.Common.{◌<◌, length, arith}
 use Rattle.std.proofs.lemmas.Result.{IfOk-weaker}
-use Rattle.state_bits.specs.Members.{Has}
 use Rattle.fst_compile.proofs.RowLemmas.{Has-none}
 use Rattle.candidate_gen.proofs.ItemLemmas.{step-live, step-past}
 use Rattle.candidate_gen.proofs.advancing.step.Goals as goal

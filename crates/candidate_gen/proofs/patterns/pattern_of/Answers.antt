@@ -1,7 +1,6 @@
-use Rattle.std.proofs.Common.{◌≡◌, ◌+◌, ◌++◌, [], ◌∷◌, ℕ, List, take, get_or, ap, sym, subst}
+use Rattle.std.proofs.Common.{◌++◌, [], ◌∷◌, take, get_or}
 use Rattle.std.proofs.lemmas.List.{take_more}
-use Rattle.mine_model.specs.declared.item.Item.{Item}
-use Rattle.mine_model.specs.Ranks.{Ranking, HasRank}
+use Rattle.mine_model.specs.Ranks.{HasRank}
 use Rattle.candidate_gen.specs.Candidates.{AreRanked}
 use Rattle.candidate_gen.proofs.RankedLemmas.{ranked-push}
 use Rattle.candidate_gen.proofs.patterns.pattern_of.Goals as goal

@@ -1,7 +1,6 @@
-use Rattle.std.proofs.Common.{◌≡◌, ◌<◌, ◌+◌, ◌++◌, [], ◌∷◌, ℕ, List, length, take, get_or, arith, sym, subst}
+use Rattle.std.proofs.Common.{◌≡◌, ◌<◌, [], length, take, get_or, arith}
 use Rattle.std.proofs.lemmas.List.{take_more}
 use Rattle.std.proofs.lemmas.Option.{get_or_from_slice_get}
-use Rattle.candidate_gen.specs.Candidates.{AreAllRanked}
 use Rattle.candidate_gen.proofs.RankedLemmas.{all-push}
 use Rattle.candidate_gen.proofs.patterns.patterns_of.Goals as goal
 

@@ -1,11 +1,11 @@
 use Rattle.mine_model.specs.declared.expression.Leaf.TheVariants.{Under}
-use Rattle.std.proofs.Common.{false, ◌≡◌, ◌+◌, ◌<◌, suc, length, get_or, lit<, arith, subst, refl, ℕ, ◌⊎◌, ◌↔◌, List}
+use Rattle.std.proofs.Common.{false, ◌≡◌, lit<, arith, subst, ℕ, ◌⊎◌, ◌↔◌, List}
 use Rattle.std.specs.List.{Contains}
 use Rattle.std.proofs.lemmas.List.Elements.{Contains-get_or}
 use Rattle.state_bits.specs.Members.{Has}
 use Rattle.fst_compile.specs.declared.edge.Edge.{Edge}
 use Rattle.fst_compile.specs.Transducer.{Enters}
-use Rattle.candidate_gen.proofs.ViewLemmas.{added-none, added-more, added-all}
+use Rattle.candidate_gen.proofs.ViewLemmas.{added-more, added-all}
 use Rattle.candidate_gen.proofs.view.add_targets.Goals as goal
 
 pub add-requires : goal.add-requires

@@ -1,5 +1,4 @@
-use Rattle.std.proofs.Common.{length, arith, refl, ◌∙◌}
-use Rattle.std.proofs.lemmas.List.{length-reverse}
+use Rattle.std.proofs.Common.{arith, refl, ◌∙◌}
 use Rattle.std.proofs.lemmas.List.Sorted.{Contains-permutation, IsPermutation-trans, IsPermutation-reverse, IsPermutation-sym}
 use Rattle.candidate_gen.proofs.SortLemmas.{sorted-below}
 use Rattle.candidate_gen.proofs.walk.keep.Goals as goal

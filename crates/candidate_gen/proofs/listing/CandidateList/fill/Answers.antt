@@ -1,4 +1,4 @@
-use Rattle.std.proofs.Common.{◌≤◌, ℕ, length, List, ap, subst}
+use Rattle.std.proofs.Common.{◌≤◌, length, subst}
 use Rattle.std.specs.List.{All}
 use Rattle.candidate_gen.specs.Candidates.{AreCandidateRanks, Listing}
 use Rattle.candidate_gen.specs.Paths.{Space}

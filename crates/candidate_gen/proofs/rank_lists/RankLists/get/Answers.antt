@@ -1,4 +1,4 @@
-use Rattle.std.proofs.Common.{◌≡◌, ℕ, ◌<◌, ◌≤◌, Some, List, length, arith, ap, ◌∙◌, sym, subst}
+use Rattle.std.proofs.Common.{◌≡◌, ℕ, ◌<◌, ◌≤◌, Some, List, length, arith, ap, ◌∙◌, sym}
 use Rattle.std.specs.List.{slice_get, slice_range}
 use Rattle.candidate_gen.specs.Flat.{begin_of}
 use Rattle.candidate_gen.proofs.FlatLemmas.{length-lists_from, list-at, list-within}

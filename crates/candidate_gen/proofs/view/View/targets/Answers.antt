@@ -1,4 +1,4 @@
-use Rattle.std.proofs.Common.{◌≡◌, ◌<◌, ◌≤◌, ℕ, length, ap, sym, subst}
+use Rattle.std.proofs.Common.{◌<◌, ◌≤◌, length, sym, subst}
 use Rattle.state_bits.specs.Members.{Has}
 use Rattle.fst_compile.specs.Transducer.{Transducer}
 use Rattle.candidate_gen.specs.Paths.{Space}

@@ -1,4 +1,4 @@
-use Rattle.std.proofs.Common.{◌≡◌, [], ◌∷◌, ◌++◌, ℕ, List, ap, ◌∙◌, subst}
+use Rattle.std.proofs.Common.{◌≡◌, [], ◌∷◌, ◌++◌, List, ap, ◌∙◌, subst}
 use Rattle.candidate_gen.specs.declared.place.Place.{Place}
 use Rattle.candidate_gen.specs.Walk.{Takes}
 use Rattle.candidate_gen.proofs.GrowLemmas.{root, begun-waiting, begun-listed}
