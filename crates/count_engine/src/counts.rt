@@ -1,5 +1,6 @@
-ghost use Rattle.std.specs.Prelude.{◌≡◌, ◌≢◌, ◌↔◌, ℕ, ◌+◌, ◌^◌, ◌<◌, ◌≤◌, List, [], ◌∷◌, IfOk, OnOk, Some};
-ghost use Rattle.std.specs.List.{length, All, AllPairs, Contains, slice_get, slice_index};
+ghost use Rattle.std.specs.Prelude.{◌≡◌, ◌≢◌, ◌↔◌, ℕ, ◌+◌, ◌^◌, ◌<◌, ◌≤◌, List, [], ◌∷◌, length, Some};
+ghost use Rattle.std.specs.List.{All, AllPairs, Contains, slice_get, slice_index};
+ghost use Rattle.std.specs.Result.{IfOk, OnOk};
 ghost use Rattle.mine_model.specs.declared.row.Row.{Row};
 ghost use Rattle.candidate_gen.specs.Candidates.{AreRanked};
 ghost use Rattle.count_engine.specs.Tries.{Extends};
