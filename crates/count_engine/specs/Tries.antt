@@ -1,6 +1,6 @@
 -- Lists of ranks by their numbers, and the nodes that hold them.
-use Rattle.std.specs.Prelude.{◌≡◌, ℕ, ◌+◌, ◌≤◌, Bool, ◌&&◌, nat_eq, Option, Some, List, [], ◌∷◌, ◌++◌, slice_index_or}
-use Rattle.std.specs.List.{fold, slice_get}
+use Rattle.std.specs.Prelude.{◌≡◌, ℕ, ◌+◌, ◌≤◌, Bool, ◌&&◌, nat_eq, Option, Some, List, [], ◌∷◌, ◌++◌}
+use Rattle.std.specs.List.{fold, slice_get, slice_index_or}
 use Rattle.count_engine.specs.declared.trie.Node.{Node}
 
 -- no list has two numbers
@@ -27,7 +27,8 @@ pair_eq x y = nat_eq x.0 y.0 && nat_eq x.1 y.1
 -- the list with this number has a node, which has this shorter list and this rank
 abbrev pub IsNodeAt : List Node → ℕ → ℕ → ℕ → Type 0
 IsNodeAt nodes id shorter rank =
-    (k : ℕ) × (node : Node) × (id ≡ k + 1) × (slice_get nodes k ≡ Some node) × (node.shorter ≡ shorter) × (node.rank ≡ rank)
+    (k : ℕ) × (node : Node) × (id ≡ k + 1) × (slice_get nodes k ≡ Some node)
+    × (node.shorter ≡ shorter) × (node.rank ≡ rank)
 
 -- each node stands after the list that it lengthens, and is found by that list's number and its rank
 pub record IsTrie (nodes : List Node) (found : ℕ × ℕ → Option ℕ) : Type 0 where

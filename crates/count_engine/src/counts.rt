@@ -1,4 +1,6 @@
-ghost use Rattle.std.specs.Prelude.{◌≡◌, ◌≢◌, ◌↔◌, ℕ, ◌+◌, ◌^◌, ◌<◌, ◌≤◌, List, [], ◌∷◌, length, All, AllPairs, Contains, IfOk, OnOk, Some, slice_get, slice_index};
+ghost use Rattle.std.specs.Prelude.{◌≡◌, ◌≢◌, ◌↔◌, ℕ, ◌+◌, ◌^◌, ◌<◌, ◌≤◌, List, [], ◌∷◌, length, Some};
+ghost use Rattle.std.specs.List.{All, AllPairs, Contains, slice_get, slice_index};
+ghost use Rattle.std.specs.Result.{IfOk, OnOk};
 ghost use Rattle.mine_model.specs.declared.row.Row.{Row};
 ghost use Rattle.candidate_gen.specs.Candidates.{AreRanked};
 ghost use Rattle.count_engine.specs.Tries.{Extends};
@@ -12,8 +14,8 @@ use std::marker::Model;
 
 /// Lists of ranks, each with a sum of weights.
 ///
-/// The lists stand in a trie, and the path has the numbers of the prefixes of the list that was added last: the
-/// candidates of a sequence come in an order in which neighbours share their prefixes.
+/// The lists stand in a trie, and the path has the numbers of the prefixes of the list that was added last:
+/// the candidates of a sequence come in an order where neighbours share prefixes.
 #[derive(Drop)]
 pub(crate) struct Counts {
     trie: Trie,
@@ -100,8 +102,8 @@ impl Counts {
     }
 }
 
-/// The number of a list, which is added with its prefixes where they were not there. The path has guesses at the
-/// numbers of the prefixes.
+/// The number of a list, which is added with its prefixes where they were not there. The path has guesses at
+/// the numbers of the prefixes.
 fn number_of(trie: &mut Trie, path: &mut Vec<usize>, list: &[u32]) -> Result<usize, NoMemory>
     requires { slice_get trie.old 0 ≡ Some [] }
     ensures extends { Extends trie.old trie.new }

@@ -1,4 +1,5 @@
-//! The count engine: the candidates of all sequences, each with the sum of the weights of the sequences that have it.
+//! The count engine: the candidates of all sequences, and for each the sum of the weights of the sequences
+//! that have it.
 #![tactic(auto)]
 
 mod counts;

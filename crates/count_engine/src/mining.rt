@@ -12,8 +12,8 @@ use std::alloc::Global;
 
 /// The frequent patterns of a job with their supports, each once, in no stated order.
 ///
-/// What it takes grows with the different prefixes of the candidates of all sequences, and with the candidates of
-/// one sequence.
+/// What it takes grows with the different prefixes of the candidates of all sequences, and with the
+/// candidates of one sequence.
 pub fn mine(alloc: Global, job: &Job) -> Result<Vec<Row>, NoMemory>
     ensures frequent { IfOk result (λ rows. AreFrequent (record {
       links = job.now.hierarchy.links;

@@ -55,8 +55,8 @@ impl Trie {
         self.nodes.len() + 1
     }
 
-    /// The number of the list with a rank after it, which is added if it was not there. A guess that is right saves
-    /// the look-up.
+    /// The number of the list with a rank after it, which is added if it was not there. A guess that is right
+    /// saves the look-up.
     pub(crate) fn append(
         &mut self,
         shorter: usize,
