@@ -1,6 +1,7 @@
 ghost use Rattle.std.specs.Prelude.{◌≡◌, ◌+◌, ◌*◌, ◌<◌, ◌≤◌, length, All, IfOk, IsTrue};
 ghost use Rattle.std.specs.List.{AllByRecursion};
-ghost use Rattle.mine_model.specs.Expression.{tree_of, leaf_of, named_by, named_in, unfolded_leaves, unfolded_times};
+ghost use Rattle.mine_model.specs.Expression.{named_by, named_in, unfolded_leaves, unfolded_times};
+ghost use Rattle.mine_model.specs.Numbered.{tree_of, leaf_of};
 
 use super::{CandidateList, candidates};
 use fst_compile::compile;

@@ -1,6 +1,7 @@
 ghost use Rattle.std.specs.Prelude.{◌≡◌, ◌+◌, ◌*◌, ◌<◌, ◌≤◌, All, IfOk, IsTrue};
 ghost use Rattle.std.specs.List.{AllByRecursion};
-ghost use Rattle.mine_model.specs.Expression.{tree_of, leaf_of, named_in, named_by, unfolded_leaves};
+ghost use Rattle.mine_model.specs.Expression.{named_in, named_by, unfolded_leaves};
+ghost use Rattle.mine_model.specs.Numbered.{tree_of, leaf_of};
 
 use super::{Bound, Grid, Grids, Job};
 use frequency_list::count;

@@ -6,7 +6,7 @@ use Rattle.std.proofs.lemmas.Option.{slice_get-get_or}
 use Rattle.mine_model.proofs.ListLemmas.{Contains-none}
 use Rattle.mine_model.specs.declared.item.Item.{Item}
 use Rattle.mine_model.specs.Ancestry.{Ancestry}
-use Rattle.mine_model.specs.Expression.{leaf_of}
+use Rattle.mine_model.specs.Numbered.{leaf_of}
 use Rattle.mine_model.specs.Generation.{Matches, MayWrite}
 use Rattle.fst_compile.specs.declared.edge.Label.{Label}
 use Rattle.fst_compile.specs.Transducer.{Transducer}
