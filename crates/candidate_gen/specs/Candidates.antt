@@ -12,7 +12,8 @@ use Rattle.fst_simulate.specs.Problems.{Problem, items_of}
 abbrev pub IsCandidate : Problem → ℕ → List Item → Type 0
 IsCandidate problem seq pattern =
     IsCandidateOf problem.hierarchy.links (tree_of problem.machine.expression)
-    (IsFrequentItem problem.hierarchy.links problem.sequences problem.threshold) (items_of problem seq) pattern
+    (IsFrequentItem problem.hierarchy.links problem.sequences problem.threshold)
+    (items_of problem seq) pattern
 
 -- the items have these ranks, one by one
 abbrev pub AreRanked : List Item → List Item → List ℕ → Type 0
@@ -26,7 +27,8 @@ abbrev pub AreAllRanked : List Item → List (List Item) → List (List ℕ) →
 AreAllRanked order [] [] = Unit {0}
 AreAllRanked order [] (ranks ∷ lists) = ⊥
 AreAllRanked order (items ∷ patterns) [] = ⊥
-AreAllRanked order (items ∷ patterns) (ranks ∷ lists) = AreRanked order items ranks × AreAllRanked order patterns lists
+AreAllRanked order (items ∷ patterns) (ranks ∷ lists) = AreRanked order items ranks
+    × AreAllRanked order patterns lists
 
 -- the first list of ranks comes earlier: rank by rank, a proper prefix first
 abbrev pub IsEarlier : List ℕ → List ℕ → Type 0
@@ -36,12 +38,14 @@ IsEarlier first second = slice_cmp nat_cmp first second ≡ Less
 pub record AreCandidateRanks (problem : Problem) (seq : ℕ) (listed : List (List ℕ)) : Type 0 where
   pub rises : AllPairs IsEarlier listed
   pub exact : (ranks : List ℕ) → Contains listed ranks
-      ↔ ((pattern : List Item) × IsCandidate problem seq pattern × AreRanked problem.ranking.order pattern ranks)
+      ↔ ((pattern : List Item) × IsCandidate problem seq pattern
+      × AreRanked problem.ranking.order pattern ranks)
 
 -- the ranks of the first pattern come earlier than those of the second
 abbrev pub ComesEarlier : List Item → List Item → List Item → Type 0
 ComesEarlier order first second =
-    (left : List ℕ) × (right : List ℕ) × AreRanked order first left × AreRanked order second right × IsEarlier left right
+    (left : List ℕ) × (right : List ℕ) × AreRanked order first left × AreRanked order second right
+    × IsEarlier left right
 
 -- the patterns are exactly the candidates of the sequence, rising by their ranks, so each once
 pub record AreCandidates (problem : Problem) (seq : ℕ) (patterns : List (List Item)) : Type 0 where

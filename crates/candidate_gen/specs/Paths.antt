@@ -23,7 +23,8 @@ Writes space rest state ranks =
 -- the edge leaves the state, and reads t
 abbrev pub IsRead : Space → Item → ℕ → Edge → Type 0
 IsRead space t state edge =
-    Contains (edges_from space.problem.machine state) edge × Matches space.problem.hierarchy.links (leaf_of edge.leaf) t
+    Contains (edges_from space.problem.machine state) edge
+    × Matches space.problem.hierarchy.links (leaf_of edge.leaf) t
 
 -- behind the edge, which writes nothing, or one of its outputs, a path writes the rest of the ranks
 abbrev pub WritesBehind : Space → Item → List Item → Edge → List ℕ → Type 0
@@ -31,4 +32,5 @@ WritesBehind space t rest edge ranks =
     ((edge.captured ≡ false) × Writes space rest edge.to.0 ranks)
     ⊎ ((edge.captured ≡ true) × ((v : Item) × (rank : ℕ) × (others : List ℕ)
     × MayWrite space.problem.hierarchy.links (leaf_of edge.leaf) t v
-    × HasRank space.problem.ranking.order v rank × (ranks ≡ rank ∷ others) × Writes space rest edge.to.0 others))
+    × HasRank space.problem.ranking.order v rank × (ranks ≡ rank ∷ others)
+    × Writes space rest edge.to.0 others))

@@ -16,7 +16,8 @@ prefix_of path place = take (place.depth - 1) path ++ place.rank ∷ []
 abbrev pub grown : List ℕ → ℕ → ℕ → List ℕ
 grown path depth rank = take (depth - 1) path ++ rank ∷ []
 
--- the place lies in the sequence, behind as many items as were written at least, and its state is one of the transducer
+-- the place lies in the sequence, behind as many items as were written at least, and its state is one of the
+-- transducer
 pub record IsPlace (space : Space) (place : Place) : Type 0 where
   pub short : place.depth ≤ place.position
   pub within : place.position ≤ length space.sequence

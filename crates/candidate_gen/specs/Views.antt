@@ -21,7 +21,8 @@ WritesMore space position state =
 
 -- an edge into the state may read t and write the item with the rank
 abbrev pub WritesAs : Problem → Item → ℕ → ℕ → Type 0
-WritesAs problem t state rank = (v : Item) × HasRank problem.ranking.order v rank × Reads problem t state (v ∷ [])
+WritesAs problem t state rank = (v : Item) × HasRank problem.ranking.order v rank × Reads problem t state (v
+    ∷ [])
 
 -- an edge leads from one of the states to this one
 abbrev pub LeadsFrom : Transducer → ℕ → ℕ → Type 0

@@ -13,13 +13,17 @@ IsWritten space ranks = (ranks ≢ []) × Writes space space.sequence 0 ranks
 -- the ranks are still to come: a place waits from which a path writes what is behind its prefix
 abbrev pub IsToCome : Space → List ℕ → List Place → List ℕ → Type 0
 IsToCome space path waiting ranks =
-    (place : Place) × (more : List ℕ) × Contains waiting place × (ranks ≡ prefix_of path place ++ more) × Follows space place more
+    (place : Place) × (more : List ℕ) × Contains waiting place × (ranks ≡ prefix_of path place ++ more)
+    × Follows space place more
 
 -- what was listed and what is to come are together what is written, and what was listed comes first
-pub record IsListed (space : Space) (path : List ℕ) (waiting : List Place) (listed : List (List ℕ)) : Type 0 where
+pub record IsListed (space : Space) (path : List ℕ) (waiting : List Place)
+    (listed : List (List ℕ)) : Type 0 where
   pub rises : AllPairs IsEarlier listed
-  pub earlier : (first second : List ℕ) → Contains listed first → IsToCome space path waiting second → IsEarlier first second
-  pub exact : (ranks : List ℕ) → IsWritten space ranks ↔ (Contains listed ranks ⊎ IsToCome space path waiting ranks)
+  pub earlier : (first second : List ℕ) → Contains listed first → IsToCome space path waiting second
+      → IsEarlier first second
+  pub exact : (ranks : List ℕ) → IsWritten space ranks ↔ (Contains listed ranks
+      ⊎ IsToCome space path waiting ranks)
 
 -- the lists are exactly what is written, rising
 pub record AreWritten (space : Space) (listed : List (List ℕ)) : Type 0 where
@@ -27,7 +31,8 @@ pub record AreWritten (space : Space) (listed : List (List ℕ)) : Type 0 where
   pub exact : (ranks : List ℕ) → IsWritten space ranks ↔ Contains listed ranks
 
 -- The places of one prefix were taken away, and those of the prefixes that are longer by one were found.
-pub record Takes (space : Space) (depth rank start : ℕ) (before after longer : List Place) (stops : Bool) : Type 0 where
+pub record Takes (space : Space) (depth rank start : ℕ) (before after longer : List Place)
+    (stops : Bool) : Type 0 where
   pub cut : (taken : List Place) × (before ≡ after ++ taken)
   pub rest : (place : Place) → Contains after place → IsOf depth rank place → ⊥
   pub parts : (place : Place) → Contains before place → Contains after place ⊎ IsOf depth rank place
@@ -46,7 +51,8 @@ weight base end (place ∷ places) = base ^ (end - place.position) + weight base
 pub record Keeps (before found after left : List Place) : Type 0 where
   pub kept : List Place
   pub same : IsPermutation found kept
-  pub sorted : (depth : ℕ) → ((place : Place) → Contains found place → place.depth ≡ depth) → AllPairs IsBelow kept
+  pub sorted : (depth : ℕ) → ((place : Place) → Contains found place → place.depth ≡ depth)
+      → AllPairs IsBelow kept
   pub few : length kept < 2 ^ 64
   pub after_is : after ≡ before ++ kept
   pub left_is : left ≡ []

@@ -19,9 +19,11 @@ use mine_model::NoMemory;
 /// Takes the topmost place away, where it is one of the prefix at the position, and gives its state.
 fn take_place(waiting: &mut Vec<Place>, depth: u32, rank: u32, position: u32) -> Option<u32>
     ensures taken { IfSome result (λ state. waiting.old.items
-        ≡ waiting.new.items ++ (record { depth = depth; rank = rank; position = position; state = state }) ∷ []) }
+        ≡ waiting.new.items ++ (record { depth = depth; rank = rank; position = position; state = state })
+        ∷ []) }
     ensures kept { IfNone result (waiting.new.items ≡ waiting.old.items) }
-    ensures other { IfNone result (TopIsNot (λ p. IsOf depth rank p × (p.position ≡ position)) waiting.old.items) }
+    ensures other { IfNone result (TopIsNot (λ p. IsOf depth rank p
+        × (p.position ≡ position)) waiting.old.items) }
 {
     let place = *waiting.last()?;
     if place.depth != depth || place.rank != rank || place.position != position {
@@ -46,8 +48,8 @@ fn take_state(view: &View, position: u32, state: u32, live: &mut States) -> bool
     view.ends(position, state)
 }
 
-/// Takes the places of the prefix at the position from the stack. Those from which more can be written are live
-/// from then on. Whether the prefix can end at one of them.
+/// Takes the places of the prefix at the position from the stack. Those from which more can be written are
+/// live from then on. Whether the prefix can end at one of them.
 fn absorb(
     view: &View,
     depth: u32,
@@ -99,8 +101,8 @@ fn push_places(
     Ok(())
 }
 
-/// Makes the state live behind the item at the position, where its edges read the item and write nothing, and more
-/// can then be written.
+/// Makes the state live behind the item at the position, where its edges read the item and write nothing, and
+/// more can then be written.
 fn enter_silently(view: &View, position: u32, state: u32, live: &mut States)
     requires small { IsSmall view.now }
     requires position { position < length view.now.sequence }
@@ -118,8 +120,8 @@ fn enter_silently(view: &View, position: u32, state: u32, live: &mut States)
     }
 }
 
-/// Finds a place behind the item at the position for each rank that the edges into the state may write there, where
-/// a path goes on.
+/// Finds a place behind the item at the position for each rank that the edges into the state may write there,
+/// where a path goes on.
 fn enter_writing(
     view: &View,
     depth: u32,
@@ -145,8 +147,8 @@ fn enter_writing(
     Ok(())
 }
 
-/// Enters these states by the item at the position: the states that are live behind it, and, appended, the places
-/// where it has written something.
+/// Enters these states by the item at the position: the states that are live behind it, and, appended, the
+/// places where it has written something.
 fn enter_all(
     view: &View,
     depth: u32,
@@ -174,8 +176,8 @@ fn enter_all(
     Ok(after)
 }
 
-/// Goes over the item at the position from all live states: the states that are live behind it, and, appended, the
-/// places where it has written something.
+/// Goes over the item at the position from all live states: the states that are live behind it, and,
+/// appended, the places where it has written something.
 fn step(
     view: &View,
     depth: u32,
@@ -225,7 +227,8 @@ fn next_position(
     }
 }
 
-/// Takes all places of the topmost prefix from the stack, and finds those of the prefixes that are longer by one.
+/// Takes all places of the topmost prefix from the stack, and finds those of the prefixes that are longer by
+/// one.
 /// Whether the prefix is a candidate.
 pub(crate) fn advance(
     view: &View,
@@ -239,11 +242,13 @@ pub(crate) fn advance(
     requires sorted { AllPairs IsBelow waiting.old.items }
     requires below { (place : Place) → Contains waiting.old.items place
         → (place.depth ≤ depth) × (place.depth ≡ depth → rank ≤ place.rank) }
-    requires start { (place : Place) → Contains waiting.old.items place → IsOf depth rank place → start ≤ place.position }
+    requires start { (place : Place) → Contains waiting.old.items place → IsOf depth rank place
+        → start ≤ place.position }
     requires places { (place : Place) → Contains waiting.old.items place → IsPlace view.now place }
     requires short { depth ≤ start }
     requires none { found.old.items ≡ [] }
-    ensures { IfOk result (Takes view.now depth rank start waiting.old.items waiting.new.items found.new.items) }
+    ensures { IfOk result
+        (Takes view.now depth rank start waiting.old.items waiting.new.items found.new.items) }
 {
     let mut ended = false;
     let mut live = States::new();

@@ -9,8 +9,8 @@ use mine_model::NoMemory;
 use std::alloc::Global;
 use std::marker::Model;
 
-/// The candidates of one sequence of a job after another, as lists of ranks in one flat buffer, which each sequence
-/// uses again.
+/// The candidates of one sequence of a job after another, as lists of ranks in one flat buffer, which each
+/// sequence uses again.
 #[derive(Drop)]
 pub struct CandidateList<'a> {
     job: &'a Job,
@@ -52,8 +52,8 @@ impl<'a> CandidateList<'a> {
         })
     }
 
-    /// Lists the candidates of a sequence, in place of what was listed. After want of memory some of them may be
-    /// listed.
+    /// Lists the candidates of a sequence, in place of what was listed. After want of memory some of them may
+    /// be listed.
     pub fn fill(&mut self, seq: u32) -> Result<(), NoMemory>
         requires { seq < length self.old.problem.sequences }
         ensures problem { self.new.problem ≡ self.old.problem }

@@ -4,9 +4,9 @@ ghost use Rattle.mine_model.specs.Expression.{named_by, named_in, unfolded_leave
 ghost use Rattle.mine_model.specs.Numbered.{tree_of, leaf_of};
 
 use super::{CandidateList, candidates};
+use frequency_list::count;
 use fst_compile::compile;
 use fst_simulate::Job;
-use frequency_list::count;
 use item_names::Names;
 use mine_model::{Db, Expr, Hierarchy, Item, Leaf, NoMemory};
 use std::alloc::{AllocError, Global};

@@ -64,7 +64,8 @@ impl<'a, 'b> View<'a, 'b> {
         self.length
     }
 
-    /// Whether a path from the state over the rest of the sequence writes frequent items alone, and at least one.
+    /// Whether a path from the state over the rest of the sequence writes frequent items alone, and at least
+    /// one.
     pub(crate) fn writes_more(&self, position: u32, state: u32) -> bool
         requires position { position ≤ length self.now.sequence }
         requires state { state ≤ length self.now.problem.machine.labels }

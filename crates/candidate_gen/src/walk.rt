@@ -70,8 +70,8 @@ impl Walk {
         Ok(())
     }
 
-    // Takes the topmost prefix from the stack, and puts those that are longer by one in its place. Whether it is a
-    // candidate.
+    // Takes the topmost prefix from the stack, and puts those that are longer by one in its place. Whether it
+    // is a candidate.
     fn grow(&mut self, view: &View, top: Place) -> Result<bool, NoMemory>
         requires small { IsSmall view.now }
         requires waiting { AreWaiting view.now self.old.path.items self.old.waiting.items }

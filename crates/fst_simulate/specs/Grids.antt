@@ -24,8 +24,8 @@ IsNeeded ranking (Some need) v = HasRank ranking.order v need
 abbrev pub HoldsNeeded : Ranking → Option ℕ → List Item → Type 0
 HoldsNeeded ranking need output = (v : Item) × Contains output v × IsNeeded ranking need v
 
--- Some path from the state over the rest of a sequence ends in a final state and writes allowed items alone, and
--- what is needed was seen or is among them.
+-- Some path from the state over the rest of a sequence ends in a final state and writes allowed items alone,
+-- and what is needed was seen or is among them.
 abbrev pub Completes : Problem → Bound → List Item → ℕ → Bool → Type 0
 Completes problem bound rest state seen =
     (output : List Item) × IsPath problem.hierarchy.links problem.machine state rest output

@@ -61,7 +61,8 @@ abbrev pub Extends : {A : Type 0} → List A → List A → Type 0
 Extends {A} before after = (more : List A) × (after ≡ before ++ more)
 
 -- the kind is that of the item
-pub record IsKind (problem : Problem) (bound : Bound) (classes : List ClassSets) (ends ranks : List ℕ) (t : Item)
+pub record IsKind (problem : Problem) (bound : Bound) (classes : List ClassSets) (ends ranks : List ℕ)
+    (t : Item)
     (kind : Kind) : Type 0 where
   pub class : (c : ClassSets) × (slice_get classes kind.class ≡ Some c) × IsClassFor problem bound t c
   pub room : kind.base + length problem.machine.labels < length ends

@@ -34,7 +34,8 @@ pub record IsTableOf (problem : Problem) (table : TableValue) : Type 0 where
       × IsLast problem.machine.finals triple
 
 -- the place stands for a position in the items
-pub record IsPlaceAt (problem : Problem) (bound : Bound) (table : TableValue) (kinds : Kinds) (items : List Item)
+pub record IsPlaceAt (problem : Problem) (bound : Bound) (table : TableValue) (kinds : Kinds)
+    (items : List Item)
     (position : ℕ) (place : Place) : Type 0 where
   pub triple : HasTriple problem bound table.triples (drop position items) place.triple
   pub kind : (t : Item) → slice_get items position ≡ Some t
@@ -48,7 +49,8 @@ ArePlaces problem bound table kinds places end items =
     × IsPlaceAt problem bound table kinds items position place)
 
 -- the places before each end are those of the sequence with the number
-pub record AreGrids (problem : Problem) (bound : Bound) (table : TableValue) (kinds : Kinds) (places : List Place)
+pub record AreGrids (problem : Problem) (bound : Bound) (table : TableValue) (kinds : Kinds)
+    (places : List Place)
     (ends sequences : List ℕ) : Type 0 where
   pub table_is : IsTableOf problem table
   pub kinds_are : AreKinds problem bound table.classes kinds

@@ -10,7 +10,8 @@ use Rattle.mine_model.specs.Ranks.{Ranking, AreRanks}
 use Rattle.mine_model.specs.Support.{Sequence}
 use Rattle.fst_compile.specs.Transducer.{Transducer, IsPositionAutomaton, IsTransducerOf}
 
--- the hierarchy, the sequences, the transducer of the expression, the ranks of the frequent items, the threshold
+-- the hierarchy, the sequences, the transducer of the expression, the ranks of the frequent items, the
+-- threshold
 pub record Problem : Type 0 where
   pub hierarchy : Ancestry
   pub sequences : List (Sequence Item)
@@ -22,8 +23,8 @@ pub record Problem : Type 0 where
 abbrev pub items_of : Problem → ℕ → List Item
 items_of problem i = (sequence_at problem.sequences i).items
 
--- the parts fit: all items are items of the hierarchy, the transducer is that of its expression, and the ranks
--- are those of the sequences
+-- the parts fit: all items are items of the hierarchy, the transducer is that of its expression, and the
+-- ranks are those of the sequences
 pub record IsWhole (problem : Problem) : Type 0 where
   pub items : AllByRecursion (λ sequence. AllByRecursion (λ t. t.0 < problem.hierarchy.items) sequence.items)
       problem.sequences

@@ -13,7 +13,8 @@ pub record ClassSets : Type 0 where
   pub goes : ℕ
   pub needs : ℕ
 
--- the states that complete where what is needed was seen, those that complete where it was not, those that end
+-- the states that complete where what is needed was seen, those that complete where it was not, those that
+-- end
 pub record TripleSets : Type 0 where
   pub seen : ℕ
   pub unseen : ℕ
