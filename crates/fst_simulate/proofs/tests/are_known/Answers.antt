@@ -7,7 +7,7 @@ use Rattle.fst_simulate.proofs.tests.are_known.Goals as goal
 
 pub loop-item-preserved : goal.loop-item-preserved
 loop-item-preserved c =
-    let here : (get_or c.args.items.now c.loop-item.item-index (item_at 0)).0 < 7 = omega (arith, c.if-item-ge11.false) in
+    let here : (get_or c.args.items.now c.loop-item.item-index (item_at 0)).0 < 7 = omega (arith, c.if-item-ge7.false) in
     All-more (λ t. t.0 < 7) c.args.items.now c.loop-item.item-index (item_at 0) (omega arith) c.loop-item.invariant here
 
 pub returns : goal.returns
