@@ -12,6 +12,3 @@ mod walk;
 
 pub use listing::CandidateList;
 pub use patterns::candidates;
-
-#[cfg(test)]
-mod tests;

@@ -1,4 +1,4 @@
-ghost use Rattle.std.specs.Prelude.{◌≤◌, ◌<◌, length, All, IfOk};
+ghost use Rattle.std.specs.Prelude.{◌≡◌, ◌≤◌, ◌<◌, length, All, IfOk};
 ghost use Rattle.candidate_gen.specs.Candidates.{AreRanked, AreAllRanked, AreCandidates};
 
 use super::listing::CandidateList;
@@ -12,8 +12,22 @@ pub fn candidates(alloc: Global, job: &Job, seq: u32) -> Result<Vec<Pattern>, No
     ensures { IfOk result (λ patterns. AreCandidates job.now seq patterns.items) }
 {
     let mut list = CandidateList::new(alloc, job)?;
+    listed_patterns(alloc, job, seq, &mut list)
+}
+
+// The patterns of the sequence, by way of the list.
+fn listed_patterns(
+    alloc: Global,
+    job: &Job,
+    seq: u32,
+    list: &mut CandidateList,
+) -> Result<Vec<Pattern>, NoMemory>
+    requires seq { seq < length job.now.sequences }
+    requires problem { list.old.problem ≡ job.now }
+    ensures { IfOk result (λ patterns. AreCandidates job.now seq patterns.items) }
+{
     list.fill(seq)?;
-    let patterns = patterns_of(alloc, job, &list)?;
+    let patterns = patterns_of(alloc, job, list)?;
     let _ranks = job.ranks();
     Ok(patterns)
 }

@@ -1,10 +1,11 @@
 use Rattle.std.proofs.Common.{subst}
-use Rattle.candidate_gen.specs.Candidates.{AreCandidateRanks, Listing}
+use Rattle.candidate_gen.specs.Candidates.{AreCandidateRanks}
+use Rattle.fst_simulate.specs.Problems.{Problem}
 use Rattle.candidate_gen.proofs.RankedLemmas.{patterns-all}
-use Rattle.candidate_gen.proofs.patterns.candidates.Goals as goal
+use Rattle.candidate_gen.proofs.patterns.listed_patterns.Goals as goal
 
 pub returns : goal.returns
 returns c =
     let are : AreCandidateRanks c.args.job.now c.args.seq c.fill.new.self.listed =
-    subst (λ (l : Listing). AreCandidateRanks l.problem c.args.seq c.fill.new.self.listed) c.in_ok-list.ensures c.in_ok-fill.ensures.candidates in
+    subst (λ (p : Problem). AreCandidateRanks p c.args.seq c.fill.new.self.listed) c.requires.problem c.in_ok-fill.ensures.candidates in
     patterns-all c.args.job.now c.args.seq c.ranks-ranks.ensures.whole c.fill.new.self.listed c.in_ok-patterns.patterns.items are c.in_ok-patterns.ensures
