@@ -3,13 +3,12 @@ ghost use Rattle.std.specs.List.{AllByRecursion};
 ghost use Rattle.mine_model.specs.Expression.{named_in, named_by, unfolded_leaves};
 ghost use Rattle.mine_model.specs.Numbered.{tree_of, leaf_of};
 
-use super::{Bound, Grid, Grids, Job};
+use super::{Bound, Grid, Job};
 use frequency_list::count;
-use fst_compile::{State, compile, outputs};
+use fst_compile::{State, compile};
 use item_names::Names;
 use mine_model::{Db, Expr, Hierarchy, Item, Leaf, NoMemory};
 use std::alloc::{AllocError, Global};
-use std::fmt::Write;
 use std::test::Fail;
 use std::thread::Threads;
 
@@ -88,13 +87,36 @@ fn cap(alloc: Global, inner: Expr) -> Result<Expr, AllocError>
     Ok(Expr::Cap(Box::new(alloc, inner)?))
 }
 
+/// The expressions of the tests.
+#[derive(Clone, Copy)]
+enum Shape {
+    /// `.*(A)[(.^)|.]*(b).*`
+    Climbing,
+    /// `.*`
+    Silent,
+    /// `(a1){n}`, with n up to 1,024.
+    Times(u32),
+}
+
+fn expression(alloc: Global, shape: Shape) -> Result<Expr, AllocError>
+    ensures leaves { IfOk result (λ e. unfolded_leaves (tree_of e) ≤ 1024) }
+    ensures named { IfOk result (λ e. AllByRecursion (λ w. w.0 < 7) (named_in (tree_of e))) }
+{
+    match shape {
+        Shape::Climbing => climbing(alloc),
+        Shape::Silent => star(alloc, leaf(Leaf::Any)),
+        Shape::Times(n) => times(alloc, n.min(1_024)),
+    }
+}
+
 /// `(a1){n}`
 fn times(alloc: Global, n: u32) -> Result<Expr, AllocError>
     ensures leaves { IfOk result (λ e. unfolded_leaves (tree_of e) ≡ n) }
     ensures named { IfOk result (λ e. AllByRecursion (λ w. w.0 < 7) (named_in (tree_of e))) }
 {
+    let one = cap(alloc, leaf(Leaf::Under(A1)))?;
     Ok(Expr::Rep {
-        inner: Box::new(alloc, cap(alloc, leaf(Leaf::Under(A1)))?)?,
+        inner: Box::new(alloc, one)?,
         least: n,
         most: Some(n),
     })
@@ -102,16 +124,23 @@ fn times(alloc: Global, n: u32) -> Result<Expr, AllocError>
 
 /// `.*(A)[(.^)|.]*(b).*`
 fn climbing(alloc: Global) -> Result<Expr, AllocError>
-    ensures leaves { IfOk result (λ e. unfolded_leaves (tree_of e) ≡ 6) }
+    ensures leaves { IfOk result (λ e. unfolded_leaves (tree_of e) ≤ 6) }
     ensures named { IfOk result (λ e. AllByRecursion (λ w. w.0 < 7) (named_in (tree_of e))) }
 {
     let front = star(alloc, leaf(Leaf::Any))?;
+    let back = star(alloc, leaf(Leaf::Any))?;
+    let middle = middle(alloc)?;
+    cat(alloc, cat(alloc, front, middle)?, back)
+}
+
+fn middle(alloc: Global) -> Result<Expr, AllocError>
+    ensures leaves { IfOk result (λ e. unfolded_leaves (tree_of e) ≤ 4) }
+    ensures named { IfOk result (λ e. AllByRecursion (λ w. w.0 < 7) (named_in (tree_of e))) }
+{
     let first = cap(alloc, leaf(Leaf::Under(A)))?;
     let either = alt(alloc, cap(alloc, leaf(Leaf::AnyClimb))?, leaf(Leaf::Any))?;
     let last = cap(alloc, leaf(Leaf::Under(B)))?;
-    let back = star(alloc, leaf(Leaf::Any))?;
-    let middle = cat(alloc, star(alloc, either)?, last)?;
-    cat(alloc, cat(alloc, front, first)?, cat(alloc, middle, back)?)
+    cat(alloc, cat(alloc, first, star(alloc, either)?)?, last)
 }
 
 fn are_known(items: &[Item]) -> bool
@@ -138,18 +167,24 @@ fn database(alloc: Global, lines: &[&[Item]]) -> Result<Db, NoMemory>
     Ok(db)
 }
 
-/// The job of the expression on these lines.
-fn job<T: Threads + Sync>(
+/// What is asked of a place and a state.
+#[derive(Clone, Copy)]
+enum Asked {
+    Completes,
+    Sees,
+    Ends,
+}
+
+/// Whether the state completes there, where nothing was seen or where something was, or ends, on the job of the
+/// expression over these lines. None where there is no such place.
+fn told<T: Threads + Sync>(
     rt: &T,
     alloc: Global,
-    expression: &Expr,
+    shape: Shape,
     lines: &[&[Item]],
-    support: u64,
-) -> Result<Job, Fail>
-    requires support { 1 ≤ support }
-    requires leaves { unfolded_leaves (tree_of expression.now) ≤ 1024 }
-    requires named { AllByRecursion (λ w. w.0 < 7) (named_in (tree_of expression.now)) }
-{
+    bound: Bound,
+    asked: (Asked, u32, u32, u32),
+) -> Result<Option<bool>, Fail> {
     let mut names = Names::new(alloc)?;
     for word in &WORDS {
         let _item = names.intern(word.as_bytes())?;
@@ -159,20 +194,19 @@ fn job<T: Threads + Sync>(
         return Err(NoMemory)?;
     }
     let db = database(alloc, lines)?;
-    let fst = compile(alloc, expression)?;
-    let ranks = count(rt, alloc, &hierarchy, &db, support, &names)?;
-    Ok(Job::new(hierarchy, db, fst, ranks, support))
+    let fst = compile(alloc, &expression(alloc, shape)?)?;
+    let ranks = count(rt, alloc, &hierarchy, &db, 2, &names)?;
+    let job = Job::new(hierarchy, db, fst, ranks, 2);
+    Ok(told_of(alloc, &job, bound, asked)?)
 }
 
-/// Whether the state completes there, where there is such a place.
-fn completes(
+fn told_of(
     alloc: Global,
     job: &Job,
-    seq: u32,
     bound: Bound,
-    place: (u32, u32, bool),
+    asked: (Asked, u32, u32, u32),
 ) -> Result<Option<bool>, NoMemory> {
-    let (pos, q, seen) = place;
+    let (asked, seq, pos, q) = asked;
     if seq >= job.db().sequences() || q >= job.fst().states() {
         return Ok(None);
     }
@@ -180,19 +214,11 @@ fn completes(
         return Ok(None);
     }
     let grid = Grid::new(alloc, job, seq, bound)?;
-    Ok(Some(grid.completes(pos, State(q), seen)))
-}
-
-/// Whether the state ends there, where there is such a place.
-fn ends(alloc: Global, job: &Job, seq: u32, pos: u32, q: u32) -> Result<Option<bool>, NoMemory> {
-    if seq >= job.db().sequences() || q >= job.fst().states() {
-        return Ok(None);
-    }
-    if pos as usize > job.db().sequence(seq).len() {
-        return Ok(None);
-    }
-    let grid = Grid::new(alloc, job, seq, FREE)?;
-    Ok(Some(grid.ends(pos, State(q))))
+    Ok(Some(match asked {
+        Asked::Completes => grid.completes(pos, State(q), false),
+        Asked::Sees => grid.completes(pos, State(q), true),
+        Asked::Ends => grid.ends(pos, State(q)),
+    }))
 }
 
 const RUNNING: [&[Item]; 5] = [
@@ -205,36 +231,28 @@ const RUNNING: [&[Item]; 5] = [
 
 #[test]
 fn tells_what_completes_and_ends(rt: HostRuntime) -> Result<(), Fail> {
-    let alloc = rt.alloc();
-    let job = job(&rt, alloc, &climbing(alloc)?, &RUNNING, 2)?;
-    for (seq, answer) in [(0, true), (1, true), (2, false), (3, false), (4, true)] {
-        let told = completes(alloc, &job, seq, FREE, (0, 0, false))?;
-        assert_eq!(rt; told, Some(answer));
-    }
-    assert_eq!(rt; ends(alloc, &job, 4, 3, 5)?, Some(true));
-    assert_eq!(rt; ends(alloc, &job, 4, 3, 3)?, Some(false));
-    Ok(())
-}
-
-#[test]
-fn keeps_to_the_bound(rt: HostRuntime) -> Result<(), Fail> {
-    let alloc = rt.alloc();
-    let job = job(&rt, alloc, &climbing(alloc)?, &RUNNING, 2)?;
-    let none = None;
-    for (seq, top, need, place, answer) in [
-        (4, 3, none, (0, 0, false), true),
-        (4, 2, none, (0, 0, false), false),
-        (4, 0, none, (0, 0, false), false),
-        (4, 0, none, (0, 0, true), false),
-        (4, 0, none, (3, 5, true), true),
-        (4, 0, none, (3, 5, false), false),
-        (0, 5, Some(4), (0, 0, false), true),
-        (1, 5, Some(4), (0, 0, false), false),
-        (4, 5, Some(4), (0, 0, false), false),
-        (0, 3, Some(4), (0, 0, false), false),
-        (0, 3, Some(3), (0, 0, false), true),
+    for (top, need, asked, answer) in [
+        (5, None, (Asked::Completes, 0, 0, 0), true),
+        (5, None, (Asked::Completes, 1, 0, 0), true),
+        (5, None, (Asked::Completes, 2, 0, 0), false),
+        (5, None, (Asked::Completes, 3, 0, 0), false),
+        (5, None, (Asked::Completes, 4, 0, 0), true),
+        (5, None, (Asked::Ends, 4, 3, 5), true),
+        (5, None, (Asked::Ends, 4, 3, 3), false),
+        (3, None, (Asked::Completes, 4, 0, 0), true),
+        (2, None, (Asked::Completes, 4, 0, 0), false),
+        (0, None, (Asked::Completes, 4, 0, 0), false),
+        (0, None, (Asked::Sees, 4, 0, 0), false),
+        (0, None, (Asked::Sees, 4, 3, 5), true),
+        (0, None, (Asked::Completes, 4, 3, 5), false),
+        (5, Some(4), (Asked::Completes, 0, 0, 0), true),
+        (5, Some(4), (Asked::Completes, 1, 0, 0), false),
+        (5, Some(4), (Asked::Completes, 4, 0, 0), false),
+        (3, Some(4), (Asked::Completes, 0, 0, 0), false),
+        (3, Some(3), (Asked::Completes, 0, 0, 0), true),
     ] {
-        let told = completes(alloc, &job, seq, Bound { top, need }, place)?;
+        let bound = Bound { top, need };
+        let told = told(&rt, rt.alloc(), Shape::Climbing, &RUNNING, bound, asked)?;
         assert_eq!(rt; told, Some(answer));
     }
     Ok(())
@@ -242,112 +260,69 @@ fn keeps_to_the_bound(rt: HostRuntime) -> Result<(), Fail> {
 
 #[test]
 fn tells_of_a_sequence_of_no_item(rt: HostRuntime) -> Result<(), Fail> {
-    let alloc = rt.alloc();
-    let any = job(&rt, alloc, &star(alloc, leaf(Leaf::Any))?, &[&[]], 1)?;
-    assert_eq!(rt; completes(alloc, &any, 0, FREE, (0, 0, true))?, Some(true));
-    assert_eq!(rt;
-        completes(alloc, &any, 0, FREE, (0, 0, false))?,
-        Some(false)
-    );
-    assert_eq!(rt; ends(alloc, &any, 0, 0, 0)?, Some(true));
-    let one = job(&rt, alloc, &times(alloc, 1)?, &[&[]], 1)?;
-    assert_eq!(rt; completes(alloc, &one, 0, FREE, (0, 0, true))?, Some(false));
-    assert_eq!(rt; ends(alloc, &one, 0, 0, 0)?, Some(false));
+    for (shape, asked, answer) in [
+        (Shape::Silent, Asked::Sees, true),
+        (Shape::Silent, Asked::Completes, false),
+        (Shape::Silent, Asked::Ends, true),
+        (Shape::Times(1), Asked::Sees, false),
+        (Shape::Times(1), Asked::Ends, false),
+    ] {
+        let told = told(&rt, rt.alloc(), shape, &[&[], &[]], FREE, (asked, 0, 0, 0))?;
+        assert_eq!(rt; told, Some(answer));
+    }
     Ok(())
 }
 
 // `(a1){n}` has n + 1 states, and after k items only state k completes.
 #[test]
 fn has_each_state_at_the_borders_of_words(rt: HostRuntime) -> Result<(), Fail> {
-    let alloc = rt.alloc();
-    for n in [63u32, 64, 255, 256, 1024] {
-        let n = n.clamp(1, 1024);
-        let items = vec![in alloc; A1; n as usize]?;
-        let job = job(&rt, alloc, &times(alloc, n)?, &[items.as_slice()], 1)?;
-        for (pos, q, seen, answer) in [
-            (0, 0, false, true),
-            (0, 1, false, false),
-            (n - 1, n - 1, false, true),
-            (n - 1, n, false, false),
-            (n, n, true, true),
-            (n, n - 1, true, false),
-            (n, n, false, false),
+    for n in [63u32, 64, 255, 256, 1_024] {
+        let items = vec![in rt.alloc(); A1; n as usize]?;
+        let lines = [items.as_slice(), items.as_slice()];
+        for (asked, pos, q, answer) in [
+            (Asked::Completes, 0, 0, true),
+            (Asked::Completes, 0, 1, false),
+            (Asked::Completes, n - 1, n - 1, true),
+            (Asked::Completes, n - 1, n, false),
+            (Asked::Sees, n, n, true),
+            (Asked::Sees, n, n - 1, false),
+            (Asked::Completes, n, n, false),
+            (Asked::Ends, n, n, true),
+            (Asked::Ends, n, n - 1, false),
         ] {
-            let told = completes(alloc, &job, 0, FREE, (pos, q, seen))?;
+            let told = told(
+                &rt,
+                rt.alloc(),
+                Shape::Times(n),
+                &lines,
+                FREE,
+                (asked, 0, pos, q),
+            )?;
             assert_eq!(rt; told, Some(answer));
         }
-        assert_eq!(rt; ends(alloc, &job, 0, n, n)?, Some(true));
-        assert_eq!(rt; ends(alloc, &job, 0, n, n - 1)?, Some(false));
     }
     Ok(())
 }
 
 #[test]
 fn goes_over_the_longest_sequence(rt: HostRuntime) -> Result<(), Fail> {
-    let alloc = rt.alloc();
-    let items = vec![in alloc; A1; 65_535]?;
-    let job = job(&rt, alloc, &climbing(alloc)?, &[items.as_slice()], 1)?;
-    for (pos, q, seen, answer) in [
-        (0, 0, false, false),
-        (65_535, 5, true, true),
-        (65_534, 5, true, true),
-        (65_534, 4, true, false),
+    let items = vec![in rt.alloc(); A1; 65_535]?;
+    let lines = [items.as_slice(), items.as_slice()];
+    for (asked, pos, q, answer) in [
+        (Asked::Completes, 0, 0, false),
+        (Asked::Sees, 65_535, 5, true),
+        (Asked::Sees, 65_534, 5, true),
+        (Asked::Sees, 65_534, 4, false),
     ] {
-        let told = completes(alloc, &job, 0, FREE, (pos, q, seen))?;
+        let told = told(
+            &rt,
+            rt.alloc(),
+            Shape::Climbing,
+            &lines,
+            FREE,
+            (asked, 0, pos, q),
+        )?;
         assert_eq!(rt; told, Some(answer));
     }
-    Ok(())
-}
-
-/// The states that complete at a place where something was seen, and where nothing was, as the first word; the
-/// states whose edges match the item there and write nothing, with a dot, and those that write, with the ranks.
-fn told_at(alloc: Global, job: &Job, seq: u32, pos: u32) -> Result<String, Fail> {
-    let mut text = String::new(alloc);
-    let mut grids = Grids::new(alloc, job, FREE)?;
-    if seq >= job.db().sequences() || pos as usize >= job.db().sequence(seq).len() {
-        return Ok(text);
-    }
-    grids.push(seq)?;
-    for seen in [true, false] {
-        let word = grids.completing(0, pos, seen).first().copied().unwrap_or(0);
-        write!(text, "{word} ")?;
-    }
-    for k in 1..job.fst().states() {
-        if grids.is_silent(0, pos, State(k)) {
-            write!(text, "{k}. ")?;
-        }
-        for rank in grids.outputs(0, pos, State(k)) {
-            write!(text, "{k}:{rank} ")?;
-        }
-    }
-    Ok(text)
-}
-
-#[test]
-fn tells_what_may_be_written(rt: HostRuntime) -> Result<(), Fail> {
-    let alloc = rt.alloc();
-    let job = job(&rt, alloc, &climbing(alloc)?, &RUNNING, 2)?;
-    for (pos, text) in [
-        (0, "127 31 1. 2:3 3:2 3:3 4. 6. "),
-        (1, "127 31 1. 2:3 3:2 3:3 4. 6. "),
-        (2, "124 28 1. 3:1 4. 5:1 6. "),
-    ] {
-        assert_eq!(rt; told_at(alloc, &job, 4, pos)?.as_str(), text);
-    }
-    Ok(())
-}
-
-#[test]
-fn gives_outputs_of_items_with_parents(rt: HostRuntime) -> Result<(), Fail> {
-    let alloc = rt.alloc();
-    let hierarchy = hierarchy(alloc)?;
-    let mut out = Vec::new(alloc);
-    assert!(rt; outputs(&hierarchy, &Leaf::Climb(A), A1, &mut out)?);
-    assert_eq!(rt; out.as_slice(), [A, A1].as_slice());
-    assert!(rt; !outputs(&hierarchy, &Leaf::Exact(A), A1, &mut out)?);
-    assert!(rt; out.is_empty());
-    assert!(rt; !outputs(&hierarchy, &Leaf::Not(A), A1, &mut out)?);
-    assert!(rt; outputs(&hierarchy, &Leaf::Not(A), B, &mut out)?);
-    assert_eq!(rt; out.as_slice(), [B].as_slice());
     Ok(())
 }
