@@ -32,8 +32,7 @@ const NO_FAULTS: Faults<'static> = Faults {
     cut: 100_000,
 };
 
-/// The words, the hierarchy file `h`, the sequence file `f`, and what they leave: the status, out and err. The
-/// file `-` has two lines of an `a`.
+/// Words, the files `h` and `f`, and what a run leaves. The file `-` has two lines of an `a`.
 #[derive(Clone, Copy)]
 struct Case<'a> {
     words: &'a [&'a str],

@@ -175,8 +175,7 @@ enum Asked {
     Ends,
 }
 
-/// Whether the state completes there, where nothing was seen or where something was, or ends, on the job of the
-/// expression over these lines. None where there is no such place.
+/// The answer, on the job of the expression over these lines. None where there is no such place.
 fn told<T: Threads + Sync>(
     rt: &T,
     alloc: Global,
