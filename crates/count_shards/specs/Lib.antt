@@ -1,0 +1,3 @@
+-- the words of the promise
+pub mod Blocks
+pub mod Rows
