@@ -8,7 +8,7 @@ use Rattle.mine_model.specs.Ranks.{IsFrequentItem, IsCandidateOf}
 use Rattle.mine_model.specs.Support.{Sequence, Counts}
 use Rattle.fst_simulate.specs.Problems.{Problem}
 use Rattle.candidate_gen.specs.Candidates.{AreRanked}
-use Rattle.pattern_counts.specs.Tallies.{Tally, sum_of}
+use Rattle.pattern_counts.specs.Tally.{Tally, no_lists, sum_of}
 
 -- ---- blocks and homes
 
@@ -75,10 +75,6 @@ pub record Block : Type 0 where
   pub number : ℕ
   pub tallies : List Tally
   pub pairs : ℕ
-
--- nothing counted
-abbrev pub no_lists : Tally
-no_lists = record { lists = []; sums = [] }
 
 abbrev pub tally_of : Block → ℕ → Tally
 tally_of block home = slice_index_or block.tallies home no_lists

@@ -2,7 +2,7 @@
 #![tactic(auto)]
 
 mod block;
-mod rows;
+
 
 pub use block::BlockCounts;
 pub use block::count_block;
