@@ -18,6 +18,7 @@ pub mod NumberingLemmas
 pub mod NamedAnswer
 pub mod WalkLemmas
 pub mod ElementLemmas
+pub mod CountedLemmas
 pub mod CoverLemmas
 pub mod OnceLemmas
 pub mod DepthLemmas

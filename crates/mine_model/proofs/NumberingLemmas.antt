@@ -230,7 +230,8 @@ module _ {A B : Type 0} (links : List (Link A)) (others : List (Link B)) (P : A 
       → AllByRecursion P input → AllByRecursion P output
   generated-in = Generates-items links P renames.up
 
-  one_to_one-lists : (xs ys : List A) → AllByRecursion P xs → AllByRecursion P ys → map f xs ≡ map f ys → xs ≡ ys
+  -- lists of named items with the same names are the same
+  pub one_to_one-lists : (xs ys : List A) → AllByRecursion P xs → AllByRecursion P ys → map f xs ≡ map f ys → xs ≡ ys
   one_to_one-lists [] [] p q same = refl
   one_to_one-lists [] (y ∷ ys) p q same = absurd (cc)
   one_to_one-lists (x ∷ xs) [] p q same = absurd (cc)

@@ -10,6 +10,7 @@ pub mod Generation
 pub mod Support
 pub mod Answer
 pub mod AnswerText
+pub mod Counted
 pub mod First
 pub mod Refusal
 pub mod Status

@@ -1,10 +1,11 @@
 -- The status and the message of each fault. This program's own format.
-use Rattle.std.specs.Prelude.{ℕ, ◌++◌, ◌∷◌, List, [], codes, Result, Ok, Err}
+use Rattle.std.specs.Prelude.{ℕ, ◌++◌, ◌∷◌, List, [], codes, Option, Some, None, Result, Ok, Err}
 use Rattle.std.specs.Fmt.{decimal}
 use Rattle.mine_model.specs.declared.fault.Fault.{Fault}
 use Rattle.mine_model.specs.declared.fault.Fault.TheVariants.{Usage, BadToken, BadRepeat, Unexpected, Unknown, BadByte, BadWeight, Cycle, ExprTooLong, RepeatLimit, TooDeep, TooManyLeaves, TooLarge, NameTooLong, TooManyItems, TooManyAncestors, TooManySequences, SequenceTooLong, Read, Write, NoMemory}
 use Rattle.mine_model.specs.declared.fault.Which.{Which}
 use Rattle.mine_model.specs.declared.fault.Which.TheVariants.{Hierarchy, Sequences}
+use Rattle.mine_model.specs.declared.mined.Work.{Work}
 use Rattle.mine_model.specs.Bytes.{line_feed}
 
 -- what is malformed has 3, and what is beyond a limit 4
@@ -23,8 +24,8 @@ fault_status NoMemory = 7
 fault_status _ = 4
 
 -- the status of a run
-abbrev pub status_of : Result (Unit {0}) Fault → ℕ
-status_of (Ok done) = 0
+abbrev pub status_of : Result (Option Work) Fault → ℕ
+status_of (Ok told) = 0
 status_of (Err fault) = fault_status fault
 
 abbrev pub file_text : Which → List ℕ
@@ -66,7 +67,13 @@ fault_text (Read file) = file_text file ++ codes ": read fault"
 fault_text Write = codes "write fault"
 fault_text NoMemory = codes "out of memory"
 
--- what stands on the error output after a run that ended so
-abbrev pub message_of : Result (Unit {0}) Fault → List ℕ
-message_of (Ok done) = []
+abbrev pub work_text : Work → List ℕ
+work_text work = codes "nodes " ++ decimal work.nodes ++ codes " parts " ++ decimal work.parts
+    ++ codes " candidates " ++ decimal work.candidates
+
+-- what stands on the error output after a run that ended so; after one that is done, its work where it is
+-- told
+abbrev pub message_of : Result (Option Work) Fault → List ℕ
+message_of (Ok None) = []
+message_of (Ok (Some work)) = codes "desq: " ++ work_text work ++ line_feed ∷ []
 message_of (Err fault) = codes "desq: " ++ fault_text fault ++ line_feed ∷ []

@@ -14,6 +14,7 @@ mod item;
 mod label;
 mod laws;
 mod memory;
+mod mined;
 mod names_fault;
 mod patex_fault;
 mod ranks;
@@ -38,6 +39,7 @@ pub use laws::{
     at_most_one_reading, at_most_one_support, at_most_one_tree,
 };
 pub use memory::NoMemory;
+pub use mined::{Mined, Work};
 pub use names_fault::NamesFault;
 pub use patex_fault::PatexFault;
 pub use ranks::Ranks;

@@ -1,0 +1,25 @@
+-- The counted work of a run: the pairs of a sequence and one of its candidates. The candidates are those of
+-- the DESQ article.
+use Rattle.std.specs.Prelude.{◌≡◌, ◌≢◌, ℕ, ◌+◌, ◌-◌, ◌^◌, ◌↔◌, min, List, [], ◌∷◌, length, AllPairs, Contains}
+use Rattle.mine_model.specs.Support.{Sequence}
+use Rattle.mine_model.specs.Answer.{Data}
+use Rattle.mine_model.specs.Ranks.{IsFrequentItem, IsCandidateOf}
+
+-- the items have so many candidates: patterns of frequent items that the expression generates from them
+pub record HasCandidates {A : Type 0} (d : Data A) (items : List A) (count : ℕ) : Type 0 where
+  pub candidates : List (List A)
+  pub once : AllPairs (λ first second. first ≢ second) candidates
+  pub exact : (pattern : List A) → Contains candidates pattern
+      ↔ IsCandidateOf d.links d.expression (IsFrequentItem d.links d.sequences d.threshold) items pattern
+  pub counted : length candidates ≡ count
+
+-- n is the number of pairs of one of these sequences and one of its candidates
+abbrev pub HasPairs : {A : Type 0} → Data A → List (Sequence A) → ℕ → Type 0
+HasPairs d [] n = n ≡ 0
+HasPairs d (sequence ∷ sequences) n =
+    (first : ℕ) × (rest : ℕ) × (n ≡ first + rest)
+    × HasCandidates d sequence.items first × HasPairs d sequences rest
+
+-- the number that is told: what is above the greatest of 64 bits is told as that
+abbrev pub told_of : ℕ → ℕ
+told_of n = min n (2 ^ 64 - 1)
