@@ -12,6 +12,19 @@ use Rattle.fst_simulate.specs.Problems.{Problem}
 use Rattle.count_shards.specs.Blocks.{sequences_in, block_count, HasCandidate, InBlock, SumsTo}
 use Rattle.count_shards.specs.Shard.{entry_of}
 
+past_end : {X : Type 0} (n : ℕ) (xs : List X) → length xs ≤ n → drop n xs ≡ []
+past_end zero [] h = refl
+past_end zero (x ∷ xs) h = absurd (omega (arith, h))
+past_end (suc n) [] h = refl
+past_end (suc n) (x ∷ xs) h = past_end n xs (omega (arith, h))
+
+drop_drop : {X : Type 0} (n m : ℕ) (xs : List X) → drop m (drop n xs) ≡ drop (n + m) xs
+drop_drop zero m xs = ap (λ (k : ℕ). drop k xs) (omega arith)
+drop_drop (suc n) m [] = past_end m [] (omega arith) ∙ sym (past_end (suc n + m) [] (omega arith))
+drop_drop (suc n) m (x ∷ xs) =
+    let e : suc (n + m) ≡ suc n + m = omega arith in
+    drop_drop n m xs ∙ ap (λ (k : ℕ). drop k (x ∷ xs)) e
+
 module _ (problem : Problem) (ranks : List ℕ) where
   -- one more block at the end
   pub sums_more : (blocks : List ℕ) (block n m : ℕ) → SumsTo problem blocks ranks n → InBlock problem block ranks m → SumsTo problem (blocks ++ block ∷ []) ranks (n + m)
@@ -57,21 +70,6 @@ module _ (problem : Problem) (ranks : List ℕ) where
       let front = at_front blocks block n some sums in
       let (m, k, here, rest, e) = front.sums in
       (m, k, here, sums_reordered front.rest others k (λ weight. omega (arith, same weight, front.same weight, sum_by-cons weight (entry_of block) (map entry_of others), sum_by-cons weight (entry_of block) (map entry_of front.rest))) rest, e)
-
-  drop_drop : {X : Type 0} (n m : ℕ) (xs : List X) → drop m (drop n xs) ≡ drop (n + m) xs
-  drop_drop zero m xs = ap (λ (k : ℕ). drop k xs) (omega arith)
-  drop_drop {X} (suc n) m [] = drop_none m ∙ sym (drop_none (suc n + m))
-    where
-      drop_none : (k : ℕ) → drop k ([] : List X) ≡ []
-      drop_none zero = refl
-      drop_none (suc k) = refl
-  drop_drop (suc n) m (x ∷ xs) = drop_drop n m xs ∙ ap (λ (k : ℕ). drop k (x ∷ xs)) (omega arith)
-
-  past_end : {X : Type 0} (n : ℕ) (xs : List X) → length xs ≤ n → drop n xs ≡ []
-  past_end zero [] h = refl
-  past_end zero (x ∷ xs) h = absurd (omega (arith, h))
-  past_end (suc n) [] h = refl
-  past_end (suc n) (x ∷ xs) h = past_end n xs (omega (arith, h))
 
   -- the sequences of one block after another, from this one on
   laid : (count from n : ℕ) → length problem.sequences ≤ 256 * (from + count) → SumsTo problem (range_with_len from count) ranks n → Counts (HasCandidate problem ranks) (drop (256 * from) problem.sequences) n

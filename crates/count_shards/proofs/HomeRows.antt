@@ -2,14 +2,14 @@
 use Rattle.std.proofs.Common.{◌≡◌, ◌≢◌, ℕ, zero, suc, ◌+◌, ◌<◌, ◌≤◌, ◌↔◌, ◌⊎◌, List, [], ◌∷◌, ◌++◌, length, get_or, refl, sym, subst, ap, ◌∙◌, inl, inr, arith}
 use Rattle.std.specs.List.{All, AllPairs, AllByRecursion, Contains}
 use Rattle.std.proofs.lemmas.Bool.{cases_eq, cases_lt}
-use Rattle.std.proofs.lemmas.List.Elements.{Contains-append_left, Contains-append_right, Contains-get_or}
+use Rattle.std.proofs.lemmas.List.Elements.{Contains-append_left, Contains-append_right, Contains-append_cases, Contains-get_or}
 use Rattle.mine_model.specs.declared.item.Item.{Item}
 use Rattle.mine_model.specs.declared.row.Row.{Row}
 use Rattle.mine_model.specs.Numbered.{tree_of, AreFrequent}
 use Rattle.mine_model.specs.Support.{Sequence, Counts, HasSupport}
 use Rattle.mine_model.specs.Ranks.{IsFrequentItem, IsCandidateOf}
 use Rattle.mine_model.specs.Answer.{IsFrequent}
-use Rattle.mine_model.proofs.ListLemmas.{AllPairs-append, Contains-append_cases, Contains-none}
+use Rattle.mine_model.proofs.ListLemmas.{AllPairs-append, Contains-none}
 use Rattle.mine_model.proofs.SupportLemmas.{Counts-unique, Counts-some}
 use Rattle.mine_model.proofs.FrequencyLemmas.{Counts-by, frequencies-known, support-by_candidates, HasFrequency-within}
 use Rattle.fst_simulate.specs.Problems.{Problem, IsWhole}
@@ -19,7 +19,7 @@ use Rattle.pattern_counts.specs.Tally.{Tally, sum_of}
 use Rattle.count_shards.specs.Blocks.{home_of, data_of, HasCandidate}
 use Rattle.count_shards.specs.Rows.{IsCountedRow, AppendsRows}
 use Rattle.count_shards.specs.Shards.{IsRowOf, AppendsHome, AreRowsFrom}
-use Rattle.count_shards.proofs.RankLists.{same_ranks}
+use Rattle.count_shards.proofs.RankedLemmas.{same_ranks}
 
 each_sequence : (xs : List (Sequence Item)) → AllByRecursion (λ s. Unit {0}) xs
 each_sequence [] = tt

@@ -1,6 +1,7 @@
 //! Rows of as many items each, read by columns.
 ghost use Rattle.std.specs.Prelude.{◌≡◌, ℕ, List, [], ◌∷◌, ◌++◌, length, All, IfOk, OnOk, vec_len, slice_get, Some};
 ghost use Rattle.std.specs.declared.alloc.Global.{Global as TheGlobal};
+ghost use Rattle.std.specs.declared.vec.Vec.{Vec as TheVec};
 ghost use Rattle.count_shards.specs.Shards.{column};
 ghost use Rattle.count_shards.specs.Columns.{IsDealt};
 
@@ -15,7 +16,7 @@ pub(crate) fn columns<T: Drop>(
 ) -> Result<Vec<Vec<T>>, NoMemory>
     requires { All (λ row. vec_len row ≡ width) rows.items }
     ensures width { IfOk result (λ v. vec_len v ≡ width) }
-    ensures columns { IfOk result (λ v. (k : ℕ) (list : Vec T TheGlobal) → slice_get v.items k ≡ Some list
+    ensures columns { IfOk result (λ v. (k : ℕ) (list : TheVec T TheGlobal) → slice_get v.items k ≡ Some list
         → list.items ≡ column k rows.items) }
 {
     let mut lists = empty_lists::<T>(alloc, width)?;

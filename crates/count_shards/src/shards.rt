@@ -89,7 +89,7 @@ impl Shards {
         for home in start..end {
             let lock = &self.locks[home];
             let pass = &mut passes[home];
-            let mut change = AddBlock { block };
+            let mut change = AddBlock { block: &*block };
             lock.change(rt, pass, &mut change)?;
         }
         Ok(())
