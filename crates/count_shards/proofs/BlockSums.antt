@@ -9,7 +9,7 @@ use Rattle.mine_model.specs.Support.{Sequence, Counts}
 use Rattle.mine_model.proofs.FrequencyLemmas.{Counts-append}
 use Rattle.mine_model.proofs.OnceLemmas.{one, one-same, one-cases}
 use Rattle.fst_simulate.specs.Problems.{Problem}
-use Rattle.count_shards.specs.Blocks.{sequences_in, block_count, HasCandidate, InBlock, SumsTo}
+use Rattle.count_shards.specs.Blocks.{sequences_in, block_count, HasCandidate, SumsBy, SumsTo}
 use Rattle.count_shards.specs.Shard.{entry_of}
 
 past_end : {X : Type 0} (n : ℕ) (xs : List X) → length xs ≤ n → drop n xs ≡ []
@@ -25,9 +25,9 @@ drop_drop (suc n) m (x ∷ xs) =
     let e : suc (n + m) ≡ suc n + m = omega arith in
     drop_drop n m xs ∙ ap (λ (k : ℕ). drop k (x ∷ xs)) e
 
-module _ (problem : Problem) (ranks : List ℕ) where
+module _ (Has : ℕ → ℕ → Type 0) where
   -- one more block at the end
-  pub sums_more : (blocks : List ℕ) (block n m : ℕ) → SumsTo problem blocks ranks n → InBlock problem block ranks m → SumsTo problem (blocks ++ block ∷ []) ranks (n + m)
+  pub sums_more : (blocks : List ℕ) (block n m : ℕ) → SumsBy Has blocks n → Has block m → SumsBy Has (blocks ++ block ∷ []) (n + m)
   sums_more [] block n m none one = (m, 0, one, refl, omega (arith, none))
   sums_more (b ∷ blocks) block n m (first, rest, here, later, e) one =
       (first, rest + m, here, sums_more blocks block rest m later one, omega (arith, e))
@@ -36,10 +36,10 @@ module _ (problem : Problem) (ranks : List ℕ) where
   record HasAtFront (blocks : List ℕ) (block n : ℕ) : Type 0 where
     rest : List ℕ
     same : SameLabels (map entry_of blocks) (map entry_of (block ∷ rest))
-    sums : SumsTo problem (block ∷ rest) ranks n
+    sums : SumsBy Has (block ∷ rest) n
 
   -- a block that is there can stand at the front
-  at_front : (blocks : List ℕ) (block n : ℕ) → 1 ≤ sum_by (one (entry_of block)) (map entry_of blocks) → SumsTo problem blocks ranks n → HasAtFront blocks block n
+  at_front : (blocks : List ℕ) (block n : ℕ) → 1 ≤ sum_by (one (entry_of block)) (map entry_of blocks) → SumsBy Has blocks n → HasAtFront blocks block n
   at_front [] block n some sums = absurd (omega (arith, some))
   at_front (b ∷ blocks) block n some sums = elim (one-cases (entry_of block) (entry_of b)) [
     | inl same ↦
@@ -47,7 +47,7 @@ module _ (problem : Problem) (ranks : List ℕ) where
         record {
           rest = blocks;
           same = λ weight. ap (λ (x : ℕ). sum_by weight (map entry_of (x ∷ blocks))) is;
-          sums = subst (λ (x : ℕ). SumsTo problem (x ∷ blocks) ranks n) is sums;
+          sums = subst (λ (x : ℕ). SumsBy Has (x ∷ blocks) n) is sums;
         }
     | inr apart ↦
         let f = one (entry_of block) in
@@ -61,7 +61,7 @@ module _ (problem : Problem) (ranks : List ℕ) where
   ]
 
   -- the order of the blocks does not matter
-  pub sums_reordered : (blocks others : List ℕ) (n : ℕ) → SameLabels (map entry_of blocks) (map entry_of others) → SumsTo problem blocks ranks n → SumsTo problem others ranks n
+  pub sums_reordered : (blocks others : List ℕ) (n : ℕ) → SameLabels (map entry_of blocks) (map entry_of others) → SumsBy Has blocks n → SumsBy Has others n
   sums_reordered [] [] n same sums = sums
   sums_reordered (b ∷ blocks) [] n same sums = absurd (omega (arith, same (λ _. 1), sum_by-cons (λ (_ : List ℕ). 1) (entry_of b) (map entry_of blocks)))
   sums_reordered blocks (block ∷ others) n same sums =
@@ -71,6 +71,7 @@ module _ (problem : Problem) (ranks : List ℕ) where
       let (m, k, here, rest, e) = front.sums in
       (m, k, here, sums_reordered front.rest others k (λ weight. omega (arith, same weight, front.same weight, sum_by-cons weight (entry_of block) (map entry_of others), sum_by-cons weight (entry_of block) (map entry_of front.rest))) rest, e)
 
+module _ (problem : Problem) (ranks : List ℕ) where
   -- the sequences of one block after another, from this one on
   laid : (count from n : ℕ) → length problem.sequences ≤ 256 * (from + count) → SumsTo problem (range_with_len from count) ranks n → Counts (HasCandidate problem ranks) (drop (256 * from) problem.sequences) n
   laid zero from n all sums = rw (past_end (256 * from) problem.sequences (omega (arith, all))) sums

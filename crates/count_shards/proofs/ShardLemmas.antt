@@ -8,7 +8,7 @@ use Rattle.mine_model.specs.Support.{Counts}
 use Rattle.fst_simulate.specs.Problems.{Problem}
 use Rattle.pattern_counts.specs.Tally.{Tally, sum_of, AddsAll}
 use Rattle.turn_lock.specs.History.{Made}
-use Rattle.count_shards.specs.Blocks.{Block, block_count, home_of, tally_of, AreCountsOf, HasCandidate, SumsTo}
+use Rattle.count_shards.specs.Blocks.{Block, block_count, home_of, tally_of, AreCountsOf, HasCandidate, InBlock, SumsTo}
 use Rattle.count_shards.specs.Shard.{ShardSums, IsShard, entry_of, history_of, blocks_of}
 use Rattle.count_shards.proofs.BlockSums.{sums_more, sums_reordered, sums_all}
 
@@ -23,7 +23,7 @@ shard_more problem home number old new added next block is counts adds e =
       within = is.within;
       exact = λ ranks at.
           (let one = subst (λ (h : ℕ). Counts (HasCandidate problem ranks) _ (sum_of (tally_of block h) ranks)) at (counts.exact ranks) in
-          rw (blocks, adds ranks) (sums_more problem ranks (blocks_of added) block.number (sum_of old ranks) (sum_of (tally_of block home) ranks) (is.exact ranks at) one));
+          rw (blocks, adds ranks) (sums_more (λ b m. InBlock problem b ranks m) (blocks_of added) block.number (sum_of old ranks) (sum_of (tally_of block home) ranks) (is.exact ranks at) one));
       homes = λ ranks apart. omega (arith, adds ranks, is.homes ranks apart, counts.homes home ranks apart);
       most = λ ranks. omega (arith, adds ranks, is.most ranks, counts.most home ranks, ap length e, length-append added ((number, block.number) ∷ []));
     }
@@ -43,7 +43,7 @@ pub shard_counts : (problem : Problem) (shard : ShardSums) → IsShard shard →
     → (ranks : List ℕ) → home_of ranks ≡ shard.home → Counts (HasCandidate problem ranks) problem.sequences (sum_of shard.tally ranks)
 shard_counts problem shard is e same ranks at =
     let sums = subst (λ (p : Problem). SumsTo p (blocks_of shard.added) ranks (sum_of shard.tally ranks)) e (is.exact ranks at) in
-    sums_all problem ranks (sum_of shard.tally ranks) (sums_reordered problem ranks (blocks_of shard.added) (range_with_len 0 (block_count problem)) (sum_of shard.tally ranks) same sums)
+    sums_all problem ranks (sum_of shard.tally ranks) (sums_reordered (λ b m. InBlock problem b ranks m) (blocks_of shard.added) (range_with_len 0 (block_count problem)) (sum_of shard.tally ranks) same sums)
 
 -- what was added, as blocks
 pub history_weight : (weight : List ℕ → ℕ) (added : List (ℕ × ℕ)) → sum_by (λ (c : Made). weight c.1) (history_of added) ≡ sum_by weight (map entry_of (blocks_of added))
