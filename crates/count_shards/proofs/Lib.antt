@@ -1,3 +1,7 @@
-mod BlockSums
-mod HomeRows
+pub mod BlockSums
+mod Lists
+mod ColumnLemmas
 mod RankedLemmas
+mod HomeRows
+mod ShardLemmas
+mod PassLemmas

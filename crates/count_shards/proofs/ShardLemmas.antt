@@ -22,7 +22,7 @@ shard_more problem home number old new added next block is counts adds e =
     record {
       within = is.within;
       exact = λ ranks at.
-          (let one = subst (λ (h : ℕ). Counts (HasCandidate problem ranks) _ (sum_of (tally_of block h) ranks)) at (counts.exact ranks) in
+          (let one = subst (λ (h : ℕ). InBlock problem block.number ranks (sum_of (tally_of block h) ranks)) at (counts.exact ranks) in
           rw (blocks, adds ranks) (sums_more (λ b m. InBlock problem b ranks m) (blocks_of added) block.number (sum_of old ranks) (sum_of (tally_of block home) ranks) (is.exact ranks at) one));
       homes = λ ranks apart. omega (arith, adds ranks, is.homes ranks apart, counts.homes home ranks apart);
       most = λ ranks. omega (arith, adds ranks, is.most ranks, counts.most home ranks, ap length e, length-append added ((number, block.number) ∷ []));

@@ -1,0 +1,76 @@
+use Rattle.std.proofs.Common.{◌≡◌, ◌<◌, ◌≤◌, ◌+◌, ◌∷◌, [], ◌++◌, ℕ, List, Some, slice_get, length, length-append, ap, sym, refl, subst, ◌∙◌, arith}
+use Rattle.fst_simulate.specs.Problems.{Problem}
+use Rattle.turn_lock.specs.Passes.{AreAllPasses}
+use Rattle.count_shards.specs.Shard.{history_of}
+use Rattle.count_shards.specs.Shards.{ShardPass, AppendsHome, AreRowsFrom, column}
+use Rattle.count_shards.proofs.Lists.{get_popped, get_before}
+use Rattle.count_shards.proofs.PassLemmas.{PassList, back_passes, back_blocks, lists_width}
+use Rattle.count_shards.proofs.HomeRows.{rows_begin, rows_more, frequent_rows, rows_within}
+use Rattle.count_shards.proofs.shards.Shards.close.Goals as goal
+
+pub columns-requires : goal.columns-requires
+columns-requires c = λ k d below. lists_width c.args.self c.args.passes.items c.requires.all k d below ∙ sym (c.args.self.locks.ok.0) ∙ sym c.len.ensures
+
+pub close-shard-requires-after_bounds : goal.close-shard-requires-after_bounds
+close-shard-requires-after_bounds c =
+    let lock = c.in-Some.lock in
+    let rest = c.pop.new.self.items in
+    let home : ℕ = length rest in
+    let at = c.locks.invariant.locks home lock (get_popped c.locks.locks.items rest lock c.in-Some.ensures.items) in
+    let passes = c.unwrap-passes.result in
+    let popped : c.locks.lists.items ≡ c.pop-in-Some.new.self.items ++ passes ∷ [] = rw c.unwrap-passes.ensures at c.pop-in-Some.ensures.items in
+    let place : length c.pop-in-Some.new.self.items ≡ home = omega (arith, c.locks.invariant.count, ap length popped, length-append c.pop-in-Some.new.self.items (passes ∷ []), ap length c.in-Some.ensures.items, length-append rest (lock ∷ [])) in
+    let is : passes.items ≡ column home c.args.passes.items = c.locks.invariant.columns home passes (subst (λ (k : ℕ). slice_get c.locks.lists.items k ≡ Some passes) place (get_popped c.locks.lists.items c.pop-in-Some.new.self.items passes popped)) in
+    rw is (back_passes c.args.self c.args.passes.items c.requires.all home lock at)
+
+pub append_rows-requires-clause-job : goal.append_rows-requires-clause-job
+append_rows-requires-clause-job c =
+    let lock = c.in-Some.lock in
+    let rest = c.pop.new.self.items in
+    let at = c.locks.invariant.locks (length rest) lock (get_popped c.locks.locks.items rest lock c.in-Some.ensures.items) in
+    ap (λ (g : Problem × ℕ). g.0) c.close-shard.ensures.stays ∙ (c.requires.shards.each (length rest) lock at).0
+
+pub append_rows-requires-clause-all : goal.append_rows-requires-clause-all
+append_rows-requires-clause-all c =
+    let lock = c.in-Some.lock in
+    let rest = c.pop.new.self.items in
+    let home : ℕ = length rest in
+    let passes = c.unwrap-passes.result in
+    let popped : c.locks.lists.items ≡ c.pop-in-Some.new.self.items ++ passes ∷ [] = rw c.unwrap-passes.ensures at c.pop-in-Some.ensures.items in
+    let place : length c.pop-in-Some.new.self.items ≡ home = omega (arith, c.locks.invariant.count, ap length popped, length-append c.pop-in-Some.new.self.items (passes ∷ []), ap length c.in-Some.ensures.items, length-append rest (lock ∷ [])) in
+    let is : passes.items ≡ column home c.args.passes.items = c.locks.invariant.columns home passes (subst (λ (k : ℕ). slice_get c.locks.lists.items k ≡ Some passes) place (get_popped c.locks.lists.items c.pop-in-Some.new.self.items passes popped)) in
+    let within : home < 16 = omega (arith, c.locks.invariant.few, ap length c.in-Some.ensures.items, length-append rest (lock ∷ [])) in
+    back_blocks c.args.job.now c.args.passes.items home c.close-shard.result.added within c.requires.each_once (rw is at c.close-shard.ensures.counts)
+
+pub locks-preserved : goal.locks-preserved
+locks-preserved c =
+    let problem = c.args.job.now in
+    let lock = c.in-Some.lock in
+    let rest = c.pop.new.self.items in
+    let home : ℕ = length rest in
+    let at = c.locks.invariant.locks home lock (get_popped c.locks.locks.items rest lock c.in-Some.ensures.items) in
+    let passes = c.unwrap-passes.result in
+    let left = c.pop-in-Some.new.self.items in
+    let popped : c.locks.lists.items ≡ left ++ passes ∷ [] = rw c.unwrap-passes.ensures at c.pop-in-Some.ensures.items in
+    let long : length c.locks.locks.items ≡ home + 1 = ap length c.in-Some.ensures.items ∙ length-append rest (lock ∷ []) in
+    let same : c.close-shard.result.home ≡ home = ap (λ (g : Problem × ℕ). g.1) c.close-shard.ensures.stays ∙ (c.requires.shards.each home lock at).1 in
+    let appends : AppendsHome problem home c.locks.rows.items c.append_rows.new.rows.items = subst (λ (h : ℕ). AppendsHome problem h c.locks.rows.items c.append_rows.new.rows.items) same c.in_ok-append_rows.ensures in
+    record {
+      locks = λ k l there. c.locks.invariant.locks k l (get_before c.locks.locks.items rest lock c.in-Some.ensures.items k l there);
+      few = omega (arith, c.locks.invariant.few, long);
+      count = omega (arith, c.locks.invariant.count, ap length popped, length-append left (passes ∷ []), long);
+      columns = λ k list there. c.locks.invariant.columns k list (get_before c.locks.lists.items left passes popped k list there);
+      rows = rows_more problem c.hierarchy.ensures.whole home (length c.locks.locks.items) c.locks.rows.items c.append_rows.new.rows.items (omega (arith, c.locks.invariant.few, long)) long c.locks.invariant.rows appends;
+    }
+
+pub returns-clause-frequent : goal.returns-clause-frequent
+returns-clause-frequent c =
+    let none : length c.locks.locks.items ≡ 0 = omega (arith, c.locks.locks.ok.0, c.in_default.ensures.variant) in
+    let rows : AreRowsFrom c.args.job.now 0 c.locks.rows.items = subst (λ (n : ℕ). AreRowsFrom c.args.job.now n c.locks.rows.items) none c.locks.invariant.rows in
+    frequent_rows c.args.job.now c.hierarchy.ensures.whole (rw c.hierarchy.ensures.hierarchy at c.items-items.ensures.within) c.locks.rows.items rows
+
+pub returns-clause-items : goal.returns-clause-items
+returns-clause-items c = λ row h.
+    let none : length c.locks.locks.items ≡ 0 = omega (arith, c.locks.locks.ok.0, c.in_default.ensures.variant) in
+    let rows : AreRowsFrom c.args.job.now 0 c.locks.rows.items = subst (λ (n : ℕ). AreRowsFrom c.args.job.now n c.locks.rows.items) none c.locks.invariant.rows in
+    rows_within c.args.job.now c.hierarchy.ensures.whole (rw c.hierarchy.ensures.hierarchy at c.items-items.ensures.within) c.locks.rows.items rows row h
