@@ -1,4 +1,4 @@
-use Rattle.std.proofs.Common.{◌≡◌, ◌<◌, ◌≤◌, ◌+◌, ◌∷◌, [], ◌++◌, ℕ, List, Some, slice_get, length, length-append, ap, sym, refl, subst, ◌∙◌, arith}
+use Rattle.std.proofs.Common.{◌≡◌, ◌<◌, ◌≤◌, ◌+◌, ◌∷◌, [], ◌++◌, ℕ, List, Some, slice_get, get_or, length, length-append, ap, sym, refl, subst, ◌∙◌, arith}
 use Rattle.fst_simulate.specs.Problems.{Problem}
 use Rattle.turn_lock.specs.Passes.{AreAllPasses}
 use Rattle.count_shards.specs.Shard.{history_of}
@@ -9,7 +9,7 @@ use Rattle.count_shards.proofs.HomeRows.{rows_begin, rows_more, frequent_rows, r
 use Rattle.count_shards.proofs.shards.Shards.close.Goals as goal
 
 pub columns-requires : goal.columns-requires
-columns-requires c = λ k d below. lists_width c.args.self c.args.passes.items c.requires.all k d below ∙ sym (c.args.self.locks.ok.0) ∙ sym c.len.ensures
+columns-requires c = λ k d below. (get_or c.args.passes.items k d).ok.0 ∙ lists_width c.args.self c.args.passes.items c.requires.all k d below ∙ sym (c.args.self.locks.ok.0) ∙ sym c.len.ensures
 
 pub close-shard-requires-after_bounds : goal.close-shard-requires-after_bounds
 close-shard-requires-after_bounds c =
@@ -21,7 +21,7 @@ close-shard-requires-after_bounds c =
     let popped : c.locks.lists.items ≡ c.pop-in-Some.new.self.items ++ passes ∷ [] = rw c.unwrap-passes.ensures at c.pop-in-Some.ensures.items in
     let place : length c.pop-in-Some.new.self.items ≡ home = omega (arith, c.locks.invariant.count, ap length popped, length-append c.pop-in-Some.new.self.items (passes ∷ []), ap length c.in-Some.ensures.items, length-append rest (lock ∷ [])) in
     let is : passes.items ≡ column home c.args.passes.items = c.locks.invariant.columns home passes (subst (λ (k : ℕ). slice_get c.locks.lists.items k ≡ Some passes) place (get_popped c.locks.lists.items c.pop-in-Some.new.self.items passes popped)) in
-    rw is (back_passes c.args.self c.args.passes.items c.requires.all home lock at)
+    λ _. rw is (back_passes c.args.self c.args.passes.items c.requires.all home lock at)
 
 pub append_rows-requires-clause-job : goal.append_rows-requires-clause-job
 append_rows-requires-clause-job c =
@@ -65,12 +65,12 @@ locks-preserved c =
 
 pub returns-clause-frequent : goal.returns-clause-frequent
 returns-clause-frequent c =
-    let none : length c.locks.locks.items ≡ 0 = omega (arith, c.locks.locks.ok.0, c.in_default.ensures.variant) in
+    let none : length c.locks.locks.items ≡ 0 = omega (arith, c.locks.locks.ok.0, c.in_default.ensures.cases) in
     let rows : AreRowsFrom c.args.job.now 0 c.locks.rows.items = subst (λ (n : ℕ). AreRowsFrom c.args.job.now n c.locks.rows.items) none c.locks.invariant.rows in
     frequent_rows c.args.job.now c.hierarchy.ensures.whole (rw c.hierarchy.ensures.hierarchy at c.items-items.ensures.within) c.locks.rows.items rows
 
 pub returns-clause-items : goal.returns-clause-items
 returns-clause-items c = λ row h.
-    let none : length c.locks.locks.items ≡ 0 = omega (arith, c.locks.locks.ok.0, c.in_default.ensures.variant) in
+    let none : length c.locks.locks.items ≡ 0 = omega (arith, c.locks.locks.ok.0, c.in_default.ensures.cases) in
     let rows : AreRowsFrom c.args.job.now 0 c.locks.rows.items = subst (λ (n : ℕ). AreRowsFrom c.args.job.now n c.locks.rows.items) none c.locks.invariant.rows in
     rows_within c.args.job.now c.hierarchy.ensures.whole (rw c.hierarchy.ensures.hierarchy at c.items-items.ensures.within) c.locks.rows.items rows row h

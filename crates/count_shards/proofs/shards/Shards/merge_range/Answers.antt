@@ -1,4 +1,4 @@
-use Rattle.std.proofs.Common.{◌≡◌, ◌<◌, ◌≤◌, ℕ, Some, slice_get, length, ap, sym, refl, subst, ◌∙◌, arith}
+use Rattle.std.proofs.Common.{◌≡◌, ◌<◌, ◌≤◌, ℕ, Some, slice_get, get_or, length, ap, sym, refl, subst, ◌∙◌, arith}
 use Rattle.std.proofs.lemmas.Option.{slice_get-get_or}
 use Rattle.fst_simulate.specs.Problems.{Problem}
 use Rattle.count_shards.specs.Blocks.{AreCountsOf}
@@ -15,17 +15,17 @@ change-requires-clause-suits g c =
     let block = c.args.block.now in
     let below : home < length locks = omega (arith, c.loop-home-test.true, c.requires.range.1) in
     let at : slice_get locks home ≡ Some lock = slice_get-get_or locks home lock below ∙ ap (λ (l : Lock). Some l) (sym c.index-lock.ensures) in
-    subst (λ (p : Problem). AreCountsOf p block.number block) (sym (c.requires.shards.each home lock at).0) c.requires.counts
+    λ _ _. subst (λ (p : Problem). AreCountsOf p block.number block) (sym (c.requires.shards.each home lock at).0) c.requires.counts
 
 pub returns-in_err-change-clause-passes : goal.returns-in_err-change-clause-passes
 returns-in_err-change-clause-passes g c =
     let home = c.loop-home.home in
     let lock = c.index-lock.result.now in
     let locks = c.args.self.now.locks.items in
-    let was = c.index-passes-home.result in
+    let was : ShardPass = get_or c.loop-home.passes home c.index-passes-home.result in
     let below : home < length locks = omega (arith, c.loop-home-test.true, c.requires.range.1) in
     let at : slice_get locks home ≡ Some lock = slice_get-get_or locks home lock below ∙ ap (λ (l : Lock). Some l) (sym c.index-lock.ensures) in
-    let at_pass : slice_get c.loop-home.passes home ≡ Some was = slice_get-get_or c.loop-home.passes home was (omega (arith, below, c.loop-home.invariant.passes.all)) ∙ ap (λ (p : ShardPass). Some p) (sym c.index-passes-home.is) in
+    let at_pass : slice_get c.loop-home.passes home ≡ Some was = slice_get-get_or c.loop-home.passes home c.index-passes-home.result (omega (arith, below, c.loop-home.invariant.passes.all)) in
     passes_kept c.args.self.now home c.loop-home.passes _ lock was c.change.new.pass at at_pass refl c.change.ensures.pass.0 c.loop-home.invariant.passes
 
 pub loop-home-preserved : goal.loop-home-preserved
@@ -33,10 +33,10 @@ loop-home-preserved g c =
     let home = c.loop-home.home in
     let lock = c.index-lock.result.now in
     let locks = c.args.self.now.locks.items in
-    let was = c.index-passes-home.result in
+    let was : ShardPass = get_or c.loop-home.passes home c.index-passes-home.result in
     let below : home < length locks = omega (arith, c.loop-home-test.true, c.requires.range.1) in
     let at : slice_get locks home ≡ Some lock = slice_get-get_or locks home lock below ∙ ap (λ (l : Lock). Some l) (sym c.index-lock.ensures) in
-    let at_pass : slice_get c.loop-home.passes home ≡ Some was = slice_get-get_or c.loop-home.passes home was (omega (arith, below, c.loop-home.invariant.passes.all)) ∙ ap (λ (p : ShardPass). Some p) (sym c.index-passes-home.is) in
+    let at_pass : slice_get c.loop-home.passes home ≡ Some was = slice_get-get_or c.loop-home.passes home c.index-passes-home.result (omega (arith, below, c.loop-home.invariant.passes.all)) in
     record {
       passes = passes_kept c.args.self.now home c.loop-home.passes _ lock was c.change.new.pass at at_pass refl c.change.ensures.pass.0 c.loop-home.invariant.passes;
       merged = merged_more c.args.block.now.number c.args.start home c.args.passes.now c.loop-home.passes _ was c.change.new.pass (omega (arith, c.loop-home.auto.home)) at_pass refl c.in_ok-change.ensures.made c.loop-home.invariant.merged;

@@ -1,4 +1,4 @@
-use Rattle.std.proofs.Common.{◌≡◌, ◌≤◌, ℕ, length, ap, sym, ◌∙◌, arith}
+use Rattle.std.proofs.Common.{◌≡◌, ◌≤◌, ℕ, get_or, length, ap, sym, ◌∙◌, arith}
 use Rattle.count_shards.specs.Shard.{ShardSums}
 use Rattle.count_shards.specs.Merging.{IsOpened}
 use Rattle.count_shards.proofs.PassLemmas.{opened_more, opened_width, opened_shards, opened_lists, opened_new}
@@ -20,7 +20,7 @@ loop-home-preserved c =
     rw (c.in_ok-push.ensures.items, c.in_ok-push-2.ensures.items) (opened_more problem c.args.workers home c.loop-home.locks.items c.loop-home.lists.items lock passes c.loop-home.invariant one)
 
 pub columns-requires : goal.columns-requires
-columns-requires c = opened_width c.args.job.now c.args.workers c.loop-home.home (record { locks = c.loop-home.locks }) c.loop-home.lists.items c.loop-home.invariant
+columns-requires c = λ k d below. (get_or c.loop-home.lists.items k d).ok.0 ∙ opened_width c.args.job.now c.args.workers c.loop-home.home (record { locks = c.loop-home.locks }) c.loop-home.lists.items c.loop-home.invariant k d below
 
 pub returns-clause-shards : goal.returns-clause-shards
 returns-clause-shards c = opened_shards c.args.job.now c.args.workers c.loop-home.home (record { locks = c.loop-home.locks }) c.loop-home.lists.items c.loop-home.invariant (omega (arith, c.loop-home-test.false, c.loop-home.auto.home-end))
