@@ -146,8 +146,9 @@ fn count_all(
         homes.new.items pairs) }
 {
     let db = job.db();
+    let count = db.sequences();
     let first = BLOCK * block;
-    let end = db.sequences().min(first + BLOCK);
+    let end = count.min(first + BLOCK);
     let mut pairs: u64 = 0;
     for number in first..end {
         candidates.fill(number)?;

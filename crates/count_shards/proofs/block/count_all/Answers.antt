@@ -1,0 +1,50 @@
+use Rattle.std.proofs.Common.{◌≡◌, ◌+◌, ◌*◌, ◌^◌, ◌<◌, ◌≤◌, ◌∙◌, List, length, min, ap, sym, subst, arith}
+use Rattle.std.specs.List.{All}
+use Rattle.mine_model.specs.declared.item.Item.{Item}
+use Rattle.mine_model.specs.Database.{IsWithinLimits, sequence_at}
+use Rattle.mine_model.specs.Support.{Sequence}
+use Rattle.candidate_gen.specs.Candidates.{AreCandidateRanks}
+use Rattle.count_shards.specs.Tallied.{AddsEach}
+use Rattle.count_shards.proofs.PairLemmas.{each_once, candidates_listed, pairs_begin, pairs_more}
+use Rattle.count_shards.proofs.TalliedLemmas.{sequences_between, between_begins, between_more, between_block, tallied_begins, tallied_more, tallied_most}
+use Rattle.count_shards.proofs.block.count_all.Goals as goal
+
+pub add_each-requires-clause-each_once : goal.add_each-requires-clause-each_once
+add_each-requires-clause-each_once c = each_once c.fill.new.self.listed c.in_ok-fill.ensures.candidates.rises
+
+pub add_each-requires-clause-room : goal.add_each-requires-clause-room
+add_each-requires-clause-room c = λ list.
+    let problem = c.args.job.now in
+    let first = 256 * c.args.block in
+    let n = c.loop-number.number in
+    let whole : length c.db-db.result.now ≡ length problem.sequences = ap length c.db-db.ensures.sequences in
+    let limits : All IsWithinLimits problem.sequences = rw c.db-db.ensures.sequences at c.sequences-count.ensures.limits in
+    let most = tallied_most problem first n c.loop-number.homes.items limits ? ? c.loop-number.invariant.tallied (home_of list) list in
+    omega (arith, most, c.weight.ensures.most)
+
+pub loop-number-preserved : goal.loop-number-preserved
+loop-number-preserved c =
+    let problem = c.args.job.now in
+    let first = 256 * c.args.block in
+    let n = c.loop-number.number in
+    let listed = c.fill.new.self.listed in
+    let done = sequences_between problem.sequences first n in
+    let next = sequences_between problem.sequences first (n + 1) in
+    let s = sequence_at problem.sequences n in
+    let whole : length c.db-db.result.now ≡ length problem.sequences = ap length c.db-db.ensures.sequences in
+    let below : n < length problem.sequences = ? in
+    let more = between_more problem.sequences first n ? below in
+    let are : AreCandidateRanks problem n listed = subst (λ p. AreCandidateRanks p n listed) c.loop-number.invariant.problem c.in_ok-fill.ensures.candidates in
+    let weight : c.weight.result ≡ s.weight = c.weight.ensures.weight ∙ ap (λ (xs : List (Sequence Item)). (sequence_at xs n).weight) c.db-db.ensures.sequences in
+    let adds : AddsEach listed s.weight c.loop-number.homes.items c.add_each.new.homes.items = subst (λ w. AddsEach listed w c.loop-number.homes.items c.add_each.new.homes.items) weight c.in_ok-add_each.ensures.added in
+    record {
+      problem = c.fill.ensures.problem ∙ c.loop-number.invariant.problem;
+      sixteen = c.add_each.ensures.sixteen;
+      tallied = tallied_more problem done next n listed c.loop-number.homes.items c.add_each.new.homes.items more are adds c.loop-number.invariant.tallied;
+      pairs = pairs_more problem done next s c.loop-number.pairs c.saturating_add-pairs.result (length listed) more ? (candidates_listed problem n listed c.db-db.ensures.whole are) c.loop-number.invariant.pairs;
+    }
+
+pub returns-clause-counted : goal.returns-clause-counted
+returns-clause-counted c =
+    let problem = c.args.job.now in
+    ?
