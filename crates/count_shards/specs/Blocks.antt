@@ -48,11 +48,14 @@ HasCandidate problem ranks items =
 abbrev pub InBlock : Problem → ℕ → List ℕ → ℕ → Type 0
 InBlock problem block ranks n = Counts (HasCandidate problem ranks) (sequences_in problem block) n
 
--- n is the sum over the blocks with these numbers
+-- n is the sum over the blocks with these numbers of what each block has
+abbrev pub SumsBy : (ℕ → ℕ → Type 0) → List ℕ → ℕ → Type 0
+SumsBy Has [] n = n ≡ 0
+SumsBy Has (block ∷ blocks) n = (m : ℕ) × (k : ℕ) × Has block m × SumsBy Has blocks k × (n ≡ m + k)
+
+-- n is the sum over the blocks with these numbers of the counts of the list
 abbrev pub SumsTo : Problem → List ℕ → List ℕ → ℕ → Type 0
-SumsTo problem [] ranks n = n ≡ 0
-SumsTo problem (block ∷ blocks) ranks n =
-    (m : ℕ) × (k : ℕ) × InBlock problem block ranks m × SumsTo problem blocks ranks k × (n ≡ m + k)
+SumsTo problem blocks ranks n = SumsBy (λ block m. InBlock problem block ranks m) blocks n
 
 -- ---- the counts of a block
 

@@ -87,6 +87,13 @@ impl<'a> BlockCounts<'a> {
         self.pairs
     }
 
+    /// The number of the block. Takes no memory.
+    pub(crate) fn number(&self) -> u32
+        ensures { result ≡ self.now.number }
+    {
+        self.number
+    }
+
     /// What is counted in a home. Takes no memory.
     pub(crate) fn home(&self, home: usize) -> &PatternCounts
         requires { home < 16 }

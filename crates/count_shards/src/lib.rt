@@ -2,7 +2,6 @@
 #![tactic(auto)]
 
 mod block;
+mod rows;
 
-
-pub use block::BlockCounts;
-pub use block::count_block;
+pub use block::{BlockCounts, count_block};

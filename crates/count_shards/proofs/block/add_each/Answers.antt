@@ -1,4 +1,5 @@
-use Rattle.std.proofs.Common.{◌≡◌, ◌+◌, ◌<◌, length, set, take, subst, arith}
+use Rattle.std.proofs.Common.{◌≡◌, ◌+◌, ◌<◌, length, set, take, subst, ◌∙◌, arith}
+use Rattle.std.proofs.lemmas.List.{get_or_default}
 use Rattle.std.proofs.Math.ListN.{length-set}
 use Rattle.pattern_counts.specs.Tally.{Tally, no_lists, Adds}
 use Rattle.count_shards.specs.Tallied.{tally_at}
@@ -14,7 +15,9 @@ loop-i-preserved c =
     let list = c.get-list.result.now in
     let weight = c.args.weight in
     let within : home < length homes = omega (arith, c.home_of.ensures.within, c.loop-i.invariant.sixteen) in
-    let one = adds_home homes home weight list c.add.new.self c.home_of.ensures.home within ? in
+    let read : c.index_mut.result.now ≡ tally_at homes home = c.index_mut.ensures.value ∙ get_or_default homes home c.index_mut.result.now no_lists within in
+    let adds : Adds list weight (tally_at homes home) c.add.new.self = subst (λ t. Adds list weight t c.add.new.self) read c.in_ok-add.ensures.ok in
+    let one = adds_home homes home weight list c.add.new.self c.home_of.ensures.home within adds in
     record {
       sixteen = omega (arith, length-set {A = Tally}, c.loop-i.invariant.sixteen);
       added = adds_more (take i listed) (take (i + 1) listed) list weight c.args.homes.now.items homes (set homes home c.add.new.self)
