@@ -4,7 +4,7 @@ use Rattle.std.specs.List.{slice_get, AllPairs, Contains}
 use Rattle.std.proofs.lemmas.Bool.{cases_eq}
 use Rattle.std.proofs.lemmas.List.Elements.{Contains-append_left, Contains-push, Contains-push_cases, Contains-get_or}
 use Rattle.std.proofs.lemmas.List.Quantifiers.{all_pairs_push}
-use Rattle.std.proofs.lemmas.Option.{same_Some, slice_get-get_or}
+use Rattle.std.proofs.lemmas.Option.{same_Some, slice_get-get_or, slice_get_within, get_or_from_slice_get}
 use Rattle.mine_model.specs.Names.{AreDistinct}
 use Rattle.mine_model.specs.declared.item.Item.{Item}
 use Rattle.mine_model.specs.declared.row.Row.{Row}
@@ -71,7 +71,8 @@ module _ (tally : Tally) (order : List Item) (support : ℕ) where
   one_list distinct different number other r s first second same =
       let ranked : AreRanked order s.pattern first.list = subst (λ p. AreRanked order p first.list) same first.ranked in
       let list : first.list ≡ second.list = same_ranks order different s.pattern first.list second.list ranked second.ranked in
-      ?
+      distinct number other (slice_get_within tally.lists number first.list first.at) (slice_get_within tally.lists other second.list second.at)
+      (get_or_from_slice_get tally.lists number first.list [] first.at ∙ list ∙ sym (get_or_from_slice_get tally.lists other second.list [] second.at))
 
   pub rows_push : AreDistinct tally.lists → AllPairs (λ v w. v ≢ w) order → (n : ℕ) (old rows next : List Row) (row : Row) → next ≡ rows ++ row ∷ []
       → IsRowOf tally order support n row → RowsSoFar tally order support n old rows → RowsSoFar tally order support (n + 1) old next

@@ -1,6 +1,7 @@
 use Rattle.std.proofs.Common.{◌≡◌, ◌+◌, ◌*◌, ◌^◌, ◌<◌, ◌≤◌, ◌∙◌, List, length, min, refl, ap, sym, subst, arith}
 use Rattle.std.specs.List.{All}
 use Rattle.mine_model.specs.declared.item.Item.{Item}
+use Rattle.mine_model.specs.Counted.{told_of}
 use Rattle.mine_model.specs.Database.{IsWithinLimits, sequence_at}
 use Rattle.mine_model.specs.Support.{Sequence}
 use Rattle.candidate_gen.specs.Candidates.{AreCandidateRanks}
@@ -39,11 +40,12 @@ loop-number-preserved c =
     let are : AreCandidateRanks problem n listed = subst (λ p. AreCandidateRanks p n listed) c.loop-number.invariant.problem c.in_ok-fill.ensures.candidates in
     let weight : c.weight.result ≡ s.weight = c.weight.ensures.weight ∙ ap (λ (xs : List (Sequence Item)). (sequence_at xs n).weight) c.db-db.ensures.sequences in
     let adds : AddsEach listed s.weight c.loop-number.homes.items c.add_each.new.homes.items = subst (λ w. AddsEach listed w c.loop-number.homes.items c.add_each.new.homes.items) weight c.in_ok-add_each.ensures.added in
+    let told : c.saturating_add-pairs.result ≡ told_of (c.loop-number.pairs + length listed) = c.saturating_add-pairs.ensures ∙ ap (λ m. told_of (c.loop-number.pairs + m)) c.len.ensures in
     record {
       problem = c.fill.ensures.problem ∙ c.loop-number.invariant.problem;
       sixteen = c.add_each.ensures.sixteen;
       tallied = tallied_more problem done next n listed c.loop-number.homes.items c.add_each.new.homes.items more are adds c.loop-number.invariant.tallied;
-      pairs = pairs_more problem done next s c.loop-number.pairs c.saturating_add-pairs.result (length listed) more ? (candidates_listed problem n listed c.db-db.ensures.whole are) c.loop-number.invariant.pairs;
+      pairs = pairs_more problem done next s c.loop-number.pairs c.saturating_add-pairs.result (length listed) more told (candidates_listed problem n listed c.db-db.ensures.whole are) c.loop-number.invariant.pairs;
     }
 
 pub returns-clause-counted : goal.returns-clause-counted
@@ -53,7 +55,8 @@ returns-clause-counted c =
     let n = c.loop-number.number in
     let whole : length c.db-db.result.now ≡ length problem.sequences = ap length c.db-db.ensures.sequences in
     let limits : All IsWithinLimits problem.sequences = rw c.db-db.ensures.sequences at c.sequences-count.ensures.limits in
-    let end : n ≡ min (length problem.sequences) (first + 256) = ? in
+    let end : n ≡ min (length problem.sequences) (first + 256) =
+        omega (arith, c.loop-number-test.false, c.min-end.ensures, c.sequences-count.ensures.count, whole, c.requires.block) ∙ c.min-end.ensures ∙ ap (λ k. min k (first + 256)) (c.sequences-count.ensures.count ∙ whole) in
     let all = between_block problem c.args.block first n refl (omega (arith, c.requires.block)) end in
     record {
       tallied = subst (λ done. AreTallied problem done c.loop-number.homes.items) all c.loop-number.invariant.tallied;
