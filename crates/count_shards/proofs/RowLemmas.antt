@@ -1,5 +1,5 @@
 -- The rows of the lists whose sums reach the support.
-use Rattle.std.proofs.Common.{◌≡◌, ◌≢◌, ℕ, ◌+◌, ◌<◌, ◌≤◌, ◌↔◌, ◌⊎◌, Some, List, [], ◌∷◌, ◌++◌, length, get_or, sym, subst, ap, ◌∙◌, inl, inr, arith, append_assoc, append-nil}
+use Rattle.std.proofs.Common.{◌≡◌, ◌≢◌, ℕ, ◌+◌, ◌<◌, ◌≤◌, ◌⊎◌, Some, List, [], ◌∷◌, ◌++◌, length, get_or, sym, subst, ap, ◌∙◌, inl, inr, arith, append_assoc, append-nil}
 use Rattle.std.specs.List.{slice_get, AllPairs, Contains}
 use Rattle.std.proofs.lemmas.Bool.{cases_eq}
 use Rattle.std.proofs.lemmas.List.Elements.{Contains-append_left, Contains-push, Contains-push_cases, Contains-get_or}
@@ -11,7 +11,7 @@ use Rattle.mine_model.specs.declared.row.Row.{Row}
 use Rattle.candidate_gen.specs.Candidates.{AreRanked}
 use Rattle.candidate_gen.proofs.RankedLemmas.{ranked-same}
 use Rattle.pattern_counts.specs.Tally.{Tally, sum_of}
-use Rattle.count_shards.specs.Rows.{IsCountedRow, AppendsRows}
+use Rattle.count_shards.specs.Rows.{AppendsRows}
 use Rattle.count_shards.proofs.RankedLemmas.{same_ranks}
 
 -- the row is that of the list with this number

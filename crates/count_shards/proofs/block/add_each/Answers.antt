@@ -21,5 +21,5 @@ loop-i-preserved c =
     record {
       sixteen = omega (arith, length-set {A = Tally}, c.loop-i.invariant.sixteen);
       added = adds_more (take i listed) (take (i + 1) listed) list weight c.args.homes.now.items homes (set homes home c.add.new.self)
-      (take_one listed i list c.get-list.ensures) (not_before listed i list c.requires.each_once c.get-list.ensures) c.loop-i.invariant.added one;
+          (take_one listed i list c.get-list.ensures) (not_before listed i list c.requires.each_once c.get-list.ensures) c.loop-i.invariant.added one;
     }

@@ -1,4 +1,4 @@
-use Rattle.std.proofs.Common.{◌≡◌, ◌+◌, ◌*◌, ◌^◌, ◌<◌, ◌≤◌, ◌∙◌, List, length, min, refl, ap, sym, subst, arith}
+use Rattle.std.proofs.Common.{◌≡◌, ◌+◌, ◌*◌, ◌<◌, ◌∙◌, List, length, min, refl, ap, subst, arith}
 use Rattle.std.specs.List.{All}
 use Rattle.mine_model.specs.declared.item.Item.{Item}
 use Rattle.mine_model.specs.Counted.{told_of}
@@ -7,8 +7,8 @@ use Rattle.mine_model.specs.Support.{Sequence}
 use Rattle.candidate_gen.specs.Candidates.{AreCandidateRanks}
 use Rattle.count_shards.specs.Blocks.{home_of}
 use Rattle.count_shards.specs.Tallied.{AddsEach, AreTallied, ArePairs}
-use Rattle.count_shards.proofs.PairLemmas.{each_once, candidates_listed, pairs_begin, pairs_more}
-use Rattle.count_shards.proofs.TalliedLemmas.{sequences_between, between_more, between_block, tallied_begins, tallied_more, tallied_most}
+use Rattle.count_shards.proofs.PairLemmas.{each_once, candidates_listed, pairs_more}
+use Rattle.count_shards.proofs.TalliedLemmas.{sequences_between, between_more, between_block, tallied_more, tallied_most}
 use Rattle.count_shards.proofs.block.count_all.Goals as goal
 
 pub add_each-requires-clause-each_once : goal.add_each-requires-clause-each_once
@@ -56,7 +56,7 @@ returns-clause-counted c =
     let whole : length c.db-db.result.now ≡ length problem.sequences = ap length c.db-db.ensures.sequences in
     let limits : All IsWithinLimits problem.sequences = rw c.db-db.ensures.sequences at c.sequences-count.ensures.limits in
     let end : n ≡ min (length problem.sequences) (first + 256) =
-        omega (arith, c.loop-number-test.false, c.min-end.ensures, c.sequences-count.ensures.count, whole, c.requires.block) ∙ c.min-end.ensures ∙ ap (λ k. min k (first + 256)) (c.sequences-count.ensures.count ∙ whole) in
+    omega (arith, c.loop-number-test.false, c.min-end.ensures, c.sequences-count.ensures.count, whole, c.requires.block) ∙ c.min-end.ensures ∙ ap (λ k. min k (first + 256)) (c.sequences-count.ensures.count ∙ whole) in
     let all = between_block problem c.args.block first n refl (omega (arith, c.requires.block)) end in
     record {
       tallied = subst (λ done. AreTallied problem done c.loop-number.homes.items) all c.loop-number.invariant.tallied;
