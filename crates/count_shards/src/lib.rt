@@ -3,5 +3,7 @@
 
 mod block;
 mod rows;
+#[cfg(test)]
+mod tests;
 
 pub use block::{BlockCounts, count_block};
