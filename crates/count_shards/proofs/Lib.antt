@@ -1,7 +1,12 @@
+pub mod HomeLemmas
+pub mod AddLemmas
+pub mod RankedLemmas
+pub mod PairLemmas
+pub mod TalliedLemmas
+pub mod RowLemmas
 pub mod BlockSums
-mod Lists
-mod ColumnLemmas
-mod RankedLemmas
-mod HomeRows
-mod ShardLemmas
-mod PassLemmas
+pub mod HomeRows
+pub mod Lists
+pub mod ColumnLemmas
+pub mod ShardLemmas
+pub mod PassLemmas

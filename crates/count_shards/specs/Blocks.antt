@@ -1,7 +1,8 @@
 -- The blocks of sequences that are counted one by one, and the shards in which their sums are added up.
-use Rattle.std.specs.Prelude.{◌≡◌, ◌≢◌, ℕ, ◌+◌, ◌-◌, ◌*◌, ◌/◌, ◌%◌, ◌^◌, ◌≤◌, ◌↔◌, min, sum, List, [], ◌∷◌, length, take, drop, slice_index_or, AllPairs, Contains}
+use Rattle.std.specs.Prelude.{◌≡◌, ◌≢◌, ℕ, ◌+◌, ◌*◌, ◌/◌, ◌%◌, ◌≤◌, sum, List, [], ◌∷◌, length, take, drop, slice_index_or}
 use Rattle.mine_model.specs.declared.item.Item.{Item}
 use Rattle.mine_model.specs.Answer.{Data}
+use Rattle.mine_model.specs.Counted.{HasPairs, told_of}
 use Rattle.mine_model.specs.Limits.{most_weight}
 use Rattle.mine_model.specs.Numbered.{tree_of}
 use Rattle.mine_model.specs.Ranks.{IsFrequentItem, IsCandidateOf}
@@ -56,20 +57,6 @@ SumsBy Has (block ∷ blocks) n = (m : ℕ) × (k : ℕ) × Has block m × SumsB
 abbrev pub SumsTo : Problem → List ℕ → List ℕ → ℕ → Type 0
 SumsTo problem blocks ranks n = SumsBy (λ block m. InBlock problem block ranks m) blocks n
 
--- n is how many candidates the items have
-pub record HasCandidates {A : Type 0} (d : Data A) (items : List A) (n : ℕ) : Type 0 where
-  pub patterns : List (List A)
-  pub once : AllPairs (λ first second. first ≢ second) patterns
-  pub exact : (pattern : List A) → Contains patterns pattern
-      ↔ IsCandidateOf d.links d.expression (IsFrequentItem d.links d.sequences d.threshold) items pattern
-  pub count : length patterns ≡ n
-
--- n is how many pairs there are of one of the sequences and a candidate of it
-abbrev pub HasPairs : {A : Type 0} → Data A → List (Sequence A) → ℕ → Type 0
-HasPairs d [] n = n ≡ 0
-HasPairs d (sequence ∷ sequences) n =
-    (m : ℕ) × (k : ℕ) × HasCandidates d sequence.items m × HasPairs d sequences k × (n ≡ m + k)
-
 -- ---- the counts of a block
 
 -- the counts of the block with this number: a tally for each home, and how many pairs there are
@@ -91,4 +78,4 @@ pub record AreCountsOf (problem : Problem) (number : ℕ) (block : Block) : Type
   pub homes : (home : ℕ) (ranks : List ℕ) → home_of ranks ≢ home → sum_of (tally_of block home) ranks ≡ 0
   pub most : (home : ℕ) (ranks : List ℕ) → sum_of (tally_of block home) ranks ≤ 256 * most_weight
   pub pairs : (n : ℕ) × HasPairs (data_of problem) (sequences_in problem number) n
-      × (block.pairs ≡ min n (2 ^ 64 - 1))
+      × (block.pairs ≡ told_of n)

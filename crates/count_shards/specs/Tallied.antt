@@ -1,10 +1,12 @@
 -- The tallies of the homes while the sequences of a block are counted.
-use Rattle.std.specs.Prelude.{◌≡◌, ◌≢◌, ℕ, ◌+◌, ◌-◌, ◌^◌, min, List, slice_index_or, Contains}
+use Rattle.std.specs.Prelude.{◌≡◌, ◌≢◌, ℕ, ◌+◌, ◌*◌, ◌≤◌, List, slice_index_or, Contains}
 use Rattle.mine_model.specs.declared.item.Item.{Item}
+use Rattle.mine_model.specs.Counted.{HasPairs, told_of}
+use Rattle.mine_model.specs.Limits.{most_weight}
 use Rattle.mine_model.specs.Support.{Sequence, Counts}
 use Rattle.fst_simulate.specs.Problems.{Problem}
 use Rattle.pattern_counts.specs.Tally.{Tally, no_lists, sum_of}
-use Rattle.count_shards.specs.Blocks.{home_of, data_of, HasCandidate, HasPairs}
+use Rattle.count_shards.specs.Blocks.{home_of, data_of, HasCandidate}
 
 -- the tally of a home
 abbrev pub tally_at : List Tally → ℕ → Tally
@@ -29,9 +31,10 @@ pub record AreTallied (problem : Problem) (done : List (Sequence Item)) (tallies
 
 -- there are so many pairs, or more than the type of the number has
 abbrev pub ArePairs : Problem → List (Sequence Item) → ℕ → Type 0
-ArePairs problem done pairs = (n : ℕ) × HasPairs (data_of problem) done n × (pairs ≡ min n (2 ^ 64 - 1))
+ArePairs problem done told = (n : ℕ) × HasPairs (data_of problem) done n × (told ≡ told_of n)
 
--- the sequences are counted
-pub record HasCounted (problem : Problem) (done : List (Sequence Item)) (tallies : List Tally) (pairs : ℕ) : Type 0 where
+-- the sequences, those of a block, are counted
+pub record HasCounted (problem : Problem) (done : List (Sequence Item)) (tallies : List Tally) (told : ℕ) : Type 0 where
   pub tallied : AreTallied problem done tallies
-  pub pairs : ArePairs problem done pairs
+  pub most : (home : ℕ) (list : List ℕ) → sum_of (tally_at tallies home) list ≤ 256 * most_weight
+  pub pairs : ArePairs problem done told

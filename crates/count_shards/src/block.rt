@@ -87,6 +87,13 @@ impl<'a> BlockCounts<'a> {
         self.pairs
     }
 
+    /// The number of the block. Takes no memory.
+    pub(crate) fn number(&self) -> u32
+        ensures { result ≡ self.now.number }
+    {
+        self.number
+    }
+
     /// What is counted in a home. Takes no memory.
     pub(crate) fn home(&self, home: usize) -> &PatternCounts
         requires { home < 16 }
@@ -146,8 +153,9 @@ fn count_all(
         homes.new.items pairs) }
 {
     let db = job.db();
+    let count = db.sequences();
     let first = BLOCK * block;
-    let end = db.sequences().min(first + BLOCK);
+    let end = count.min(first + BLOCK);
     let mut pairs: u64 = 0;
     for number in first..end {
         candidates.fill(number)?;

@@ -2,7 +2,13 @@
 #![tactic(auto)]
 
 mod block;
+mod columns;
+mod rows;
+mod shard;
+mod shards;
+#[cfg(test)]
+mod tests;
 
-
-pub use block::BlockCounts;
-pub use block::count_block;
+pub use block::{BlockCounts, count_block};
+pub use shard::Shard;
+pub use shards::Shards;

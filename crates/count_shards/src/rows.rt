@@ -1,0 +1,48 @@
+ghost use Rattle.std.specs.Prelude.{◌≡◌, ◌≢◌, ℕ, ◌≤◌, List, length, All, AllPairs, IfOk, OnOk};
+ghost use Rattle.candidate_gen.specs.Candidates.{AreRanked};
+ghost use Rattle.pattern_counts.specs.Tally.{sum_of};
+ghost use Rattle.count_shards.specs.Rows.{AppendsRows};
+
+use mine_model::{NoMemory, Pattern, Ranks, Row};
+use pattern_counts::PatternCounts;
+use std::alloc::Global;
+
+/// Appends the rows of the lists whose sums reach the support.
+pub(crate) fn append_rows(
+    alloc: Global,
+    counts: &PatternCounts,
+    ranks: &Ranks,
+    support: u64,
+    rows: &mut Vec<Row>,
+) -> Result<(), NoMemory>
+    requires support { 1 ≤ support }
+    requires different { AllPairs (λ v w. v ≢ w) ranks.now.order }
+    requires ranked { (list : List ℕ) → 1 ≤ sum_of counts.now list
+        → All (λ rank. (1 ≤ rank) × (rank ≤ length ranks.now.order)) list }
+    ensures { OnOk result (AppendsRows counts.now ranks.now.order support rows.old.items rows.new.items) }
+{
+    for number in 0..counts.len() {
+        let sum = counts.sum(number);
+        if sum < support {
+            continue;
+        }
+        let pattern = pattern_of(alloc, ranks, counts.list(number))?;
+        rows.push(Row {
+            pattern,
+            support: sum,
+        })?;
+    }
+    Ok(())
+}
+
+// The pattern of the items with these ranks.
+fn pattern_of(alloc: Global, ranks: &Ranks, list: &[u32]) -> Result<Pattern, NoMemory>
+    requires { All (λ rank. (1 ≤ rank) × (rank ≤ length ranks.now.order)) list.now }
+    ensures { IfOk result (λ pattern. AreRanked ranks.now.order pattern list.now) }
+{
+    let mut items = Vec::with_capacity(alloc, list.len())?;
+    for rank in list {
+        items.push(ranks.item(*rank))?;
+    }
+    Ok(Pattern::new(items))
+}
