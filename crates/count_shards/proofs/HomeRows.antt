@@ -111,9 +111,9 @@ module _ (problem : Problem) (whole : IsWhole problem) where
   pub rows_more : (home from : ℕ) (old new : List Row) → home < 16 → from ≡ home + 1 → AreRowsFrom problem from old → AppendsHome problem home old new → AreRowsFrom problem home new
   rows_more home from old new within e rows appends = rw appends.is (record {
     once = AllPairs-append (λ (first second : Row). first.pattern ≢ second.pattern) old appends.added rows.once appends.once
-    (λ r s before here same.
-      (let was = (rows.exact r).0 before in
-      omega (arith, e, was.1, one_home was.0 home r s was.3 ((appends.exact s).0 here) same)));
+        (λ r s before here same.
+        (let was = (rows.exact r).0 before in
+        omega (arith, e, was.1, one_home was.0 home r s was.3 ((appends.exact s).0 here) same)));
     exact = λ row. (
       (λ h. elim (Contains-append_cases old appends.added row h) [
         | inl before ↦ (let was = (rows.exact row).0 before in (was.0, omega (arith, e, was.1), was.2, was.3))
@@ -160,14 +160,18 @@ module _ (problem : Problem) (whole : IsWhole problem) where
         let w = some_sequence (IsCandidateFrom row.pattern) problem.sequences row.support candidates (omega (arith, whole.least, f.enough)) in
         let held = weaker IsFrequentOf (Contains problem.ranking.order) (λ v is. (whole.ranks.frequent v).1 is) row.pattern w.1.allowed in
         let ranks = ranked-all problem.ranking.order row.pattern held in
-        let same = by_ranks ranks.0 row.pattern ranks.1 in
-        (home_of ranks.0, omega arith, omega arith, record {
-          list = ranks.0;
-          at = refl;
-          ranked = ranks.1;
-          counted = Counts-by (IsCandidateFrom row.pattern) (HasCandidate problem ranks.0) (λ items. ((same items).1, (same items).0)) problem.sequences row.support candidates;
-          enough = f.enough;
-        })
+        let same = by_ranks ranks.0 row.pattern ranks.1 in (
+          home_of ranks.0,
+          omega arith,
+          omega arith,
+          record {
+            list = ranks.0;
+            at = refl;
+            ranked = ranks.1;
+            counted = Counts-by (IsCandidateFrom row.pattern) (HasCandidate problem ranks.0) (λ items. ((same items).1, (same items).0)) problem.sequences row.support candidates;
+            enough = f.enough;
+          },
+        )
 
     -- the rows of all homes are the frequent patterns
     pub frequent_rows : (rows : List Row) → AreRowsFrom problem 0 rows → AreFrequent (data_of problem) rows
