@@ -1,0 +1,3 @@
+mod BlockSums
+mod HomeRows
+mod RankedLemmas

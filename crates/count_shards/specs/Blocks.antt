@@ -1,0 +1,94 @@
+-- The blocks of sequences that are counted one by one, and the shards in which their sums are added up.
+use Rattle.std.specs.Prelude.{◌≡◌, ◌≢◌, ℕ, ◌+◌, ◌-◌, ◌*◌, ◌/◌, ◌%◌, ◌^◌, ◌≤◌, ◌↔◌, min, sum, List, [], ◌∷◌, length, take, drop, slice_index_or, AllPairs, Contains}
+use Rattle.mine_model.specs.declared.item.Item.{Item}
+use Rattle.mine_model.specs.Answer.{Data}
+use Rattle.mine_model.specs.Limits.{most_weight}
+use Rattle.mine_model.specs.Numbered.{tree_of}
+use Rattle.mine_model.specs.Ranks.{IsFrequentItem, IsCandidateOf}
+use Rattle.mine_model.specs.Support.{Sequence, Counts}
+use Rattle.fst_simulate.specs.Problems.{Problem}
+use Rattle.candidate_gen.specs.Candidates.{AreRanked}
+use Rattle.pattern_counts.specs.Tally.{Tally, no_lists, sum_of}
+
+-- ---- blocks and homes
+
+-- the sequences of the block with this number, counted from 0
+abbrev pub sequences_in : Problem → ℕ → List (Sequence Item)
+sequences_in problem block = take 256 (drop (256 * block) problem.sequences)
+
+-- how many blocks there are; the last one may have fewer sequences
+abbrev pub block_count : Problem → ℕ
+block_count problem = (length problem.sequences + 255) / 256
+
+-- the number of the shard in which a list of ranks is counted
+abbrev pub home_of : List ℕ → ℕ
+home_of ranks = sum ranks % 16
+
+-- ---- what is counted
+
+-- what the expression is matched with, and the threshold
+abbrev pub data_of : Problem → Data Item
+data_of problem = record {
+  links = problem.hierarchy.links;
+  sequences = problem.sequences;
+  expression = tree_of problem.machine.expression;
+  threshold = problem.threshold;
+}
+
+-- the items generate a candidate with these ranks
+abbrev pub HasCandidate : Problem → List ℕ → List Item → Type 0
+HasCandidate problem ranks items =
+    (pattern : List Item)
+    × IsCandidateOf problem.hierarchy.links (tree_of problem.machine.expression)
+    (IsFrequentItem problem.hierarchy.links problem.sequences problem.threshold) items pattern
+    × AreRanked problem.ranking.order pattern ranks
+
+-- n is the sum of the weights of the sequences of the block that have the candidate with these ranks
+abbrev pub InBlock : Problem → ℕ → List ℕ → ℕ → Type 0
+InBlock problem block ranks n = Counts (HasCandidate problem ranks) (sequences_in problem block) n
+
+-- n is the sum over the blocks with these numbers of what each block has
+abbrev pub SumsBy : (ℕ → ℕ → Type 0) → List ℕ → ℕ → Type 0
+SumsBy Has [] n = n ≡ 0
+SumsBy Has (block ∷ blocks) n = (m : ℕ) × (k : ℕ) × Has block m × SumsBy Has blocks k × (n ≡ m + k)
+
+-- n is the sum over the blocks with these numbers of the counts of the list
+abbrev pub SumsTo : Problem → List ℕ → List ℕ → ℕ → Type 0
+SumsTo problem blocks ranks n = SumsBy (λ block m. InBlock problem block ranks m) blocks n
+
+-- n is how many candidates the items have
+pub record HasCandidates {A : Type 0} (d : Data A) (items : List A) (n : ℕ) : Type 0 where
+  pub patterns : List (List A)
+  pub once : AllPairs (λ first second. first ≢ second) patterns
+  pub exact : (pattern : List A) → Contains patterns pattern
+      ↔ IsCandidateOf d.links d.expression (IsFrequentItem d.links d.sequences d.threshold) items pattern
+  pub count : length patterns ≡ n
+
+-- n is how many pairs there are of one of the sequences and a candidate of it
+abbrev pub HasPairs : {A : Type 0} → Data A → List (Sequence A) → ℕ → Type 0
+HasPairs d [] n = n ≡ 0
+HasPairs d (sequence ∷ sequences) n =
+    (m : ℕ) × (k : ℕ) × HasCandidates d sequence.items m × HasPairs d sequences k × (n ≡ m + k)
+
+-- ---- the counts of a block
+
+-- the counts of the block with this number: a tally for each home, and how many pairs there are
+pub record Block : Type 0 where
+  pub problem : Problem
+  pub number : ℕ
+  pub tallies : List Tally
+  pub pairs : ℕ
+
+abbrev pub tally_of : Block → ℕ → Tally
+tally_of block home = slice_index_or block.tallies home no_lists
+
+-- each list of ranks has its sum in the tally of its home, and in no other
+pub record AreCountsOf (problem : Problem) (number : ℕ) (block : Block) : Type 0 where
+  pub same : block.problem ≡ problem
+  pub at : block.number ≡ number
+  pub sixteen : length block.tallies ≡ 16
+  pub exact : (ranks : List ℕ) → InBlock problem number ranks (sum_of (tally_of block (home_of ranks)) ranks)
+  pub homes : (home : ℕ) (ranks : List ℕ) → home_of ranks ≢ home → sum_of (tally_of block home) ranks ≡ 0
+  pub most : (home : ℕ) (ranks : List ℕ) → sum_of (tally_of block home) ranks ≤ 256 * most_weight
+  pub pairs : (n : ℕ) × HasPairs (data_of problem) (sequences_in problem number) n
+      × (block.pairs ≡ min n (2 ^ 64 - 1))

@@ -1,0 +1,189 @@
+ghost use Rattle.std.specs.Prelude.{◌≡◌, ◌≢◌, ℕ, ◌+◌, ◌*◌, ◌^◌, ◌<◌, ◌≤◌, List, length, All, AllPairs, IfOk, OnOk};
+ghost use Rattle.pattern_counts.specs.Tally.{no_lists};
+ghost use Rattle.count_shards.specs.Blocks.{home_of, sequences_in, tally_of, AreCountsOf};
+ghost use Rattle.count_shards.specs.Tallied.{sum_at, AddsEach, HasCounted};
+
+use candidate_gen::CandidateList;
+use fst_simulate::Job;
+use mine_model::NoMemory;
+use pattern_counts::PatternCounts;
+use std::alloc::Global;
+use std::marker::Model;
+
+/// How many homes there are.
+pub(crate) const HOMES: u32 = 16;
+
+// How many sequences a block has; the last one may have fewer.
+const BLOCK: u32 = 256;
+
+/// The candidates of one block of sequences of a job after another, each counted in its home. Each block uses
+/// the room of the one before.
+#[derive(Drop)]
+pub struct BlockCounts<'a> {
+    job: &'a Job,
+    candidates: CandidateList<'a>,
+    homes: Vec<PatternCounts>,
+    pairs: u64,
+    number: u32,
+}
+
+impl<'a> Model for BlockCounts<'a> {
+    ghost use Rattle.std.specs.Prelude.{◌≡◌, length};
+    ghost use Rattle.count_shards.specs.Blocks.{Block};
+
+    ghost Value = { Block };
+
+    ghost use Rattle.mine_model.specs.contracts.expression.Expr as e;
+    ghost use Rattle.std.specs.Coded.{codes};
+
+    ghost coded = { Prim.hlevel (codes, e.the_row.coded) };
+
+    ghost view = { λ b. record {
+      problem = b.job.now;
+      number = b.number;
+      tallies = b.homes.items;
+      pairs = b.pairs;
+    } };
+
+    ghost invariant = { λ b. (b.candidates.problem ≡ b.job.now) × (length b.homes.items ≡ 16) };
+}
+
+impl<'a> BlockCounts<'a> {
+    /// Counts nothing yet.
+    pub fn new(alloc: Global, job: &'a Job) -> Result<BlockCounts<'a>, NoMemory>
+        ensures problem { IfOk result (λ b. b.problem ≡ job.now) }
+        ensures nothing { IfOk result (λ b. All (λ tally. tally ≡ no_lists) b.tallies × (b.pairs ≡ 0)) }
+    {
+        let candidates = CandidateList::new(alloc, job)?;
+        let homes = no_counts(alloc)?;
+        Ok(BlockCounts {
+            job,
+            candidates,
+            homes,
+            pairs: 0,
+            number: 0,
+        })
+    }
+
+    /// Counts the candidates of a block, in place of what was counted. After want of memory some of them may
+    /// be counted.
+    pub fn fill(&mut self, block: u32) -> Result<(), NoMemory>
+        requires { 256 * block < length self.old.problem.sequences }
+        ensures problem { self.new.problem ≡ self.old.problem }
+        ensures counts { OnOk result (AreCountsOf self.old.problem block self.new) }
+    {
+        self.number = block;
+        self.pairs = 0;
+        clear_all(&mut self.homes);
+        self.pairs = count_all(self.job, &mut self.candidates, &mut self.homes, block)?;
+        Ok(())
+    }
+
+    /// How many pairs there are of a sequence of the block and a candidate of it, at most 2⁶⁴ - 1. Takes no
+    /// memory.
+    pub fn pairs(&self) -> u64
+        ensures { result ≡ self.now.pairs }
+    {
+        self.pairs
+    }
+
+    /// What is counted in a home. Takes no memory.
+    pub(crate) fn home(&self, home: usize) -> &PatternCounts
+        requires { home < 16 }
+        ensures sixteen { length self.now.tallies ≡ 16 }
+        ensures tally { result.now ≡ tally_of self.now home }
+    {
+        &self.homes[home]
+    }
+}
+
+/// The counts of a block.
+pub fn count_block(alloc: Global, job: &Job, block: u32) -> Result<BlockCounts, NoMemory>
+    requires { 256 * block < length job.now.sequences }
+    ensures { IfOk result (λ b. AreCountsOf job.now block b) }
+{
+    let mut counts = BlockCounts::new(alloc, job)?;
+    counts.fill(block)?;
+    Ok(counts)
+}
+
+// Sixteen counts of nothing.
+fn no_counts(alloc: Global) -> Result<Vec<PatternCounts>, NoMemory>
+    ensures { IfOk result (λ homes. (length homes.items ≡ 16)
+        × All (λ tally. tally ≡ no_lists) homes.items) }
+{
+    let mut homes = Vec::with_capacity(alloc, HOMES as usize)?;
+    for _ in 0..HOMES {
+        homes.push(PatternCounts::new(alloc))?;
+    }
+    Ok(homes)
+}
+
+// Takes all counts away, and keeps the room.
+fn clear_all(homes: &mut Vec<PatternCounts>)
+    ensures same { length homes.new.items ≡ length homes.old.items }
+    ensures nothing { All (λ tally. tally ≡ no_lists) homes.new.items }
+{
+    for home in homes.iter_mut() {
+        home.clear();
+    }
+}
+
+// Counts the candidates of the sequences of a block, and answers how many pairs there are.
+fn count_all(
+    job: &Job,
+    candidates: &mut CandidateList,
+    homes: &mut Vec<PatternCounts>,
+    block: u32,
+) -> Result<u64, NoMemory>
+    requires block { 256 * block < length job.now.sequences }
+    requires problem { candidates.old.problem ≡ job.now }
+    requires sixteen { length homes.old.items ≡ 16 }
+    requires nothing { All (λ tally. tally ≡ no_lists) homes.old.items }
+    ensures problem { candidates.new.problem ≡ job.now }
+    ensures sixteen { length homes.new.items ≡ 16 }
+    ensures counted { IfOk result (λ pairs. HasCounted job.now (sequences_in job.now block)
+        homes.new.items pairs) }
+{
+    let db = job.db();
+    let first = BLOCK * block;
+    let end = db.sequences().min(first + BLOCK);
+    let mut pairs: u64 = 0;
+    for number in first..end {
+        candidates.fill(number)?;
+        pairs = pairs.saturating_add(candidates.len() as u64);
+        add_each(homes, candidates, db.weight(number))?;
+    }
+    Ok(pairs)
+}
+
+// Adds the weight to the sum of each of the candidates, in its home.
+fn add_each(
+    homes: &mut Vec<PatternCounts>,
+    candidates: &CandidateList,
+    weight: u64,
+) -> Result<(), NoMemory>
+    requires sixteen { length homes.old.items ≡ 16 }
+    requires each_once { AllPairs (λ first second. first ≢ second) candidates.now.listed }
+    requires room { (list : List ℕ) → sum_at homes.old.items list + weight < 2 ^ 64 }
+    ensures sixteen { length homes.new.items ≡ 16 }
+    ensures added { OnOk result (AddsEach candidates.now.listed weight homes.old.items homes.new.items) }
+{
+    for i in 0..candidates.len() {
+        let list = candidates.get(i);
+        homes[home_of(list)].add(list, weight)?;
+    }
+    Ok(())
+}
+
+// The home of a list. That sums wrap does not matter, since 16 divides 2³².
+fn home_of(list: &[u32]) -> usize
+    ensures home { result ≡ home_of list.now }
+    ensures within { result < 16 }
+{
+    let mut sum: u32 = 0;
+    for rank in list {
+        sum = sum.wrapping_add(*rank);
+    }
+    (sum % HOMES) as usize
+}

@@ -1,0 +1,125 @@
+ghost use Rattle.std.specs.Prelude.{◌≡◌, ℕ, ◌<◌, ◌≤◌, List, [], ◌∷◌, ◌++◌, length, map, slice_get, Some, All, IfOk, OnOk, Contains};
+ghost use Rattle.std.specs.List.{AllByRecursion};
+ghost use Rattle.mine_model.specs.declared.row.Row.{Row as TheRow};
+ghost use Rattle.mine_model.specs.Numbered.{AreFrequent};
+ghost use Rattle.turn_lock.specs.Passes.{made};
+ghost use Rattle.count_shards.specs.Blocks.{data_of, AreCountsOf};
+ghost use Rattle.count_shards.specs.Shard.{entry_of};
+
+use super::block::{BlockCounts, HOMES};
+use super::columns::columns;
+use super::shard::{AddBlock, Shard};
+use fst_simulate::Job;
+use mine_model::{NoMemory, Row};
+use std::alloc::Global;
+use std::sync::Wait;
+use turn_lock::{Pass, TurnLock};
+
+/// The sums over all blocks that were merged, in sixteen shards. Each shard has a lock of its own.
+#[derive(Drop)]
+pub struct Shards {
+    locks: Vec<TurnLock<Shard>>,
+}
+
+impl Shards {
+    ghost use Rattle.count_shards.specs.Shards.{AreShardsOf, ArePassesOf, AreAllLists, AreNewLists};
+    ghost use Rattle.count_shards.specs.Shards.{AddedEachOnce, AreRowsFrom};
+    ghost use Rattle.count_shards.specs.Merging.{AreOpened, HasMerged};
+
+    /// Shards of nothing, and the passes of so many workers, a list of sixteen for each.
+    pub fn new(
+        alloc: Global,
+        job: &Job,
+        workers: u32,
+    ) -> Result<(Shards, Vec<Vec<Pass<Shard>>>), NoMemory>
+        requires { 1 ≤ workers }
+        ensures shards { IfOk result (λ r. AreShardsOf job.now r.0) }
+        ensures workers { IfOk result (λ r. length r.1.items ≡ workers) }
+        ensures all { IfOk result (λ r. AreAllLists r.0 r.1.items) }
+        ensures new { IfOk result (λ r. AreNewLists r.1.items) }
+    {
+        let mut locks = Vec::with_capacity(alloc, HOMES as usize)?;
+        let mut lists = Vec::with_capacity(alloc, HOMES as usize)?;
+        for home in 0..HOMES {
+            let (lock, passes) = TurnLock::new(alloc, Shard::new(alloc, job, home), workers)?;
+            locks.push(lock)?;
+            lists.push(passes)?;
+        }
+        let passes = columns::<Pass<Shard>>(alloc, lists, workers as usize)?;
+        Ok((Shards { locks }, passes))
+    }
+
+    /// Adds the counts of a block to each shard, with the passes of one worker. After want of memory some of
+    /// the shards have them.
+    pub fn merge(
+        &self,
+        rt: &impl Wait,
+        passes: &mut [Pass<Shard>],
+        block: &BlockCounts,
+    ) -> Result<(), NoMemory>
+        requires shards { AreShardsOf block.now.problem self.now }
+        requires passes { ArePassesOf self.now passes.old }
+        requires counts { AreCountsOf block.now.problem block.now.number block.now }
+        ensures passes { ArePassesOf self.now passes.new }
+        ensures made { OnOk result (map made passes.new
+            ≡ map (λ pass. made pass ++ entry_of block.now.number ∷ []) passes.old) }
+    {
+        // Blocks that are merged at the same time mostly begin at different shards.
+        let first = (block.number() % HOMES) as usize;
+        self.merge_range(rt, passes, block, first, self.locks.len())?;
+        self.merge_range(rt, passes, block, 0, first)
+    }
+
+    // Adds the counts of a block to the shards from `start` to before `end`.
+    fn merge_range(
+        &self,
+        rt: &impl Wait,
+        passes: &mut [Pass<Shard>],
+        block: &BlockCounts,
+        start: usize,
+        end: usize,
+    ) -> Result<(), NoMemory>
+        requires shards { AreShardsOf block.now.problem self.now }
+        requires passes { ArePassesOf self.now passes.old }
+        requires counts { AreCountsOf block.now.problem block.now.number block.now }
+        requires range { (start ≤ end) × (end ≤ length self.now.locks.items) }
+        ensures passes { ArePassesOf self.now passes.new }
+        ensures merged { OnOk result (HasMerged block.now.number start end passes.old passes.new) }
+    {
+        for home in start..end {
+            let lock = &self.locks[home];
+            let pass = &mut passes[home];
+            let mut change = AddBlock { block: &*block };
+            lock.change(rt, pass, &mut change)?;
+        }
+        Ok(())
+    }
+
+    /// The frequent patterns of the job with their supports, each once, in no stated order, once each block
+    /// was merged.
+    pub fn close(
+        self,
+        alloc: Global,
+        job: &Job,
+        passes: Vec<Vec<Pass<Shard>>>,
+    ) -> Result<Vec<Row>, NoMemory>
+        requires shards { AreShardsOf job.now self }
+        requires all { AreAllLists self passes.items }
+        requires each_once { AddedEachOnce job.now passes.items }
+        ensures frequent { IfOk result (λ rows. AreFrequent (data_of job.now) rows.items) }
+        ensures items { IfOk result (λ rows. (row : TheRow) → Contains rows.items row
+            → AllByRecursion (λ t. t.0 < job.now.hierarchy.items) row.pattern) }
+    {
+        let Shards { mut locks } = self;
+        // The contract of `items` says that no link leads out of the items, so neither does a pattern.
+        let _items = job.hierarchy().items();
+        let mut lists = columns::<Pass<Shard>>(alloc, passes, locks.len())?;
+        let mut rows = Vec::new(alloc);
+        'locks: while let Some(lock) = locks.pop() {
+            let passes = lists.pop().unwrap();
+            let shard = lock.close(passes);
+            shard.append_rows(alloc, job, &mut rows)?;
+        }
+        Ok(rows)
+    }
+}
