@@ -1,12 +1,7 @@
 -- Elements of a list, and of a list of pieces.
-use Rattle.std.proofs.Common.{◌≡◌, ℕ, zero, suc, ◌<◌, ◌⊎◌, inl, inr, Bool, true, false, Some, List, [], ◌∷◌, slice_get, length, refl, sym, subst, arith, Contains, flat_map}
+use Rattle.std.proofs.Common.{◌≡◌, ℕ, zero, suc, ◌<◌, inl, inr, Some, List, [], ◌∷◌, ◌++◌, slice_get, length, refl, sym, subst, arith, Contains, flat_map}
 use Rattle.mine_model.proofs.ListLemmas.{Contains-cases, Contains-first, Contains-other, Contains-none}
 use Rattle.std.proofs.lemmas.List.Elements.{Contains-append_left, Contains-append_right, Contains-append_cases}
-
--- a test is passed or not
-pub tells : (b : Bool) → (b ≡ true) ⊎ (b ≡ false)
-tells true = inl refl
-tells false = inr refl
 
 pub get-some : {X : Type 0} (xs : List X) (i : ℕ) → i < length xs → (x : X) × (slice_get xs i ≡ Some x)
 get-some [] i l = absurd (omega arith)
@@ -17,6 +12,12 @@ pub get-held : {X : Type 0} (xs : List X) (i : ℕ) (x : X) → slice_get xs i �
 get-held [] i x is = absurd (cc)
 get-held (y ∷ xs) zero x is = let same : y ≡ x = cc in subst (Contains (y ∷ xs)) same (Contains-first y xs)
 get-held (y ∷ xs) (suc i) x is = Contains-other y xs x (get-held xs i x is)
+
+-- what stands in the front of a list stands there in the whole list
+pub get-left : {X : Type 0} (xs ys : List X) (i : ℕ) (x : X) → slice_get xs i ≡ Some x → slice_get (xs ++ ys) i ≡ Some x
+get-left [] ys i x is = absurd (cc)
+get-left (y ∷ xs) ys zero x is = is
+get-left (y ∷ xs) ys (suc i) x is = get-left xs ys i x is
 
 -- an element of the pieces is one of a piece
 pub flat-cases : {X Y : Type 0} (f : X → List Y) (xs : List X) (y : Y) → Contains (flat_map f xs) y → (x : X) × Contains xs x × Contains (f x) y

@@ -29,3 +29,4 @@ pub mod RankLemmas
 pub mod AboveLemmas
 pub mod FrequencyLemmas
 pub mod TestedLists
+pub mod ApartLemmas
