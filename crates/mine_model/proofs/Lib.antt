@@ -30,3 +30,4 @@ pub mod AboveLemmas
 pub mod FrequencyLemmas
 pub mod TestedLists
 pub mod ApartLemmas
+pub mod SumLemmas
