@@ -1,5 +1,5 @@
 -- The words --support DIGITS EXPRESSION FILE, with `--` or without, by clap's definitions.
-use Rattle.std.proofs.Common.{◌≡◌, ◌∙◌, ◌↔◌, ap, ap₂, rules, sym, subst, ℕ, true, false, IsTrue, refl, fold, List, [], ◌∷◌, codes, Option, Some, is_some}
+use Rattle.std.proofs.Common.{◌≡◌, ◌∙◌, ◌↔◌, ap, ap₂, arith, rules, sym, subst, ℕ, true, false, IsTrue, refl, fold, List, [], ◌∷◌, codes, Option, Some, is_some}
 use Rattle.clap.specs.Words.{Row, Text, Kinds, Shape, built}
 use Rattle.clap.specs.Kinds.{or_else}
 use Rattle.clap.specs.Simple.{entered}
@@ -8,7 +8,8 @@ use Rattle.clap.specs.Faults.{check_fault, defaults_fault, entered_fault, settle
 use Rattle.clap.proofs.OnLiterals.{clap_on_literals}
 use Rattle.command_line.specs.Options.{options, desq, faults, rows}
 use Rattle.command_line.specs.Words.{GivesSupport, IsCommand, IsNumber, KeepsRules, Says}
-use Rattle.mine_model.specs.Limits.{most_support}
+use Rattle.mine_model.specs.Limits.{most_support, most_workers}
+use Rattle.command_line.specs.declared.words.Engine.TheVariants.{Count}
 use Rattle.command_line.specs.PlainWords.{IsPlainWord, plain_command}
 use Rattle.command_line.proofs.PlainWordLemmas.{between, plain_step, walked_plain, walk_fault_plain}
 
@@ -28,6 +29,10 @@ faults_at w k =
 -- a flag that was not given
 flag_off : (value : Option Text) → value ≡ Some (codes "false") → IsTrue false ↔ (value ≡ Some (codes "true"))
 flag_off value off = search rules
+
+-- the number of workers of a run that asks for none
+four : IsNumber 1 most_workers (codes "4") 4
+four = record { decimal = ((refl, tt), (λ none. absurd (cc)), refl); within = (omega arith, omega arith) }
 
 module _ (digits : Text) (p : IsPlainWord digits) where
   -- the walk after --support, and after the digits
@@ -101,11 +106,20 @@ module _ (digits : Text) (p : IsPlainWord digits) where
 
     end_rules : KeepsRules found
     unfolding clap_on_literals options desq
-    end_rules = record { support = (n, end_support); file = refl }
+    end_rules = record { support = (n, end_support); engine = (Count, refl); workers = (4, four); file = refl }
 
     end_says : Says found (plain_command n expression file)
     unfolding clap_on_literals options desq
-    end_says = record { support = end_support; expression = refl; file = refl; hierarchy = refl; weighted = flag_off _ refl }
+    end_says = record {
+      support = end_support;
+      expression = refl;
+      file = refl;
+      hierarchy = refl;
+      weighted = flag_off _ refl;
+      engine = refl;
+      workers = four;
+      stats = flag_off _ refl;
+    }
 
     says : (all : List Text) → faults all ≡ [] → rows all ≡ found → IsCommand all (plain_command n expression file)
     says all taken is = record {

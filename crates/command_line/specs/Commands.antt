@@ -10,4 +10,7 @@ command_said read = record {
   file = string_bytes read.file;
   hierarchy = option_map string_bytes read.hierarchy;
   weighted = read.weighted;
+  engine = read.engine;
+  workers = read.workers;
+  stats = read.stats;
 }

@@ -1,9 +1,11 @@
 -- What the words of a command say: what clap finds in them, and the rules beyond clap's.
-use Rattle.std.specs.Prelude.{◌≡◌, ◌≢◌, ◌↔◌, ◌⊎◌, ℕ, ◌≤◌, Bool, true, List, [], codes, Option, Some, IsSome, IsTrue}
-use Rattle.mine_model.specs.Limits.{most_support}
+use Rattle.std.specs.Prelude.{◌≡◌, ◌≢◌, ◌↔◌, ◌⊎◌, ℕ, ◌≤◌, Bool, true, List, [], codes, Option, Some, unwrap_or, IsSome, IsTrue}
+use Rattle.mine_model.specs.Limits.{most_support, most_workers}
 use Rattle.mine_model.specs.Grammar.{IsDecimal}
 use Rattle.clap.specs.Words.{Row, Text, first_of}
 use Rattle.command_line.specs.Options.{faults, rows}
+use Rattle.command_line.specs.declared.words.Engine.{Engine}
+use Rattle.command_line.specs.declared.words.Engine.TheVariants.{Count}
 
 -- what the words of a command say
 pub record Command : Type 0 where
@@ -12,6 +14,9 @@ pub record Command : Type 0 where
   pub file : Text
   pub hierarchy : Option Text
   pub weighted : Bool
+  pub engine : Engine
+  pub workers : ℕ
+  pub stats : Bool
 
 -- one or more decimal digits, leading zeros allowed, of a number in this range
 pub record IsNumber (least most : ℕ) (digits : Text) (n : ℕ) : Type 0 where
@@ -27,9 +32,23 @@ abbrev pub GivesSupport : List Row → ℕ → Type 0
 GivesSupport found n =
     (digits : Text) × (first_of (codes "support") found ≡ Some digits) × IsNumber 1 most_support digits n
 
--- the rules beyond clap's, a line each: the support is a number in its range, FILE is there
+abbrev pub engine_name : Engine → Text
+engine_name Count = codes "count"
+
+-- this engine was named, or none was and it is that of a run that names none
+abbrev pub GivesEngine : List Row → Engine → Type 0
+GivesEngine found engine = unwrap_or (first_of (codes "engine") found) (codes "count") ≡ engine_name engine
+
+-- so many workers were asked for, or none and it is the number of a run that asks for none
+abbrev pub GivesWorkers : List Row → ℕ → Type 0
+GivesWorkers found n = IsNumber 1 most_workers (unwrap_or (first_of (codes "workers") found) (codes "4")) n
+
+-- the rules beyond clap's, a line each: each number is in its range, the engine is one that there is, FILE is
+-- there
 pub record KeepsRules (found : List Row) : Type 0 where
   pub support : (n : ℕ) × GivesSupport found n
+  pub engine : (engine : Engine) × GivesEngine found engine
+  pub workers : (n : ℕ) × GivesWorkers found n
   pub file : IsSome (first_of (codes "file") found)
 
 -- the values that were found say this command, a line for each argument
@@ -39,6 +58,9 @@ pub record Says (found : List Row) (command : Command) : Type 0 where
   pub file : first_of (codes "file") found ≡ Some command.file
   pub hierarchy : first_of (codes "hierarchy") found ≡ command.hierarchy
   pub weighted : IsTrue command.weighted ↔ IsGiven found (codes "weighted")
+  pub engine : GivesEngine found command.engine
+  pub workers : GivesWorkers found command.workers
+  pub stats : IsTrue command.stats ↔ IsGiven found (codes "stats")
 
 -- the words say this command: clap takes them, and what it finds in them keeps the rules and says it
 pub record IsCommand (words : List Text) (command : Command) : Type 0 where

@@ -9,7 +9,7 @@ mod words;
 pub use laws::{
     at_most_one_command, plain_words_say, usage_says_no_command, words_behind_dashes_say,
 };
-pub use words::{Command, read_words};
+pub use words::{Command, Engine, read_words};
 
 #[cfg(test)]
 mod tests;

@@ -1,4 +1,4 @@
-use super::{Command, read_words};
+use super::{Command, Engine, read_words};
 use std::alloc::Global;
 use std::test::Fail;
 
@@ -25,7 +25,10 @@ fn says(
                 && command.expression.as_str() == expression
                 && command.file.as_str() == file
                 && command.hierarchy.is_none()
-                && !command.weighted,
+                && !command.weighted
+                && command.engine == Engine::Count
+                && command.workers == 4
+                && !command.stats,
         ),
         None => Ok(false),
     }
@@ -94,6 +97,43 @@ fn options_are_read(rt: HostRuntime) -> Result<(), Fail> {
             }
         }
         None => assert!(rt; false),
+    }
+    Ok(())
+}
+
+#[test]
+fn engines_and_workers_are_read(rt: HostRuntime) -> Result<(), Fail> {
+    for (text, workers, stats) in [
+        ("--support 2 --engine count (a) f", 4, false),
+        ("--stats (a) --engine=count f --support 2", 4, true),
+        ("--support 2 --workers 1 (a) f", 1, false),
+        ("--workers=064 --stats --support 2 (a) f", 64, true),
+    ] {
+        match read(rt.alloc(), text)? {
+            Some(command) => {
+                assert_eq!(rt; command.engine, Engine::Count);
+                assert_eq!(rt; command.workers, workers);
+                assert_eq!(rt; command.stats, stats);
+            }
+            None => assert!(rt; false),
+        }
+    }
+    for text in [
+        "--support 2 --workers 0 (a) f",
+        "--support 2 --workers 65 (a) f",
+        "--support 2 --workers 18446744073709551617 (a) f",
+        "--support 2 --workers= (a) f",
+        "--support 2 --workers x (a) f",
+        "--support 2 (a) f --workers",
+        "--support 2 --workers 2 --workers 2 (a) f",
+        "--support 2 --engine Count (a) f",
+        "--support 2 --engine counts (a) f",
+        "--support 2 --engine= (a) f",
+        "--support 2 --engine count --engine count (a) f",
+        "--support 2 --stats --stats (a) f",
+        "--support 2 --stats=true (a) f",
+    ] {
+        assert!(rt; read(rt.alloc(), text)?.is_none());
     }
     Ok(())
 }

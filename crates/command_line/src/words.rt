@@ -1,10 +1,11 @@
 //! From the words to the command that they say.
 
-ghost use Rattle.std.specs.Prelude.{◌≡◌, ◌↔◌, ℕ, List, Some, IsTrue, IfOk, MatchOption, map, option_map, string_bytes, codes};
+ghost use Rattle.std.specs.Prelude.{◌≡◌, ◌↔◌, ℕ, List, Some, IsTrue, IfOk, MatchOption, map, option_map, unwrap_or, string_bytes, codes};
 ghost use Rattle.clap.specs.Words.{first_of, found_of, rows_of};
-ghost use Rattle.command_line.specs.Words.{GivesSupport, IsGiven, KeepsRules, Says, IsCommand, IsUsage};
+ghost use Rattle.command_line.specs.Words.{GivesSupport, GivesEngine, GivesWorkers, IsGiven, KeepsRules, Says, IsCommand, IsUsage};
 ghost use Rattle.command_line.specs.Arguments.{HasNeeded};
 ghost use Rattle.command_line.specs.Commands.{command_said};
+ghost use Rattle.command_line.specs.declared.words.Engine.{Engine};
 
 use super::number::read_number;
 use super::options::taken;
@@ -14,6 +15,16 @@ use std::alloc::Global;
 
 /// The greatest support that may be asked for.
 const MOST_SUPPORT: u64 = 1_000_000_000_000_000_000;
+
+/// The most workers that may be asked for.
+const MOST_WORKERS: u64 = 64;
+
+/// How a run searches.
+#[derive(Clone, Copy, Debug, PartialEq, Eq)]
+pub enum Engine {
+    /// It counts the candidates of all sequences.
+    Count,
+}
 
 /// What the words of a command say.
 #[derive(Debug, Drop)]
@@ -28,6 +39,12 @@ pub struct Command {
     pub hierarchy: Option<String>,
     /// Whether the first field of each line of the sequences is its weight.
     pub weighted: bool,
+    /// The engine, `count` where none is named.
+    pub engine: Engine,
+    /// How many threads work at the search, 1 to 64; 4 where no number is given.
+    pub workers: u32,
+    /// Whether the counted work of the run is told on the error output.
+    pub stats: bool,
 }
 
 /// The value that was given for an argument.
@@ -71,6 +88,42 @@ fn given_support(matches: &ArgMatches<'_>) -> Option<u64>
     }
 }
 
+/// The value of an option: the one that was given, or else the default.
+fn given_or<'a>(matches: &ArgMatches<'a>, name: &str, default: &'a str) -> &'a str
+    ensures { result.now
+        ≡ unwrap_or (first_of name.now (rows_of (found_of matches.now))) default.now }
+{
+    given(matches, name).unwrap_or(default)
+}
+
+/// The engine of the run. None where no engine has the name that was given.
+fn given_engine(matches: &ArgMatches<'_>) -> Option<Engine>
+    ensures { MatchOption result
+        ((engine : Engine) → GivesEngine (rows_of (found_of matches.now)) engine → ⊥)
+        (λ engine. GivesEngine (rows_of (found_of matches.now)) engine) }
+{
+    match given_or(matches, "engine", "count") {
+        "count" => Some(Engine::Count),
+        _ => None,
+    }
+}
+
+/// The number of workers of the run. None where the value that was given is none.
+fn given_workers(matches: &ArgMatches<'_>) -> Option<u32>
+    ensures { MatchOption result
+        ((n : ℕ) → GivesWorkers (rows_of (found_of matches.now)) n → ⊥)
+        (λ n. GivesWorkers (rows_of (found_of matches.now)) n) }
+{
+    match read_number(
+        given_or(matches, "workers", "4").as_bytes(),
+        1,
+        MOST_WORKERS,
+    ) {
+        Some(workers) => Some(workers as u32),
+        None => None,
+    }
+}
+
 /// The command that the values say. None where they break a rule.
 fn said(alloc: Global, matches: &ArgMatches<'_>) -> Result<Option<Command>, NoMemory>
     requires { HasNeeded (rows_of (found_of matches.now)) }
@@ -83,6 +136,14 @@ fn said(alloc: Global, matches: &ArgMatches<'_>) -> Result<Option<Command>, NoMe
         Some(support) => support,
         None => return Ok(None),
     };
+    let engine = match given_engine(matches) {
+        Some(engine) => engine,
+        None => return Ok(None),
+    };
+    let workers = match given_workers(matches) {
+        Some(workers) => workers,
+        None => return Ok(None),
+    };
     let file = match given_text(alloc, matches, "file")? {
         Some(file) => file,
         None => return Ok(None),
@@ -93,6 +154,9 @@ fn said(alloc: Global, matches: &ArgMatches<'_>) -> Result<Option<Command>, NoMe
         file,
         hierarchy: given_text(alloc, matches, "hierarchy")?,
         weighted: is_given(matches, "weighted"),
+        engine,
+        workers,
+        stats: is_given(matches, "stats"),
     }))
 }
 

@@ -1,5 +1,1 @@
-pub mod TrieLemmas
-pub mod SumLemmas
-pub mod RankedLemmas
-pub mod RowLemmas
-pub mod CountLemmas
+mod ShareLemmas

@@ -1,3 +1,2 @@
--- what the proofs keep
-pub mod Tries
-pub mod Counts
+-- the words of the promise
+pub mod Shares

@@ -1,11 +1,11 @@
-//! The count engine: the candidates of all sequences, and for each the sum of the weights of the sequences
-//! that have it.
+//! The count engine: workers count the candidates of blocks of sequences, and add the counts up in shards.
 #![tactic(auto)]
 
-mod counts;
+mod hands;
 mod mining;
 #[cfg(test)]
 mod tests;
-mod trie;
+mod work;
 
 pub use mining::mine;
+pub use work::work;

@@ -1,37 +1,74 @@
-ghost use Rattle.std.specs.Prelude.{◌<◌, IfOk, Contains};
+ghost use Rattle.std.specs.Prelude.{◌≡◌, ◌≤◌, ◌<◌, ◌^◌, All, IfOk, Contains};
 ghost use Rattle.std.specs.List.{AllByRecursion};
 ghost use Rattle.mine_model.specs.declared.row.Row.{Row};
-ghost use Rattle.mine_model.specs.Numbered.{tree_of};
 ghost use Rattle.mine_model.specs.Numbered.{AreFrequent};
+ghost use Rattle.mine_model.specs.Counted.{IsCountingWork};
+ghost use Rattle.count_shards.specs.Blocks.{data_of};
+ghost use Rattle.count_shards.specs.Shards.{AreShardsOf};
+ghost use Rattle.count_engine.specs.Shares.{IsHandOf, IsDone};
 
-use super::counts::Counts;
-use candidate_gen::CandidateList;
+use super::hands::{Done, Hand, gathered, hands_of};
+use super::work::work;
+use count_shards::Shards;
 use fst_simulate::Job;
-use mine_model::{NoMemory, Row};
+use mine_model::{Gate, Mined, NoMemory, Work};
 use std::alloc::Global;
+use std::sync::Wait;
+use std::thread;
+use std::thread::Threads;
 
-/// The frequent patterns of a job with their supports, each once, in no stated order.
-///
-/// What it takes grows with the different prefixes of the candidates of all sequences, and with the
-/// candidates of one sequence.
-pub fn mine(alloc: Global, job: &Job) -> Result<Vec<Row>, NoMemory>
-    ensures frequent { IfOk result (λ rows. AreFrequent (record {
-      links = job.now.hierarchy.links;
-      sequences = job.now.sequences;
-      expression = tree_of job.now.machine.expression;
-      threshold = job.now.threshold;
-    }) rows.items) }
-    ensures items { IfOk result (λ rows. (row : Row) → Contains rows.items row
-        → AllByRecursion (λ t. t.0 < job.now.hierarchy.items) row.pattern) }
+/// One worker's whole run, with what it was given.
+fn done_by<R: Wait, G: Gate>(
+    rt: &R,
+    alloc: Global,
+    job: &Job,
+    shards: &Shards,
+    hand: Hand,
+    workers: u32,
+    gate: &G,
+) -> Result<Done, NoMemory>
+    requires shards { AreShardsOf job.now shards.now }
+    requires hand { IsHandOf shards.now workers hand }
+    ensures { IfOk result (IsDone job.now shards.now workers hand.worker) }
 {
-    let db = job.db();
-    let mut candidates = CandidateList::new(alloc, job)?;
-    let mut counts = Counts::new(alloc);
-    for number in 0..db.sequences() {
-        candidates.fill(number)?;
-        counts.add_each(&candidates, db.weight(number))?;
-    }
-    // The contract of `items` says that no link leads out of the items, so neither does a pattern.
-    let _items = job.hierarchy().items();
-    counts.rows(alloc, job.ranks(), job.support())
+    let Hand { worker, mut passes } = hand;
+    let pairs = work(rt, alloc, job, shards, passes.as_mut_slice(), worker, workers, gate)?;
+    Ok(Done { passes, pairs })
+}
+
+/// The frequent patterns of a job with their supports, each once, in no stated order, and the counted work.
+/// Each worker has a thread of its own, where one can be made.
+pub fn mine<R: Threads + Wait + Sync, G: Gate>(
+    rt: &R,
+    alloc: Global,
+    job: &Job,
+    workers: u32,
+    gate: &G,
+) -> Result<Mined, NoMemory>
+    requires workers { 1 ≤ workers }
+    ensures frequent { IfOk result (λ mined. AreFrequent (data_of job.now) mined.rows.items) }
+    ensures items { IfOk result (λ mined. (row : Row) → Contains mined.rows.items row
+        → AllByRecursion (λ t. t.0 < job.now.hierarchy.items) row.pattern) }
+    ensures work { IfOk result (λ mined. IsCountingWork (data_of job.now) mined.work) }
+{
+    let (shards, lists) = Shards::new(alloc, job, workers)?;
+    let hands = hands_of(alloc, lists)?;
+    let results = thread::map_vec(
+        rt,
+        hands,
+        &|hand: Hand| -> Result<Done, NoMemory>
+            requires { IsHandOf shards.now workers hand }
+            ensures { IfOk result (IsDone job.entry.now shards.entry.now workers hand.worker) }
+        { done_by(rt, alloc, job, &shards, hand, workers, gate) },
+    )?;
+    let (lists, pairs) = gathered(alloc, results)?;
+    let rows = shards.close(alloc, job, lists)?;
+    Ok(Mined {
+        rows,
+        work: Work {
+            nodes: 0,
+            parts: 0,
+            candidates: pairs,
+        },
+    })
 }

@@ -1,21 +1,17 @@
 -- The frequent items, and that they come one before the other once they are sorted.
-use Rattle.std.proofs.Common.{◌≡◌, ◌≢◌, ℕ, ◌+◌, ◌≤◌, ◌<◌, ◌==◌, ◌↔◌, Bool, false, List, [], ◌∷◌, ◌++◌, length, get_or, refl, sym, ap, ◌∙◌, subst, inl, inr, arith, true≢false}
+use Rattle.std.proofs.Common.{◌≡◌, ◌≢◌, ℕ, ◌+◌, ◌≤◌, ◌<◌, ◌↔◌, false, List, [], ◌∷◌, ◌++◌, length, get_or, refl, sym, ap, ◌∙◌, subst, inl, inr, arith, true≢false}
 use Rattle.std.specs.List.{All, AllPairs, Contains, slice_index}
 use Rattle.std.specs.List.Sorted.{IsPermutation, IsSortedBy}
-use Rattle.std.specs.Bool.{Decides}
 use Rattle.std.specs.Cmp.{IsTotalOrder}
 use Rattle.std.specs.Cmp.Lexicographic.{slice_cmp}
 use Rattle.std.specs.Ordering.{nat_cmp, ordering_then, ordering_reverse, is_lt, is_eq, MatchOrdering}
 use Rattle.std.specs.declared.cmp.Ordering.{Ordering}
 use Rattle.std.specs.declared.cmp.Ordering.TheVariants.{Less, Equal, Greater}
 use Rattle.std.proofs.lemmas.Bool.{cases_eq}
-use Rattle.std.proofs.lemmas.Bool.Decides.{Decides-eqb}
-use Rattle.std.proofs.lemmas.Cmp.{nat_cmp_total, then_total, back_total, on_total, nat_list_cmp_total, on_equiv, nat_eq_equiv, ranked}
+use Rattle.std.proofs.lemmas.Cmp.{nat_cmp_total, then_total, back_total, on_total, nat_list_cmp_total, ranked}
 use Rattle.std.proofs.lemmas.List.MinMax.{ranks_by}
 use Rattle.std.proofs.lemmas.List.Elements.{Contains-append_cases, Contains-append_left, Contains-append_right}
 use Rattle.std.proofs.lemmas.List.Sorted.{All-permutation, sorted_far}
-use Rattle.std.proofs.lemmas.Map.Keys.{IsDistinct-IsPermutation}
-use Rattle.std.proofs.lemmas.Map.Made.{AllPairs-from_IsDistinct, IsDistinct-from_AllPairs}
 use Rattle.std.proofs.lemmas.Map.Text.{is_eq-slice_cmp}
 use Rattle.std.proofs.lemmas.Slice.Eq.{bytes_eq-Decides}
 use Rattle.mine_model.specs.declared.item.Item.{Item}
@@ -23,6 +19,7 @@ use Rattle.mine_model.specs.Ancestry.{item_at}
 use Rattle.mine_model.specs.Names.{name_of, HasName, AreDistinct}
 use Rattle.mine_model.proofs.ListLemmas.{Contains-cases, Contains-first, Contains-none, AllPairs-append}
 use Rattle.mine_model.proofs.AncestryLemmas.{Item-same}
+use Rattle.mine_model.proofs.ApartLemmas.{item_eq-Decides, apart_by_permutation}
 use Rattle.frequency_list.specs.Order.{item_cmp, ComesBefore}
 
 -- Which items are frequent
@@ -71,20 +68,6 @@ pub item_cmp_total : (frequencies : List ℕ) (names : List (List ℕ)) → IsTo
 item_cmp_total frequencies names =
     then_total (back_total (on_total (λ (w : Item). slice_index frequencies w.0) nat_cmp_total)) (on_total (name_of names) nat_list_cmp_total)
 
-abbrev item_eq : Item → Item → Bool
-item_eq v w = v.0 == w.0
-
-item_eq-Decides : (v w : Item) → Decides (item_eq v w) (v ≡ w)
-item_eq-Decides v w = (
-  λ e. Item-same v w ((Decides-eqb v.0 w.0).0 e),
-  λ e. (Decides-eqb v.0 w.0).1 (ap (λ (item : Item). item.0) e),
-)
-
-still_differ : (old new : List Item) → IsPermutation old new → AllPairs (λ v w. v ≢ w) old → AllPairs (λ v w. v ≢ w) new
-still_differ old new moved different =
-    AllPairs-from_IsDistinct item_eq-Decides new
-    (IsDistinct-IsPermutation item_eq (on_equiv (λ (item : Item). item.0) nat_eq_equiv).symm old new moved (IsDistinct-from_AllPairs item_eq-Decides old different))
-
 rising_differ : (items : List Item) → AllPairs (λ v w. v.0 < w.0) items → AllPairs (λ v w. v ≢ w) items
 rising_differ items rises i j d less within same =
     let below = rises i j d less within in let e = ap (λ (v : Item). v.0) same in omega (arith, below, e)
@@ -120,7 +103,7 @@ module _ (frequencies : List ℕ) (names : List (List ℕ)) (distinct : AreDisti
       → IsSortedBy (λ v w. is_lt (item_cmp frequencies names v w)) new → AllPairs (ComesBefore frequencies names) new
   ComesBefore-from_sort old new named rises moved sorted i j d less within =
       let named_new : All (HasName names) new = All-permutation (HasName names) old new moved named in
-      let apart = still_differ old new moved (rising_differ old rises) in
+      let apart = apart_by_permutation item_eq-Decides old new moved (rising_differ old rises) in
       let i_within : i < length new = omega arith in
       let not_less = sorted_far (λ v w. is_lt (item_cmp frequencies names v w)) (ranks_by (item_cmp_total frequencies names) (λ (v : Item). v)) new sorted i j d (omega arith) within in
       comes_before (get_or new i d) (get_or new j d) (named_new i d i_within) (named_new j d within) (apart i j d less within) not_less

@@ -1,12 +1,8 @@
 -- Elements of a list, and of a list of pieces.
-use Rattle.std.proofs.Common.{◌≡◌, ℕ, zero, suc, ◌<◌, ◌⊎◌, inl, inr, Bool, true, false, Some, List, [], ◌∷◌, slice_get, length, refl, sym, subst, arith, Contains, flat_map}
+use Rattle.std.proofs.Common.{◌≡◌, ℕ, zero, suc, ◌+◌, ◌<◌, inl, inr, Some, List, [], ◌∷◌, ◌++◌, slice_get, set, length, refl, sym, ap, subst, arith, sum_by, Contains, flat_map}
 use Rattle.mine_model.proofs.ListLemmas.{Contains-cases, Contains-first, Contains-other, Contains-none}
 use Rattle.std.proofs.lemmas.List.Elements.{Contains-append_left, Contains-append_right, Contains-append_cases}
-
--- a test is passed or not
-pub tells : (b : Bool) → (b ≡ true) ⊎ (b ≡ false)
-tells true = inl refl
-tells false = inr refl
+use Rattle.std.proofs.lemmas.List.Sums.{sum_by-append}
 
 pub get-some : {X : Type 0} (xs : List X) (i : ℕ) → i < length xs → (x : X) × (slice_get xs i ≡ Some x)
 get-some [] i l = absurd (omega arith)
@@ -17,6 +13,12 @@ pub get-held : {X : Type 0} (xs : List X) (i : ℕ) (x : X) → slice_get xs i �
 get-held [] i x is = absurd (cc)
 get-held (y ∷ xs) zero x is = let same : y ≡ x = cc in subst (Contains (y ∷ xs)) same (Contains-first y xs)
 get-held (y ∷ xs) (suc i) x is = Contains-other y xs x (get-held xs i x is)
+
+-- what stands in the front of a list stands there in the whole list
+pub get-left : {X : Type 0} (xs ys : List X) (i : ℕ) (x : X) → slice_get xs i ≡ Some x → slice_get (xs ++ ys) i ≡ Some x
+get-left [] ys i x is = absurd (cc)
+get-left (y ∷ xs) ys zero x is = is
+get-left (y ∷ xs) ys (suc i) x is = get-left xs ys i x is
 
 -- an element of the pieces is one of a piece
 pub flat-cases : {X Y : Type 0} (f : X → List Y) (xs : List X) (y : Y) → Contains (flat_map f xs) y → (x : X) × Contains xs x × Contains (f x) y
@@ -32,6 +34,15 @@ flat-held f (z ∷ xs) x y held part = elim (Contains-cases z xs x held) [
   | inl here ↦ Contains-append_left (f z) (flat_map f xs) y (subst (λ v. Contains (f v) y) here part)
   | inr there ↦ Contains-append_right (f z) (flat_map f xs) y (flat-held f xs x y there part)
 ]
+
+-- what all pieces weigh after one of them changed
+pub flat_map_set : {X Y : Type 0} (f : X → List Y) (weight : Y → ℕ) (xs : List X) (i : ℕ) (x y : X) → slice_get xs i ≡ Some x
+    → sum_by weight (flat_map f (set xs i y)) + sum_by weight (f x) ≡ sum_by weight (flat_map f xs) + sum_by weight (f y)
+flat_map_set f weight [] i x y e = absurd (cc)
+flat_map_set f weight (z ∷ xs) zero x y e = let is : z ≡ x = cc in let same : sum_by weight (f z) ≡ sum_by weight (f x) = ap (λ a. sum_by weight (f a)) is in
+    omega (arith, sum_by-append weight (f z) (flat_map f xs), sum_by-append weight (f y) (flat_map f xs))
+flat_map_set f weight (z ∷ xs) (suc i) x y e =
+    omega (arith, sum_by-append weight (f z) (flat_map f xs), sum_by-append weight (f z) (flat_map f (set xs i y)), flat_map_set f weight xs i x y e)
 
 pub no_members : {X : Type 0} (xs : List X) → ((x : X) → Contains xs x → ⊥) → xs ≡ []
 no_members [] none = refl

@@ -30,3 +30,5 @@ pub mod RankLemmas
 pub mod AboveLemmas
 pub mod FrequencyLemmas
 pub mod TestedLists
+pub mod ApartLemmas
+pub mod SumLemmas

@@ -1,6 +1,7 @@
 -- Lemmas on lists, what is contained in them and what holds of each element.
-use Rattle.std.proofs.Common.{◌≡◌, ◌≢◌, ◌⊎◌, inl, inr, Bool, true, false, cond, List, [], ◌∷◌, ◌++◌, map, filter, length, get_or, drop, length-drop, refl, sym, ap, ◌∙◌, subst, arith, suc, zero, true≢false, ℕ, ◌-◌, ◌≤◌}
+use Rattle.std.proofs.Common.{◌≡◌, ◌≢◌, ◌⊎◌, inl, inr, Bool, true, false, cond, List, [], ◌∷◌, ◌++◌, map, filter, length, get_or, take, drop, length-drop, refl, sym, ap, ◌∙◌, subst, arith, suc, zero, true≢false, ℕ, ◌-◌, ◌≤◌}
 use Rattle.std.specs.List.{AllByRecursion, AllPairs, Contains, slice_range}
+use Rattle.std.proofs.Math.Seq.{take-append_seam}
 use Rattle.std.proofs.lemmas.List.{get_or_default, take-append-le, drop-append-le}
 use Rattle.std.proofs.lemmas.List.Elements.{Contains-append_cases}
 use Rattle.std.proofs.lemmas.List.Kept.{AllPairs-cons}
@@ -119,3 +120,7 @@ slice_range-append xs ys from end rises within =
     let begun : from ≤ length xs = omega arith in
     let fits : end - from ≤ length (drop from xs) = rw length-drop (omega arith) in
     rw (drop-append-le from xs ys begun, take-append-le (end - from) (drop from xs) ys fits) refl
+
+-- what a slice of all elements wrote back is the whole
+pub written_back : {X : Type 0} (new old : List X) (n : ℕ) → n ≡ length new → take n (new ++ drop (length new) old) ≡ new
+written_back new old n whole = ap (λ m. take m (new ++ drop (length new) old)) whole ∙ take-append_seam new (drop (length new) old)

@@ -2,10 +2,9 @@
 use Rattle.std.proofs.Common.{◌≡◌, ℕ, zero, suc, ◌+◌, ◌<◌, ◌≤◌, ◌⊎◌, ◌↔◌, inl, inr, cond, List, [], ◌∷◌, length, refl, sym, ap, subst, arith, sum_by, flat_map, Contains}
 use Rattle.std.specs.Str.{bytes_eq}
 use Rattle.std.proofs.lemmas.Slice.Eq.{bytes_eq-Decides}
-use Rattle.std.proofs.lemmas.Bool.{cond-true, cond-false, cases_lt}
+use Rattle.std.proofs.lemmas.Bool.{cond-true, cond-false, cases_Bool, cases_lt}
 use Rattle.std.proofs.lemmas.List.Sums.{sum_by-cons, sum_by-append}
 use Rattle.mine_model.proofs.ListLemmas.{Contains-cases, Contains-first, Contains-other, Contains-none}
-use Rattle.mine_model.proofs.ElementLemmas.{tells}
 use Rattle.mine_model.specs.Cover.{GrowByOne, Covers, down_to, level, IsTree, times, IsOnce, AreApart}
 use Rattle.mine_model.proofs.CoverLemmas.{kids_weight, kids-weight, flat-weight, sum_by-most}
 
@@ -23,11 +22,11 @@ one-same label other same = cond-true (bytes_eq label other) 1 0 ((bytes_eq-Deci
 
 pub one-cases : (label other : List ℕ) → (label ≡ other) ⊎ (one label other ≡ 0)
 unfolding one
-one-cases label other = elim (tells (bytes_eq label other)) [ inl is ↦ inl ((bytes_eq-Decides label other).0 is) | inr not ↦ inr (cond-false (bytes_eq label other) 1 0 not) ]
+one-cases label other = elim (cases_Bool (bytes_eq label other)) [ inl is ↦ inl ((bytes_eq-Decides label other).0 is) | inr not ↦ inr (cond-false (bytes_eq label other) 1 0 not) ]
 
 pub one-most : (label other : List ℕ) → one label other ≤ 1
 unfolding one
-one-most label other = elim (tells (bytes_eq label other)) [ inl is ↦ omega (arith, cond-true {A = ℕ} (bytes_eq label other) 1 0 is) | inr not ↦ omega (arith, cond-false {A = ℕ} (bytes_eq label other) 1 0 not) ]
+one-most label other = elim (cases_Bool (bytes_eq label other)) [ inl is ↦ omega (arith, cond-true {A = ℕ} (bytes_eq label other) 1 0 is) | inr not ↦ omega (arith, cond-false {A = ℕ} (bytes_eq label other) 1 0 not) ]
 
 -- a sum that is not 0 has a part that is not
 some-part : {X : Type 0} (f : X → ℕ) (xs : List X) → (sum_by f xs ≡ 0) ⊎ ((x : X) × Contains xs x × (1 ≤ f x))

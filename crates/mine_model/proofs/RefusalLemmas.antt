@@ -1,17 +1,24 @@
--- At most one refusal of an expression comes first.
+-- No text fault in a sound line, and at most one refusal of an expression comes first.
 use Rattle.std.proofs.Common.{◌≡◌, ℕ, ◌<◌, inl, inr, List, [], ◌∷◌, ◌++◌, sym, ap, ◌∙◌, subst, append_assoc, min, length}
 use Rattle.mine_model.specs.declared.fault.Fault.{Fault}
+use Rattle.mine_model.specs.declared.fault.Which.{Which}
 use Rattle.mine_model.specs.declared.fault.Fault.TheVariants.{BadToken, BadRepeat, Unexpected, ExprTooLong, RepeatLimit, TooDeep, TooManyLeaves}
 use Rattle.mine_model.specs.Limits.{most_expression_bytes, most_leaves, most_told_leaves}
+use Rattle.mine_model.specs.Text.{bad_byte, long_name, IsSoundLine}
 use Rattle.mine_model.specs.Expression.{Tree, unfolded_leaves}
 use Rattle.mine_model.specs.Tokens.{Placed, AreTokens, IsBadToken}
 use Rattle.mine_model.specs.Grammar.{Use, expression, Reads, Begins, ReadsAs}
 use Rattle.mine_model.specs.First.{FirstAmong}
-use Rattle.mine_model.specs.Refusal.{IsFirstToken, IsBadRepeat, IsBeyondLimit, IsWrongAfter, IsUnexpected, IsTooDeepAfter, IsExpressionRefusal}
+use Rattle.mine_model.specs.Refusal.{IsTextRefusal, IsFirstToken, IsBadRepeat, IsBeyondLimit, IsWrongAfter, IsUnexpected, IsTooDeepAfter, IsExpressionRefusal}
 use Rattle.mine_model.proofs.FirstLemmas.{AtMostOne, FirstOf-unique, FirstAmong-unique}
 use Rattle.mine_model.proofs.TokenLemmas.{AreTokens-unique, IsBadToken-unique}
 use Rattle.mine_model.proofs.PrefixLemmas.{begins-cut}
 use Rattle.mine_model.proofs.Unambiguous.{unambiguous}
+
+-- a sound line has no fault of its text
+pub no_text_fault : (file : Which) (line : ℕ) (text : List ℕ) (fault : Fault) → IsSoundLine text → IsTextRefusal file line text fault → ⊥
+no_text_fault file line text fault sound (column, inl first) = sound bad_byte column first.0.0
+no_text_fault file line text fault sound (column, inr first) = sound long_name column first.0.0
 
 -- a text reads as at most one tree
 pub ReadsAs-unique : (text : List ℕ) (t u : Tree Use) → ReadsAs text t → ReadsAs text u → t ≡ u

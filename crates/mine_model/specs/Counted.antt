@@ -1,6 +1,7 @@
 -- The counted work of a run: the pairs of a sequence and one of its candidates. The candidates are those of
 -- the DESQ article.
 use Rattle.std.specs.Prelude.{◌≡◌, ◌≢◌, ℕ, ◌+◌, ◌-◌, ◌^◌, ◌↔◌, min, List, [], ◌∷◌, length, AllPairs, Contains}
+use Rattle.mine_model.specs.declared.mined.Work.{Work}
 use Rattle.mine_model.specs.Support.{Sequence}
 use Rattle.mine_model.specs.Answer.{Data}
 use Rattle.mine_model.specs.Ranks.{IsFrequentItem, IsCandidateOf}
@@ -23,3 +24,9 @@ HasPairs d (sequence ∷ sequences) n =
 -- the number that is told: what is above the greatest of 64 bits is told as that
 abbrev pub told_of : ℕ → ℕ
 told_of n = min n (2 ^ 64 - 1)
+
+-- the work of a run that counts candidates: there is no search tree
+pub record IsCountingWork {A : Type 0} (d : Data A) (work : Work) : Type 0 where
+  pub nodes : work.nodes ≡ 0
+  pub parts : work.parts ≡ 0
+  pub pairs : (n : ℕ) × HasPairs d d.sequences n × (work.candidates ≡ told_of n)

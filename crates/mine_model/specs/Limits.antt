@@ -30,6 +30,9 @@ most_weight = 1000000000
 abbrev pub most_support : ℕ
 most_support = 1000000000000000000
 
+abbrev pub most_workers : ℕ
+most_workers = 64
+
 -- bytes of an expression
 abbrev pub most_expression_bytes : ℕ
 most_expression_bytes = 4096

@@ -9,15 +9,7 @@ use Rattle.pool_schedule.specs.declared.event.Event.{Event}
 use Rattle.pool_schedule.specs.declared.event.Event.TheVariants.{Post, Grow, Put, Take, Steal}
 use Rattle.pool_schedule.proofs.Measure.{lying, IsWithin, left_over, extra}
 use Rattle.mine_model.proofs.CoverLemmas.{kids_weight, kids-weight, flat-weight}
-
--- what all pieces weigh after one of them changed
-flat_map_set : {X Y : Type 0} (f : X → List Y) (weight : Y → ℕ) (xs : List X) (i : ℕ) (x y : X) → slice_get xs i ≡ Some x
-    → sum_by weight (flat_map f (set xs i y)) + sum_by weight (f x) ≡ sum_by weight (flat_map f xs) + sum_by weight (f y)
-flat_map_set f weight [] i x y e = absurd (cc)
-flat_map_set f weight (z ∷ xs) zero x y e = let is : z ≡ x = cc in let same : sum_by weight (f z) ≡ sum_by weight (f x) = ap (λ a. sum_by weight (f a)) is in
-    omega (arith, sum_by-append weight (f z) (flat_map f xs), sum_by-append weight (f y) (flat_map f xs))
-flat_map_set f weight (z ∷ xs) (suc i) x y e =
-    omega (arith, sum_by-append weight (f z) (flat_map f xs), sum_by-append weight (f z) (flat_map f (set xs i y)), flat_map_set f weight xs i x y e)
+use Rattle.mine_model.proofs.ElementLemmas.{flat_map_set}
 
 pending_weight : (List ℕ → ℕ) → List Load → ℕ
 pending_weight weight workers = sum_by weight (all_pending workers)

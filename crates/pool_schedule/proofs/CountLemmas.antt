@@ -4,7 +4,7 @@ use Rattle.std.specs.Prelude.{◌==◌, not, count_by}
 use Rattle.std.specs.List.{range_with_len}
 use Rattle.std.specs.Option.{option_map}
 use Rattle.std.proofs.Math.Seq.{take-length}
-use Rattle.std.proofs.lemmas.Bool.{cond-true, cond-false, eqb-true, eq-eqb}
+use Rattle.std.proofs.lemmas.Bool.{cases_Bool, cond-true, cond-false, eqb-true, eq-eqb}
 use Rattle.std.proofs.lemmas.List.{append-nil, nil_from_length, length-map}
 use Rattle.std.proofs.lemmas.List.Sums.{sum_by_more}
 use Rattle.std.proofs.lemmas.Option.{slice_get_within, get_or_from_slice_get}
@@ -16,7 +16,7 @@ use Rattle.pool_schedule.specs.declared.event.Event.{Event}
 use Rattle.pool_schedule.specs.declared.event.Event.TheVariants.{Put, Take, Steal, Grow, Post}
 use Rattle.pool_schedule.specs.declared.worker.Pending.{Pending}
 use Rattle.pool_schedule.specs.declared.worker.Worker.{Worker}
-use Rattle.mine_model.proofs.ElementLemmas.{get-some, tells}
+use Rattle.mine_model.proofs.ElementLemmas.{get-some, get-left}
 use Rattle.pool_schedule.proofs.NodeLemmas.{load-at}
 use Rattle.pool_schedule.proofs.ScheduleLemmas.{not-same}
 
@@ -31,11 +31,6 @@ flat-more f a (suc n) =
 
 flat-next : {Y : Type 0} (f : ℕ → List Y) (n : ℕ) → flat_map f (range_with_len 0 (suc n)) ≡ flat_map f (range_with_len 0 n) ++ f n
 flat-next f n = let e : 0 + n ≡ n = omega arith in flat-more f 0 n ∙ ap (λ k. flat_map f (range_with_len 0 n) ++ f k) e
-
-get-left : {Y : Type 0} (xs ys : List Y) (j : ℕ) (y : Y) → slice_get xs j ≡ Some y → slice_get (xs ++ ys) j ≡ Some y
-get-left [] ys j y is = absurd (cc)
-get-left (x ∷ xs) ys zero y is = is
-get-left (x ∷ xs) ys (suc j) y is = get-left xs ys j y is
 
 get-right : {Y : Type 0} (xs ys : List Y) (j k : ℕ) → k ≡ length xs + j → slice_get (xs ++ ys) k ≡ slice_get ys j
 get-right [] ys j k is = let e : k ≡ j = omega arith in ap (slice_get ys) e
@@ -122,7 +117,7 @@ module _ {N : Type 0} (label : N → List ℕ) (workers : List (Worker N)) where
 
   any-length : (nodes : List N) (event : Event) → length (where_any (map label nodes) event) ≡ cond (not (length nodes == 0)) 1 0
   any-length [] event = refl
-  any-length (x ∷ nodes) event = elim (tells (length (x ∷ nodes) == 0)) [
+  any-length (x ∷ nodes) event = elim (cases_Bool (length (x ∷ nodes) == 0)) [
     | inl none ↦ let bad : length (x ∷ nodes) ≡ 0 = eqb-true (length (x ∷ nodes)) 0 none in absurd (omega arith)
     | inr some ↦ sym (ap (λ (b : Bool). cond (not b) 1 0) some)
   ]
@@ -143,7 +138,7 @@ module _ {N : Type 0} (label : N → List ℕ) (workers : List (Worker N)) where
 
   pub no-theft : (w v : ℕ) (x : Worker N) → slice_get workers v ≡ Some x → (v ≡ w) ⊎ (length x.deque.items ≡ 0) → theft_of w v ≡ []
   no-theft w v x at (inl same) = own-theft w v x at same
-  no-theft w v x at (inr empty) = elim (tells (v == w)) [
+  no-theft w v x at (inr empty) = elim (cases_Bool (v == w)) [
     | inl same ↦ own-theft w v x at (eqb-true v w same)
     | inr other ↦
         other-theft w v x at (λ e. true≢false (sym (eq-eqb v w e) ∙ other))
@@ -197,7 +192,7 @@ module _ {N : Type 0} (label : N → List ℕ) (workers : List (Worker N)) where
       let below = thefts-below w x at n (omega arith) in
       let counted : count_by is_filled (take (suc n) workers) ≡ count_by is_filled (take n workers) + cond (is_filled v) 1 0 =
       part-more (λ (worker : Worker N). cond (is_filled worker) 1 0) workers n v there in
-      elim (tells (n == w)) [
+      elim (cases_Bool (n == w)) [
         | inl same ↦
             let is : n ≡ w = eqb-true n w same in
             let own : v ≡ x = let also : slice_get workers n ≡ Some x = ap (slice_get workers) is ∙ at in cc in (

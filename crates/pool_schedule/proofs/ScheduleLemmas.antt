@@ -4,11 +4,11 @@ use Rattle.std.specs.Prelude.{◌==◌}
 use Rattle.std.specs.List.{range_with_len}
 use Rattle.std.proofs.Math.Nat.{mod-lt, mod-eq_of_lt}
 use Rattle.std.proofs.lemmas.List.FromFn.{length-range_with_len, get_or-range_with_len}
-use Rattle.std.proofs.lemmas.Bool.{cond-true, cond-false, eqb-true, eq-eqb}
+use Rattle.std.proofs.lemmas.Bool.{cases_Bool, cond-true, cond-false, eqb-true, eq-eqb}
 use Rattle.std.proofs.lemmas.Option.{slice_get_within}
 use Rattle.std.proofs.lemmas.List.Elements.{Contains-append_right, Contains-append_cases}
 use Rattle.mine_model.proofs.ListLemmas.{Contains-cases, Contains-first, Contains-other, Contains-none}
-use Rattle.mine_model.proofs.ElementLemmas.{get-held, flat-cases, flat-held, get-some, tells}
+use Rattle.mine_model.proofs.ElementLemmas.{get-held, flat-cases, flat-held, get-some}
 use Rattle.mine_model.specs.Cover.{Covers}
 use Rattle.pool_schedule.specs.State.{Load, State, IsBalanced}
 use Rattle.pool_schedule.specs.Steps.{Step, IsQuiet}
@@ -33,14 +33,14 @@ any-held : (labels rest : List (List ℕ)) (label : List ℕ) (event : Event) �
 any-held labels rest label event is = subst (λ (l : List (List ℕ)). Contains (where_any l event) event) (sym is) (Contains-first event [])
 
 pub not-same : (v w : ℕ) → v ≢ w → (v == w) ≡ false
-not-same v w other = elim (tells (v == w)) [ inl same ↦ absurd (other (eqb-true v w same)) | inr is ↦ is ]
+not-same v w other = elim (cases_Bool (v == w)) [ inl same ↦ absurd (other (eqb-true v w same)) | inr is ↦ is ]
 
 -- what is listed is enabled
 
 steal-from-cases : (w v : ℕ) (found : Option Load) (event : Event) → Contains (steal_from w v found) event
     → (worker : Load) × (label : List ℕ) × (rest : List (List ℕ)) × (event ≡ Steal w v) × (v ≢ w) × (found ≡ Some worker) × (worker.deque ≡ label ∷ rest)
 steal-from-cases w v None event is = absurd (Contains-none event is)
-steal-from-cases w v (Some victim) event is = elim (tells (v == w)) [
+steal-from-cases w v (Some victim) event is = elim (cases_Bool (v == w)) [
   | inl same ↦ absurd (Contains-none event (subst (λ (l : List Event). Contains l event) (cond-true (v == w) [] (where_any victim.deque (Steal w v)) same) is))
   | inr other ↦
       let held : Contains (where_any victim.deque (Steal w v)) event = subst (λ (l : List Event). Contains l event) (cond-false (v == w) [] (where_any victim.deque (Steal w v)) other) is in

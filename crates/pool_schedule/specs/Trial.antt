@@ -1,10 +1,7 @@
 -- The trees of the tests: a kid adds one rank to its parent's label, and a label with no kids has a row.
-use Rattle.std.specs.Prelude.{ℕ, cond, ltb, Option, Some, None, List, [], ◌∷◌, ◌++◌, length, map}
+use Rattle.std.specs.Prelude.{ℕ, cond, ltb, Option, Some, None, List, [], ◌∷◌, length, map}
 use Rattle.std.specs.Str.{bytes_eq}
 use Rattle.mine_model.specs.declared.row.Row.{Row}
-
-abbrev pub kids_by : (List ℕ → List ℕ) → List ℕ → List (List ℕ)
-kids_by ranks label = map (λ rank. label ++ rank ∷ []) (ranks label)
 
 abbrev pub row_at : List ℕ → List ℕ → Option Row
 row_at [] label = Some (record { pattern = map (λ rank. record { 0 = rank }) label; support = 2 })

@@ -1,8 +1,9 @@
 //! Worked schedules of a small tree, and many schedules of a larger one.
 ghost use Rattle.std.specs.Prelude.{◌≡◌, ◌≤◌, IfOk, Some, [], ◌∷◌, ◌++◌, map};
 ghost use Rattle.pool_schedule.specs.Trial.{row_at, small_ranks as the_small_ranks};
-ghost use Rattle.pool_schedule.specs.Trial.{kids_by, large_ranks as the_large_ranks};
+ghost use Rattle.pool_schedule.specs.Trial.{large_ranks as the_large_ranks};
 ghost use Rattle.mine_model.specs.Cover.{Covers, down_to};
+ghost use Rattle.mine_model.proofs.GrowthLemmas.{kids_of as kids_by};
 
 use crate::{Event, Grow, Machine, Posted, run_schedule, step};
 use mine_model::{Grown, Item, Label, NoMemory, Pattern, Row};
@@ -97,7 +98,8 @@ impl Grow for Small {
     type Node = Numbers;
 
     ghost use Rattle.std.specs.Prelude.{[], ◌∷◌};
-    ghost use Rattle.pool_schedule.specs.Trial.{kids_by, row_by, small_ranks};
+    ghost use Rattle.mine_model.proofs.GrowthLemmas.{kids_of as kids_by};
+    ghost use Rattle.pool_schedule.specs.Trial.{row_by, small_ranks};
 
     ghost label_of = { λ _ node. node.items };
 
@@ -141,7 +143,8 @@ impl Grow for Large {
     type Node = Numbers;
 
     ghost use Rattle.std.specs.Prelude.{[], ◌∷◌};
-    ghost use Rattle.pool_schedule.specs.Trial.{kids_by, row_by, large_ranks};
+    ghost use Rattle.mine_model.proofs.GrowthLemmas.{kids_of as kids_by};
+    ghost use Rattle.pool_schedule.specs.Trial.{row_by, large_ranks};
 
     ghost label_of = { λ _ node. node.items };
 

@@ -20,7 +20,8 @@ use Rattle.std.proofs.Math.Seq.{get_or-append_seam}
 use Rattle.turn_lock.specs.declared.lock.Pass.{Pass}
 use Rattle.turn_lock.specs.Passes.{number, made, parts_of, AreFresh}
 use Rattle.turn_lock.specs.Plays.{Seated, first_part, other_parts}
-use Rattle.turn_lock.proofs.Sums.{sum_by_set, sum_by_at, sum_by_le_beside}
+use Rattle.mine_model.proofs.SumLemmas.{sum_by_set, sum_by_at}
+use Rattle.turn_lock.proofs.Sums.{sum_by_le_beside}
 use Rattle.turn_lock.proofs.Hands.{other_hands}
 use Rattle.turn_lock.proofs.Parts.{entries_hit, log_weighs, parts_weigh, entries_rest, not_empty, times_hit, times_miss, times_append, made_append, fresh_once, fresh_length, fresh_made, cut_times, cut_length, cut_others, cut_first}
 

@@ -15,7 +15,8 @@ use Rattle.turn_lock.specs.History.{Made}
 use Rattle.turn_lock.specs.Turns.{times, tickets, tickets_of, numbers, numbers_of, out_with, absent, blank, first_hand, AtHome, Fits, Turns, AllMade, InStage}
 use Rattle.turn_lock.specs.Plays.{Seated, at_stage, ticket_of, entered, drew, looked, HasTurn, passed_on, put_back, gained, log_before}
 use Rattle.std.proofs.lemmas.List.Sums.{sum_by_push}
-use Rattle.turn_lock.proofs.Sums.{sum_by_set, sum_by_at, sum_by_two, sum_by_le, sum_by_le_beside}
+use Rattle.mine_model.proofs.SumLemmas.{sum_by_set, sum_by_at}
+use Rattle.turn_lock.proofs.Sums.{sum_by_two, sum_by_le, sum_by_le_beside}
 use Rattle.turn_lock.proofs.Hands.{other_hands}
 use Rattle.turn_lock.proofs.Parts.{entries_kept, times_hit, times_miss, made_longer, made_elsewhere, numbers_also, length_also}
 

@@ -1,26 +1,17 @@
--- Sums over the hands of a lock, and how a change of one of them changes a sum.
-use Rattle.std.proofs.Common.{◌≡◌, ◌≢◌, ℕ, zero, suc, ◌+◌, ◌≤◌, List, [], ◌∷◌, set, sym, refl, ap, arith, sum_by}
+-- Sums over the hands of a lock, and what one is beside another.
+use Rattle.std.proofs.Common.{◌≡◌, ◌≢◌, ℕ, zero, suc, ◌+◌, ◌≤◌, List, [], ◌∷◌, sym, refl, ap, arith, sum_by}
 use Rattle.std.proofs.lemmas.List.Sums.{sum_by-cons}
 use mathlib.Core.Option.{some, some-injective, some-ne-none}
 use lib.ListN.{get_elem?}
+use Rattle.mine_model.proofs.SumLemmas.{sum_by_at}
 
 module _ {A : Type 0} (f : A → ℕ) where
-  pub sum_by_set : (l : List A) (i : ℕ) (v w : A) → get_elem? l i ≡ some v → sum_by f (set l i w) + f v ≡ sum_by f l + f w
-  sum_by_set [] i v w e = absurd (some-ne-none v (sym e))
-  sum_by_set (x ∷ xs) zero v w e = let is : f x ≡ f v = ap f (some-injective x v e) in omega (arith, sum_by-cons f x xs, sum_by-cons f w xs)
-  sum_by_set (x ∷ xs) (suc i) v w e = omega (arith, sum_by-cons f x xs, sum_by-cons f x (set xs i w), sum_by_set xs i v w e)
-
-  pub sum_by_at : (l : List A) (i : ℕ) (v : A) → get_elem? l i ≡ some v → f v ≤ sum_by f l
-  sum_by_at [] i v e = absurd (some-ne-none v (sym e))
-  sum_by_at (x ∷ xs) zero v e = let is : f x ≡ f v = ap f (some-injective x v e) in omega (arith, sum_by-cons f x xs)
-  sum_by_at (x ∷ xs) (suc i) v e = omega (arith, sum_by-cons f x xs, sum_by_at xs i v e)
-
   -- two different hands
   pub sum_by_two : (l : List A) (i j : ℕ) (v w : A) → get_elem? l i ≡ some v → get_elem? l j ≡ some w → j ≢ i → f v + f w ≤ sum_by f l
   sum_by_two [] i j v w e e' n = absurd (some-ne-none v (sym e))
   sum_by_two (x ∷ xs) zero zero v w e e' n = absurd (n refl)
-  sum_by_two (x ∷ xs) zero (suc j) v w e e' n = let is : f x ≡ f v = ap f (some-injective x v e) in omega (arith, sum_by-cons f x xs, sum_by_at xs j w e')
-  sum_by_two (x ∷ xs) (suc i) zero v w e e' n = let is : f x ≡ f w = ap f (some-injective x w e') in omega (arith, sum_by-cons f x xs, sum_by_at xs i v e)
+  sum_by_two (x ∷ xs) zero (suc j) v w e e' n = let is : f x ≡ f v = ap f (some-injective x v e) in omega (arith, sum_by-cons f x xs, sum_by_at f xs j w e')
+  sum_by_two (x ∷ xs) (suc i) zero v w e e' n = let is : f x ≡ f w = ap f (some-injective x w e') in omega (arith, sum_by-cons f x xs, sum_by_at f xs i v e)
   sum_by_two (x ∷ xs) (suc i) (suc j) v w e e' n = omega (arith, sum_by-cons f x xs, sum_by_two xs i j v w e e' (λ same. n (ap suc same)))
 
   module _ (g : A → ℕ) where

@@ -1,17 +1,13 @@
-use Rattle.std.proofs.Common.{◌≡◌, ◌≤◌, ◌<◌, ℕ, ◌*◌, ◌++◌, List, length, take, drop, sym, ap, ◌∙◌, subst, arith}
+use Rattle.std.proofs.Common.{◌≡◌, ◌≤◌, ◌<◌, ◌*◌, ◌++◌, List, length, take, drop, sym, ap, ◌∙◌, subst, arith}
 use Rattle.std.specs.List.{All, AllByRecursion, slice_index, slice_range}
-use Rattle.std.proofs.lemmas.List.{take_all, take-append-le}
 use Rattle.std.proofs.lemmas.List.Elements.{All-from_recursion}
 use Rattle.mine_model.specs.declared.item.Item.{Item}
 use Rattle.mine_model.specs.Limits.{most_sequences, most_weight}
 use Rattle.mine_model.specs.Database.{sequence_at}
 use Rattle.mine_model.specs.Support.{Sequence}
+use Rattle.mine_model.proofs.ListLemmas.{written_back}
 use Rattle.frequency_list.proofs.SequenceLemmas.{at_number, AreFrequencies-more, AreFrequencies-room, part-limits, part-few}
 use Rattle.frequency_list.proofs.tally.tally.Goals as goal
-
--- what is written over all elements is what is there
-written : (n : ℕ) (new old : List ℕ) → n ≡ length new → take n (new ++ drop (length new) old) ≡ new
-written n new old is = let fits : n ≤ length new = omega (arith, is) in take-append-le n new (drop (length new) old) fits ∙ take_all n new (omega (arith, is))
 
 pub add_sequence-requires-clause-items : goal.add_sequence-requires-clause-items
 add_sequence-requires-clause-items c =
@@ -38,9 +34,9 @@ loop-number-preserved c =
     let whole_sums : length c.add_sequence.new.sums ≡ length c.loop-number.sums.items = c.add_sequence.auto.sums ∙ ap length c.as_mut_slice.ensures.value in
     let whole_stamps : length c.add_sequence.new.stamps ≡ length c.loop-number.stamps.items = c.add_sequence.auto.stamps ∙ ap length c.as_mut_slice-in-loop-number.ensures.value in
     let sums : take c.loop-number.sums.len (c.add_sequence.new.sums ++ drop (length c.add_sequence.new.sums) c.loop-number.sums.items) ≡ c.add_sequence.new.sums =
-    written c.loop-number.sums.len c.add_sequence.new.sums c.loop-number.sums.items (omega (arith, whole_sums, c.loop-number.sums.ok.0)) in
+    written_back c.add_sequence.new.sums c.loop-number.sums.items c.loop-number.sums.len (omega (arith, whole_sums, c.loop-number.sums.ok.0)) in
     let stamps : take c.loop-number.stamps.len (c.add_sequence.new.stamps ++ drop (length c.add_sequence.new.stamps) c.loop-number.stamps.items) ≡ c.add_sequence.new.stamps =
-    written c.loop-number.stamps.len c.add_sequence.new.stamps c.loop-number.stamps.items (omega (arith, whole_stamps, c.loop-number.stamps.ok.0)) in
+    written_back c.add_sequence.new.stamps c.loop-number.stamps.items c.loop-number.stamps.len (omega (arith, whole_stamps, c.loop-number.stamps.ok.0)) in
     rw (sums, stamps) (record {
       sums = AreFrequencies-more c.args.hierarchy.now.links c.args.db.now c.args.from c.loop-number.number c.loop-number.sums.items c.as_mut_slice.result.now c.add_sequence.new.sums
           c.sequence.result.now c.weight.result c.loop-number.auto.number inside whole_sums c.sequence.ensures.items c.weight.ensures.weight c.as_mut_slice.ensures.value

@@ -1,0 +1,57 @@
+//! What each worker is given, and what it gives back.
+
+ghost use Rattle.std.specs.Prelude.{◌≡◌, ℕ, ◌<◌, ◌^◌, length, slice_get, Some, Ok, IfOk, map};
+ghost use Rattle.count_engine.specs.Shares.{told_of_all, AreHandsOf, AreListsOf, pairs_told};
+
+use count_shards::Shard;
+use mine_model::NoMemory;
+use std::alloc::Global;
+use turn_lock::Pass;
+
+/// What a worker begins with: its number and its passes.
+#[derive(Drop)]
+pub(crate) struct Hand {
+    pub(crate) worker: u32,
+    pub(crate) passes: Vec<Pass<Shard>>,
+}
+
+/// What a worker gives back: its passes and the pairs that it counted.
+#[derive(Drop)]
+pub(crate) struct Done {
+    pub(crate) passes: Vec<Pass<Shard>>,
+    pub(crate) pairs: u64,
+}
+
+/// The passes of each worker, with its number.
+pub(crate) fn hands_of(
+    alloc: Global,
+    lists: Vec<Vec<Pass<Shard>>>,
+) -> Result<Vec<Hand>, NoMemory>
+    requires few { length lists.items < 2 ^ 32 }
+    ensures { IfOk result (λ hands. AreHandsOf lists.items hands.items) }
+{
+    let mut hands = Vec::with_capacity(alloc, lists.len())?;
+    'lists: for passes in lists {
+        let worker = hands.len() as u32;
+        hands.push(Hand { worker, passes })?;
+    }
+    Ok(hands)
+}
+
+/// The passes of all workers, in their order, and all pairs, unless one wanted memory.
+pub(crate) fn gathered(
+    alloc: Global,
+    results: Vec<Result<Done, NoMemory>>,
+) -> Result<(Vec<Vec<Pass<Shard>>>, u64), NoMemory>
+    ensures lists { IfOk result (λ r. AreListsOf results.items r.0.items) }
+    ensures pairs { IfOk result (λ r. r.1 ≡ told_of_all (map pairs_told results.items)) }
+{
+    let mut lists = Vec::with_capacity(alloc, results.len())?;
+    let mut pairs: u64 = 0;
+    'results: for result in results {
+        let Done { passes, pairs: more } = result?;
+        lists.push(passes)?;
+        pairs = pairs.saturating_add(more);
+    }
+    Ok((lists, pairs))
+}

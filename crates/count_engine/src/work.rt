@@ -1,0 +1,59 @@
+ghost use Rattle.std.specs.Prelude.{◌≡◌, ◌≤◌, ◌<◌, ◌++◌, map, IfOk, OnOk};
+ghost use Rattle.turn_lock.specs.Passes.{made};
+ghost use Rattle.count_shards.specs.Blocks.{block_count};
+ghost use Rattle.count_shards.specs.Shard.{entry_of};
+ghost use Rattle.count_shards.specs.Shards.{AreShardsOf, ArePassesOf};
+ghost use Rattle.count_engine.specs.Shares.{share_of, HasBlockPairs, IsTold};
+
+use count_shards::{BlockCounts, Shard, Shards};
+use fst_simulate::Job;
+use mine_model::{Gate, NoMemory};
+use std::alloc::Global;
+use std::sync::Wait;
+use turn_lock::Pass;
+
+/// How many sequences a block has.
+const BLOCK: u32 = 256;
+
+/// How many blocks the sequences of the job make.
+fn block_count(job: &Job) -> u32
+    ensures { result ≡ block_count job.now }
+{
+    job.db().sequences().div_ceil(BLOCK)
+}
+
+/// One worker's whole run. It takes the blocks whose numbers leave its own when they are divided by the number
+/// of workers, in order, and passes the gate before each. Answers how many pairs there are of a sequence of
+/// these blocks and one of its candidates, 2⁶⁴ - 1 where there are more.
+pub fn work<R: Wait, G: Gate>(
+    rt: &R,
+    alloc: Global,
+    job: &Job,
+    shards: &Shards,
+    passes: &mut [Pass<Shard>],
+    worker: u32,
+    workers: u32,
+    gate: &G,
+) -> Result<u64, NoMemory>
+    requires shards { AreShardsOf job.now shards.now }
+    requires passes { ArePassesOf shards.now passes.old }
+    requires worker { worker < workers }
+    ensures passes { ArePassesOf shards.now passes.new }
+    ensures made { OnOk result (map made passes.new
+        ≡ map (λ pass. made pass ++ map entry_of (share_of worker workers (block_count job.now))) passes.old) }
+    ensures pairs { IfOk result
+        (IsTold (HasBlockPairs job.now (share_of worker workers (block_count job.now)))) }
+{
+    let mut counts = BlockCounts::new(alloc, job)?;
+    let mut pairs: u64 = 0;
+    for block in 0..block_count(job) {
+        if block % workers != worker {
+            continue;
+        }
+        gate.pass(worker, u64::from(block / workers));
+        counts.fill(block)?;
+        shards.merge(rt, passes, &counts)?;
+        pairs = pairs.saturating_add(counts.pairs());
+    }
+    Ok(pairs)
+}
