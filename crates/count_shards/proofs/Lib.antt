@@ -10,3 +10,4 @@ pub mod Lists
 pub mod ColumnLemmas
 pub mod ShardLemmas
 pub mod PassLemmas
+pub mod TurnLemmas

@@ -5,6 +5,8 @@ mod block;
 mod columns;
 mod rows;
 mod shard;
+#[cfg(test)]
+mod shard_tests;
 mod shards;
 #[cfg(test)]
 mod tests;

@@ -14,7 +14,7 @@ use std::alloc::{AllocError, Global};
 use std::test::Fail;
 use std::thread::Threads;
 
-const A: Item = Item(0);
+pub(crate) const A: Item = Item(0);
 
 pub(crate) const A1: Item = Item(1);
 
