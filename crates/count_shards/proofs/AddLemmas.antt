@@ -1,37 +1,26 @@
 -- One list after another is counted, each in its home.
 use Rattle.std.proofs.Common.{◌≡◌, ◌≢◌, ℕ, ◌+◌, ◌<◌, ◌⊎◌, Bool, true, false, Some, List, [], ◌∷◌, ◌++◌, length, get_or, set, take, get_or-set_same, get_or-set_other, refl, sym, subst, ap, ◌∙◌, inl, inr, arith, Contains}
-use Rattle.std.specs.Prelude.{nat_eq}
 use Rattle.std.specs.List.{slice_get, AllPairs}
-use Rattle.std.specs.Bool.{Decides}
-use Rattle.std.specs.Cmp.Lexicographic.{pointwise}
 use Rattle.std.proofs.lemmas.Bool.{cases_eq}
-use Rattle.std.proofs.lemmas.Bool.Decides.{Decides-eqb}
 use Rattle.std.proofs.lemmas.List.{get_or-take, length-take-le, take_more}
 use Rattle.std.proofs.lemmas.List.Elements.{Contains-append_left, Contains-push, Contains-push_cases}
 use Rattle.std.proofs.lemmas.Option.{slice_get_within, get_or_from_slice_get}
-use Rattle.std.proofs.lemmas.Slice.Eq.{slice_eq-Decides}
-use Rattle.mine_model.proofs.ListLemmas.{Contains-cases, Contains-first, Contains-other, Contains-none}
+use Rattle.std.proofs.lemmas.List.Sums.{get_or-le-sum_by}
+use Rattle.mine_model.proofs.ListLemmas.{Contains-cases, Contains-first, Contains-none}
+use Rattle.mine_model.proofs.OnceLemmas.{one, one-same, one-cases, one-found}
 use Rattle.pattern_counts.specs.Tally.{Tally, no_lists, sum_of, Adds}
 use Rattle.count_shards.specs.Blocks.{home_of}
 use Rattle.count_shards.specs.Tallied.{tally_at, sum_at, AddsEach}
 
 -- ---- whether a list is there
 
-same_or_not : (xs ys : List ℕ) (r : Bool) → Decides r (xs ≡ ys) → (xs ≡ ys) ⊎ (xs ≢ ys)
-same_or_not xs ys true d = inl (d.0 refl)
-same_or_not xs ys false d = inr (λ e. let wrong : false ≡ true = d.1 e in cc)
-
 pub same_list_or_not : (xs ys : List ℕ) → (xs ≡ ys) ⊎ (xs ≢ ys)
-same_list_or_not xs ys = same_or_not xs ys (pointwise nat_eq xs ys) (slice_eq-Decides Decides-eqb xs ys (pointwise nat_eq xs ys) refl)
+same_list_or_not xs ys = elim (one-cases xs ys) [ inl same ↦ inl same | inr none ↦ inr (λ same. omega (arith, one-same xs ys same, none)) ]
 
 pub list_or_not : (lists : List (List ℕ)) (list : List ℕ) → Contains lists list ⊎ (Contains lists list → ⊥)
-list_or_not [] list = inr (Contains-none list)
-list_or_not (first ∷ lists) list = elim (same_list_or_not first list) [
-  | inl same ↦ inl (subst (λ x. Contains (first ∷ lists) x) same (Contains-first first lists))
-  | inr apart ↦ elim (list_or_not lists list) [
-    | inl there ↦ inl (Contains-other first lists list there)
-    | inr none ↦ inr (λ h. elim (Contains-cases first lists list h) [ inl same ↦ apart (sym same) | inr later ↦ none later ])
-  ]
+list_or_not lists list = elim (one-found list lists) [
+  | inl there ↦ inl there
+  | inr none ↦ inr (λ h. omega (arith, get_or-le-sum_by (one list) lists h.0 list h.1, one-same list (get_or lists h.0 list) (sym h.2), none))
 ]
 
 -- an element of a list without repetitions is not among those before it

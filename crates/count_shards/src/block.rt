@@ -158,9 +158,10 @@ fn count_all(
     let end = count.min(first + BLOCK);
     let mut pairs: u64 = 0;
     for number in first..end {
+        let weight = db.weight(number);
         candidates.fill(number)?;
         pairs = pairs.saturating_add(candidates.len() as u64);
-        add_each(homes, candidates, db.weight(number))?;
+        add_each(homes, candidates, weight)?;
     }
     Ok(pairs)
 }

@@ -243,6 +243,18 @@ fn push_lists(
     Ok(())
 }
 
+/// Whether there are so many pairs, and these lists and no others.
+fn is_found(found: &Option<Found>, pairs: u64, lists: &[(u32, &[u32], u64)]) -> bool {
+    match found {
+        Some(found) => {
+            found.pairs == pairs
+                && found.lists.len() == lists.len()
+                && lists.iter().all(|list| holds(found.lists.as_slice(), list.0, list.1, list.2))
+        }
+        None => false,
+    }
+}
+
 fn holds(lists: &[Counted], home: u32, ranks: &[u32], sum: u64) -> bool {
     lists.iter().any(|one| one.0 == home && one.1.as_slice() == ranks && one.2 == sum)
 }
@@ -341,16 +353,8 @@ fn counts_the_candidates_of_a_block(rt: HostRuntime) -> Result<(), Fail> {
         ((Mined::Climbing, &RUNNING, 1), 6, (0, 0), 0, &[]),
     ];
     for (of, support, blocks, pairs, lists) in table {
-        let told = told(&rt, rt.alloc(), of, support.max(1), blocks)?;
-        let Some(told) = told else {
-            assert!(rt; false);
-            return Ok(());
-        };
-        assert_eq!(rt; told.pairs, pairs);
-        assert_eq!(rt; told.lists.len(), lists.len());
-        for (home, ranks, sum) in lists {
-            assert!(rt; holds(&told.lists, *home, ranks, *sum));
-        }
+        let found = told(&rt, rt.alloc(), of, support.max(1), blocks)?;
+        assert!(rt; is_found(&found, pairs, lists));
     }
     Ok(())
 }
@@ -359,8 +363,8 @@ fn counts_the_candidates_of_a_block(rt: HostRuntime) -> Result<(), Fail> {
 fn counts_no_block_past_the_last(rt: HostRuntime) -> Result<(), Fail> {
     for (times, block, is) in [(0, 0, false), (51, 0, true), (51, 1, false), (52, 1, true)] {
         let of: (Mined, Lines, u32) = (Mined::Climbing, &RUNNING, times);
-        let told = told(&rt, rt.alloc(), of, 2, (block, block))?;
-        assert_eq!(rt; told.is_some(), is);
+        let found = told(&rt, rt.alloc(), of, 2, (block, block))?;
+        assert_eq!(rt; found.is_some(), is);
     }
     Ok(())
 }

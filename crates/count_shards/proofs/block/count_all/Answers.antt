@@ -23,7 +23,7 @@ add_each-requires-clause-room c = λ list.
     let whole : length c.db-db.result.now ≡ length problem.sequences = ap length c.db-db.ensures.sequences in
     let limits : All IsWithinLimits problem.sequences = rw c.db-db.ensures.sequences at c.sequences-count.ensures.limits in
     let most = tallied_most problem first n c.loop-number.homes.items limits (omega arith) (omega arith) c.loop-number.invariant.tallied (home_of list) list in
-    omega (arith, most, c.weight.ensures.most)
+    omega (arith, most, c.weight-weight.ensures.most)
 
 pub loop-number-preserved : goal.loop-number-preserved
 loop-number-preserved c =
@@ -38,7 +38,7 @@ loop-number-preserved c =
     let below : n < length problem.sequences = omega (arith, c.loop-number-test.true, c.min-end.ensures, c.sequences-count.ensures.count, whole) in
     let more = between_more problem.sequences first n (omega arith) below in
     let are : AreCandidateRanks problem n listed = subst (λ p. AreCandidateRanks p n listed) c.loop-number.invariant.problem c.in_ok-fill.ensures.candidates in
-    let weight : c.weight.result ≡ s.weight = c.weight.ensures.weight ∙ ap (λ (xs : List (Sequence Item)). (sequence_at xs n).weight) c.db-db.ensures.sequences in
+    let weight : c.weight-weight.result ≡ s.weight = c.weight-weight.ensures.weight ∙ ap (λ (xs : List (Sequence Item)). (sequence_at xs n).weight) c.db-db.ensures.sequences in
     let adds : AddsEach listed s.weight c.loop-number.homes.items c.add_each.new.homes.items = subst (λ w. AddsEach listed w c.loop-number.homes.items c.add_each.new.homes.items) weight c.in_ok-add_each.ensures.added in
     let told : c.saturating_add-pairs.result ≡ told_of (c.loop-number.pairs + length listed) = c.saturating_add-pairs.ensures ∙ ap (λ m. told_of (c.loop-number.pairs + m)) c.len.ensures in
     record {
