@@ -1,2 +1,5 @@
-pub mod SumLemmas
+mod CountedLemmas
+mod HashLemmas
 mod ListsLemmas
+mod SumLemmas
+mod TableLemmas

@@ -2,3 +2,7 @@
 pub mod Tally
 -- what the proofs keep
 pub mod Lists
+pub mod Hashes
+pub mod Table
+pub mod Searching
+pub mod Counted

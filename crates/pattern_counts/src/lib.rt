@@ -1,31 +1,35 @@
 //! Sums of weights by lists of ranks.
 #![tactic(auto)]
 
+mod counts;
+mod hashes;
 mod lists;
+mod table;
 
-ghost use Rattle.std.specs.Prelude.{◌≡◌, ℕ, ◌+◌, ◌^◌, ◌<◌, ◌⊎◌, ◌↔◌, List, length, slice_get, Some, Contains, IsTrue, MatchOption, OnOk, OnErr};
+ghost use Rattle.std.specs.Prelude.{◌≡◌, ℕ, ◌+◌, ◌^◌, ◌<◌, ◌⊎◌, ◌↔◌, List, length, slice_get, Some, Contains, IsTrue, IsOk, OnOk, OnErr};
 ghost use Rattle.pattern_counts.specs.Tally.{no_lists, IsTally, sum_of, Adds, AddsAll};
 
-use lists::Lists;
+use counts::Counts;
+use hashes::hash_of;
 use mine_model::NoMemory;
 use std::alloc::Global;
 use std::marker::Model;
 
 /// Lists of ranks by numbers from 0 on, each with the sum of the weights that were added to it.
+///
+/// A list that is held is found by its hash, and takes no memory. There may be 4,294,967,295 lists: more are
+/// refused as if memory were short.
 #[derive(Drop)]
 pub struct PatternCounts {
-    lists: Lists,
-    sums: Vec<u64>,
+    counts: Counts,
 }
 
 impl Model for PatternCounts {
-    ghost use Rattle.pattern_counts.specs.Tally.{Tally, IsTally};
+    ghost use Rattle.pattern_counts.specs.Tally.{Tally};
 
     ghost Value = { Tally };
 
-    ghost view = { λ c. record { lists = c.lists.lists; sums = c.sums.items } };
-
-    ghost invariant = { λ c. IsTally (record { lists = c.lists.lists; sums = c.sums.items }) };
+    ghost view = { λ c. c.counts.tally };
 }
 
 impl PatternCounts {
@@ -34,8 +38,7 @@ impl PatternCounts {
         ensures { result ≡ no_lists }
     {
         PatternCounts {
-            lists: Lists::new(alloc),
-            sums: Vec::new(alloc),
+            counts: Counts::new(alloc),
         }
     }
 
@@ -43,8 +46,7 @@ impl PatternCounts {
     pub fn clear(&mut self)
         ensures { self.new ≡ no_lists }
     {
-        self.lists.clear();
-        self.sums.clear();
+        self.counts.clear();
     }
 
     /// How many lists are held.
@@ -53,13 +55,13 @@ impl PatternCounts {
         ensures tally { IsTally self.now }
         ensures all { (list : List ℕ) → Contains self.now.lists list ⊎ (sum_of self.now list ≡ 0) }
     {
-        self.lists.len()
+        self.counts.len()
     }
 
     pub fn is_empty(&self) -> bool
         ensures { IsTrue result ↔ (length self.now.lists ≡ 0) }
     {
-        self.lists.len() == 0
+        self.counts.len() == 0
     }
 
     /// The list with this number.
@@ -67,7 +69,7 @@ impl PatternCounts {
         requires { number < length self.now.lists }
         ensures { slice_get self.now.lists number ≡ Some result.now }
     {
-        self.lists.list(number)
+        self.counts.list(number)
     }
 
     /// The sum of the list with this number.
@@ -77,63 +79,41 @@ impl PatternCounts {
         ensures of_list { (list : List ℕ) → slice_get self.now.lists number ≡ Some list
             → sum_of self.now list ≡ result }
     {
-        self.sums[number]
+        self.counts.sum(number)
     }
 
-    /// Adds the weight to the sum of the list. Takes no memory for a list that is held.
+    /// Adds the weight to the sum of the list.
     pub fn add(&mut self, list: &[u32], weight: u64) -> Result<(), NoMemory>
         requires { sum_of self.old list.now + weight < 2 ^ 64 }
         ensures ok { OnOk result (Adds list.now weight self.old self.new) }
         ensures tally { IsTally self.new }
+        ensures held { Contains self.old.lists list.now → IsOk result }
         ensures err { OnErr result (self.new ≡ self.old) }
     {
-        if let Some(number) = find(&self.lists, list) {
-            self.sums[number] += weight;
+        let hash = hash_of(list);
+        if let Some(number) = self.counts.find(hash, list) {
+            self.counts.add_to(number, list, weight);
             return Ok(());
         }
-        self.lists.reserve(1, list.len())?;
-        self.sums.reserve(1)?;
-        self.lists.push(list);
-        self.sums.push_reserved(weight);
+        self.counts.reserve(1, list.len())?;
+        self.counts.append(hash, list, weight);
         Ok(())
     }
 
-    /// Adds to the sum of each list the other's sum of it.
+    /// Adds to the sum of each list the other's sum of it. Takes all memory before the first sum.
     pub fn add_all(&mut self, other: &PatternCounts) -> Result<(), NoMemory>
         requires { (list : List ℕ) → sum_of self.old list + sum_of other.now list < 2 ^ 64 }
         ensures ok { OnOk result (AddsAll other.now self.old self.new) }
         ensures tally { IsTally self.new }
         ensures err { OnErr result (self.new ≡ self.old) }
     {
-        let mut next = PatternCounts::new(*self.sums.allocator());
-        next.add_each(self)?;
-        next.add_each(other)?;
-        *self = next;
+        let count = other.counts.len();
+        self.counts.reserve(count, other.counts.ranks())?;
+        for number in 0..count {
+            let list = other.counts.list(number);
+            self.counts
+                .put(other.counts.hash(number), list, other.counts.sum(number));
+        }
         Ok(())
     }
-
-    fn add_each(&mut self, other: &PatternCounts) -> Result<(), NoMemory>
-        requires { (list : List ℕ) → sum_of self.old list + sum_of other.now list < 2 ^ 64 }
-        ensures ok { OnOk result (AddsAll other.now self.old self.new) }
-        ensures tally { OnOk result (IsTally self.new) }
-    {
-        for number in 0..other.len() {
-            self.add(other.list(number), other.sum(number))?;
-        }
-        let _ = &self.sums;
-        Ok(())
-    }
-}
-
-/// The number of the list, if it is held.
-fn find(lists: &Lists, list: &[u32]) -> Option<usize>
-    ensures { MatchOption result (¬ Contains lists.now.lists list.now)
-        (λ number. slice_get lists.now.lists number ≡ Some list.now) }
-{
-    for number in 0..lists.len() {
-        if lists.list(number) == list {
-            return Some(number);
-        }
-    }
-    None
 }

@@ -1,7 +1,8 @@
 //! Lists of ranks one behind the other in memory.
 
-ghost use Rattle.std.specs.Prelude.{◌≡◌, ◌+◌, ◌≤◌, ◌<◌, [], ◌∷◌, ◌++◌, length, slice_get, Some, OnOk};
+ghost use Rattle.std.specs.Prelude.{◌≡◌, ◌+◌, ◌≤◌, ◌<◌, [], ◌∷◌, ◌++◌, length, slice_get, slice_index_or, Some, IsTrue, ◌↔◌, OnOk};
 ghost use Rattle.mine_model.specs.Ancestry.{start_of};
+ghost use Rattle.pattern_counts.specs.Lists.{ranks_of};
 
 use mine_model::NoMemory;
 use std::alloc::Global;
@@ -17,13 +18,12 @@ pub(crate) struct Lists {
 impl Model for Lists {
     ghost use Rattle.std.specs.Prelude.{length, vec_capacity};
     ghost use Rattle.mine_model.specs.Ancestry.{AreCut};
-    ghost use Rattle.pattern_counts.specs.Lists.{Held, lists_in};
+    ghost use Rattle.pattern_counts.specs.Lists.{Shelf, lists_in};
 
-    ghost Value = { Held };
+    ghost Value = { Shelf };
 
     ghost view = { λ l. record {
       lists = lists_in l.ends.items l.ranks.items;
-      ranks = length l.ranks.items;
       most_lists = vec_capacity l.ends;
       most_ranks = vec_capacity l.ranks;
     } };
@@ -48,6 +48,13 @@ impl Lists {
         self.ends.len()
     }
 
+    /// How many ranks the lists have in all.
+    pub(crate) fn ranks(&self) -> usize
+        ensures { result ≡ ranks_of self.now.lists }
+    {
+        self.ranks.len()
+    }
+
     pub(crate) fn list(&self, number: usize) -> &[u32]
         requires { number < length self.now.lists }
         ensures { slice_get self.now.lists number ≡ Some result.now }
@@ -55,6 +62,13 @@ impl Lists {
         let start = start_at(self.ends.as_slice(), number);
         let end = self.ends[number];
         &self.ranks[start..end]
+    }
+
+    pub(crate) fn is_list(&self, number: usize, list: &[u32]) -> bool
+        requires { number < length self.now.lists }
+        ensures { IsTrue result ↔ (slice_index_or self.now.lists number [] ≡ list.now) }
+    {
+        self.list(number) == list
     }
 
     /// No lists. Keeps the memory.
@@ -67,10 +81,9 @@ impl Lists {
 
     /// Takes memory for so many more lists with so many ranks in all.
     pub(crate) fn reserve(&mut self, lists: usize, ranks: usize) -> Result<(), NoMemory>
-        ensures same { self.new.lists ≡ self.old.lists }
-        ensures few { self.new.ranks ≡ self.old.ranks }
+        ensures lists { self.new.lists ≡ self.old.lists }
         ensures room_for_lists { OnOk result (length self.new.lists + lists ≤ self.new.most_lists) }
-        ensures room_for_ranks { OnOk result (self.new.ranks + ranks ≤ self.new.most_ranks) }
+        ensures room_for_ranks { OnOk result (ranks_of self.new.lists + ranks ≤ self.new.most_ranks) }
     {
         self.ends.reserve(lists)?;
         self.ranks.reserve(ranks)?;
@@ -80,9 +93,8 @@ impl Lists {
     /// One more list, for which there is memory.
     pub(crate) fn push(&mut self, list: &[u32])
         requires room_for_list { length self.old.lists < self.old.most_lists }
-        requires room_for_ranks { self.old.ranks + length list.now ≤ self.old.most_ranks }
+        requires room_for_ranks { ranks_of self.old.lists + length list.now ≤ self.old.most_ranks }
         ensures lists { self.new.lists ≡ self.old.lists ++ list.now ∷ [] }
-        ensures ranks { self.new.ranks ≡ self.old.ranks + length list.now }
         ensures most_lists { self.old.most_lists ≤ self.new.most_lists }
         ensures most_ranks { self.old.most_ranks ≤ self.new.most_ranks }
     {

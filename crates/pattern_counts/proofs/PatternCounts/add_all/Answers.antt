@@ -1,0 +1,52 @@
+use Rattle.std.proofs.Common.{◌≡◌, ◌+◌, ◌^◌, ◌<◌, ℕ, List, sym, subst, ◌∙◌, arith}
+use Rattle.pattern_counts.specs.Tally.{Tally, sum_of, AddsAll}
+use Rattle.pattern_counts.proofs.SumLemmas.{front, adds_none, adds_both, front_more, front_all, room_for}
+use Rattle.pattern_counts.proofs.ListsLemmas.{ranks_of-drop}
+use Rattle.pattern_counts.proofs.PatternCounts.add_all.Goals as goal
+
+pub loop-number-init : goal.loop-number-init
+loop-number-init c =
+    let same : c.reserve.new.self.tally ≡ c.args.self.now = c.in_ok-reserve.ensures.same ∙ c.self.view_is in
+    let other : Tally = c.other.inside.counts.tally in
+    record {
+      adds = subst (AddsAll (front 0 other) c.args.self.now) (sym same) (adds_none other c.len-count.ensures.tally c.args.self.now);
+      tally = c.in_ok-reserve.ensures.tally;
+      room = record {
+        for_lists = omega (arith, c.in_ok-reserve.ensures.room.for_lists);
+        for_ranks = omega (arith, c.in_ok-reserve.ensures.room.for_ranks, c.ranks.ensures);
+      };
+    }
+
+pub put-requires-clause-sum : goal.put-requires-clause-sum
+put-requires-clause-sum c =
+    let other : Tally = c.other.inside.counts.tally in
+    room_for other c.sum.ensures.tally c.loop-number.number c.sum.result c.list-list.result.now c.list-list.ensures c.sum.ensures.sum c.args.self.now c.loop-number.self-inside.counts.tally c.loop-number.invariant.adds
+    (subst (λ (t : Tally). (l : List ℕ) → sum_of c.args.self.now l + sum_of t l < 2 ^ 64) (sym c.other.view_is) c.requires)
+
+pub put-requires-clause-room : goal.put-requires-clause-room
+put-requires-clause-room c =
+    let room = c.loop-number.invariant.room in
+    let more = ranks_of-drop c.other.inside.counts.tally.lists c.loop-number.number c.list-list.result.now c.list-list.ensures in
+    record { for_lists = omega (arith, room.for_lists); for_ranks = omega (arith, room.for_ranks, more) }
+
+pub loop-number-preserved : goal.loop-number-preserved
+loop-number-preserved c =
+    let other : Tally = c.other.inside.counts.tally in
+    let number = c.loop-number.number in
+    let room = c.loop-number.invariant.room in
+    let more = ranks_of-drop c.other.inside.counts.tally.lists number c.list-list.result.now c.list-list.ensures in
+    record {
+      adds = adds_both c.list-list.result.now c.sum.result c.args.self.now c.loop-number.self-inside.counts.tally c.put.new.self.tally (front number other) (front (number + 1) other)
+          c.put.ensures.adds (front_more other c.sum.ensures.tally number c.sum.result c.list-list.result.now c.list-list.ensures c.sum.ensures.sum) c.loop-number.invariant.adds;
+      tally = c.put.ensures.tally;
+      room = record {
+        for_lists = omega (arith, room.for_lists, c.put.ensures.count, c.put.ensures.most_lists);
+        for_ranks = omega (arith, room.for_ranks, more, c.put.ensures.ranks, c.put.ensures.most_ranks);
+      };
+    }
+
+pub returns-clause-ok : goal.returns-clause-ok
+returns-clause-ok c =
+    let other : Tally = c.other.inside.counts.tally in
+    let whole : front c.loop-number.number other ≡ c.args.other.now = front_all other c.len-count.ensures.tally c.loop-number.number (omega (arith, c.len-count.ensures.count)) ∙ c.other.view_is in
+    subst (λ (t : Tally). AddsAll t c.args.self.now c.loop-number.self-inside.counts.tally) whole c.loop-number.invariant.adds

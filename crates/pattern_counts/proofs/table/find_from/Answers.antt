@@ -1,0 +1,27 @@
+use Rattle.std.proofs.Common.{true≢false, refl}
+use Rattle.pattern_counts.proofs.TableLemmas.{not_held_ahead, not_held_round, not_held_full, is_held}
+use Rattle.pattern_counts.proofs.table.find_from.Goals as goal
+
+pub returns-in-Free-clause-none : goal.returns-in-Free-clause-none
+returns-in-Free-clause-none c =
+    let (at, behind, within, free, others) = c.in-Free.ensures in (
+      λ none. not_held_ahead c.args.lists.now.lists c.args.slots.now c.args.list.now c.args.hash c.requires.hash c.requires.table c.args.home c.requires.home at within behind free others,
+      λ absent. refl,
+    )
+
+pub returns-in-Held-search-clause-none : goal.returns-in-Held-search-clause-none
+returns-in-Held-search-clause-none c =
+    (λ none. absurd (true≢false none), λ absent. absurd (absent (is_held c.args.lists.now.lists c.args.list.now _ c.in-Held-search.ensures)))
+
+pub returns-in-Free-search-clause-none : goal.returns-in-Free-search-clause-none
+returns-in-Free-search-clause-none c =
+    let (at, behind, within, free, others) = c.in-Free-search.ensures in (
+      λ none. not_held_round c.args.lists.now.lists c.args.slots.now c.args.list.now c.args.hash c.requires.hash c.requires.table c.args.home c.requires.home at c.requires.within within free c.in-Passed.ensures others,
+      λ absent. refl,
+    )
+
+pub returns-in-Passed-search-clause-none : goal.returns-in-Passed-search-clause-none
+returns-in-Passed-search-clause-none c = (
+  λ none. not_held_full c.args.lists.now.lists c.args.slots.now c.args.list.now c.args.hash c.requires.hash c.requires.table c.args.home c.requires.home c.in-Passed.ensures c.in-Passed-search.ensures,
+  λ absent. refl,
+)
