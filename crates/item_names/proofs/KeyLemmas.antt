@@ -1,8 +1,8 @@
 -- Lemmas on keys of names.
-use Rattle.std.proofs.Common.{rules, pow-add, Fits, w8, ◌≡◌, ℕ, zero, suc, ◌+◌, ◌-◌, ◌*◌, ◌/◌, ◌^◌, ◌≤◌, ◌<◌, min, List, [], ◌∷◌, ◌++◌, take, drop, length, get_or, refl, sym, ap, ◌∙◌, subst, arith}
+use Rattle.std.proofs.Common.{rules, ◌%◌, pow-add, Fits, w8, ◌≡◌, ℕ, zero, suc, ◌+◌, ◌-◌, ◌*◌, ◌/◌, ◌^◌, ◌≤◌, ◌<◌, min, List, [], ◌∷◌, ◌++◌, take, drop, length, get_or, refl, sym, ap, ◌∙◌, subst, arith}
 use Rattle.std.specs.List.{slice_range}
 use Rattle.std.proofs.Math.Nat.{div-le_self, div-one, div-div-eq-div-mul}
-use Rattle.std.proofs.lemmas.List.{take_all, drop_all, drop-drop, take-append-drop, length-take, length-drop}
+use Rattle.std.proofs.lemmas.List.{take_all, take-take, drop_all, drop-drop, drop-take, take-append-drop, length-take, length-drop}
 use Rattle.mine_model.proofs.ListLemmas.{front_of_both, back_of_both}
 use Rattle.std.proofs.Math.Facts.{Fits-lt-pow}
 use Rattle.std.specs.Hash.FoldHasher.{initial, write, finish}
@@ -116,3 +116,61 @@ key_of-long name key long low high size =
 
 pub div-le : (n d m : ℕ) → n < m → n / d < m
 div-le n d m less = omega (arith, div-le_self n d, less)
+
+-- the first eight bytes and the others
+number_of-split : (xs : List ℕ) → number_of xs ≡ number_of (take 8 xs) + 18446744073709551616 * number_of (drop 8 xs)
+number_of-split [] = refl
+number_of-split (a ∷ []) = omega arith
+number_of-split (a ∷ b ∷ []) = omega arith
+number_of-split (a ∷ b ∷ c ∷ []) = omega arith
+number_of-split (a ∷ b ∷ c ∷ d ∷ []) = omega arith
+number_of-split (a ∷ b ∷ c ∷ d ∷ e ∷ []) = omega arith
+number_of-split (a ∷ b ∷ c ∷ d ∷ e ∷ f ∷ []) = omega arith
+number_of-split (a ∷ b ∷ c ∷ d ∷ e ∷ f ∷ g ∷ []) = omega arith
+number_of-split (a ∷ b ∷ c ∷ d ∷ e ∷ f ∷ g ∷ h ∷ xs) = omega arith
+
+number_of-lt : (xs : List ℕ) → AreBytes xs → number_of (take 8 xs) < 18446744073709551616
+number_of-lt [] bytes = omega arith
+number_of-lt (a ∷ []) bytes = omega (arith, bytes.0)
+number_of-lt (a ∷ b ∷ []) bytes = omega (arith, bytes.0, bytes.1.0)
+number_of-lt (a ∷ b ∷ c ∷ []) bytes = omega (arith, bytes.0, bytes.1.0, bytes.1.1.0)
+number_of-lt (a ∷ b ∷ c ∷ d ∷ []) bytes = omega (arith, bytes.0, bytes.1.0, bytes.1.1.0, bytes.1.1.1.0)
+number_of-lt (a ∷ b ∷ c ∷ d ∷ e ∷ []) bytes = omega (arith, bytes.0, bytes.1.0, bytes.1.1.0, bytes.1.1.1.0, bytes.1.1.1.1.0)
+number_of-lt (a ∷ b ∷ c ∷ d ∷ e ∷ f ∷ []) bytes = omega (arith, bytes.0, bytes.1.0, bytes.1.1.0, bytes.1.1.1.0, bytes.1.1.1.1.0, bytes.1.1.1.1.1.0)
+number_of-lt (a ∷ b ∷ c ∷ d ∷ e ∷ f ∷ g ∷ []) bytes = omega (arith, bytes.0, bytes.1.0, bytes.1.1.0, bytes.1.1.1.0, bytes.1.1.1.1.0, bytes.1.1.1.1.1.0, bytes.1.1.1.1.1.1.0)
+number_of-lt (a ∷ b ∷ c ∷ d ∷ e ∷ f ∷ g ∷ h ∷ xs) bytes = omega (arith, bytes.0, bytes.1.0, bytes.1.1.0, bytes.1.1.1.0, bytes.1.1.1.1.0, bytes.1.1.1.1.1.0, bytes.1.1.1.1.1.1.0, bytes.1.1.1.1.1.1.1.0)
+
+-- a key by the number of the whole name
+key_of-number : (name : List ℕ) (key : Key) → AreBytes name → length name ≤ 16 → key.low ≡ number_of name % 18446744073709551616
+    → key.high ≡ number_of name / 18446744073709551616 → key.size ≡ length name → key ≡ key_of name
+key_of-number name key bytes most low high size =
+    let split = number_of-split name in
+    let less = number_of-lt name bytes in
+    same_key key (key_of name) (omega (arith, low, split, less, low_of name most)) (omega (arith, high, split, less, high_of name most)) (omega (arith, size, size_of name, most))
+
+-- the key of a part of a text, by the 16 bytes that end with it
+pub key_of-within : (text : List ℕ) (from to : ℕ) (key : Key) (low high name : ℕ) → AreBytes text → from ≤ to → to ≤ length text → 0 < to - from → to - from ≤ 16 → 16 ≤ to
+    → low ≡ number_of (slice_range text (to - 16) (to - 16 + 8)) → high ≡ number_of (slice_range text (to - 8) (to - 8 + 8))
+    → name ≡ (low + high * 18446744073709551616) / 2 ^ (128 - 8 * (to - from))
+    → key.low ≡ name % 18446744073709551616 → key.high ≡ name / 18446744073709551616 → key.size ≡ to - from → key ≡ key_of (slice_range text from to)
+key_of-within text from to key low high name bytes rises ends some most room first second number lows highs size =
+    let behind : List ℕ = drop (to - 16) text in
+    let whole : List ℕ = take 16 behind in
+    let before : ℕ = 16 - (to - from) in
+    let whole_bytes : AreBytes whole = (both_bytes 16 behind (both_bytes (to - 16) text bytes).1).0 in
+    let sum : 16 ≡ before + (to - from) = omega (arith, most) in
+    let place : to - 16 + before ≡ from = omega (arith, most, room, rises) in
+    let part : drop before whole ≡ slice_range text from to =
+    ap (λ n. drop before (take n behind)) sum ∙ drop-take before (to - from) behind ∙ ap (take (to - from)) (drop-drop before (to - 16) text ∙ ap (λ n. drop n text) place) in
+    let first_eight : to - 16 + 8 - (to - 16) ≡ 8 = omega arith in
+    let last_eight : to - 8 + 8 - (to - 8) ≡ 8 = omega arith in
+    let middle : to - 8 ≡ to - 16 + 8 = omega (arith, room) in
+    let front : slice_range text (to - 16) (to - 16 + 8) ≡ take 8 whole = ap (λ n. take n behind) first_eight ∙ sym (take-take 8 16 behind (omega arith)) in
+    let back : slice_range text (to - 8) (to - 8 + 8) ≡ drop 8 whole =
+    (λ j. take (last_eight j) (drop (middle j) text)) ∙ ap (take 8) (sym (drop-drop 8 (to - 16) text)) ∙ sym (drop-take 8 8 behind) in
+    let all : low + high * 18446744073709551616 ≡ number_of whole = omega (arith, first ∙ ap number_of front, second ∙ ap number_of back, number_of-split whole) in
+    let shift : 128 - 8 * (to - from) ≡ 8 * before = omega (arith, most) in
+    let is : name ≡ number_of (slice_range text from to) = number ∙ (λ j. all j / 2 ^ shift j) ∙ number_of-drop before whole whole_bytes ∙ ap number_of part in
+    let long : length (slice_range text from to) ≡ to - from = omega (arith, length-take (to - from) (drop from text), length-drop from text, ends, rises) in
+    key_of-number (slice_range text from to) key (both_bytes (to - from) (drop from text) (both_bytes from text bytes).1).0 (omega (arith, long, most))
+    (lows ∙ ap (λ n. n % 18446744073709551616) is) (highs ∙ ap (λ n. n / 18446744073709551616) is) (size ∙ sym long)

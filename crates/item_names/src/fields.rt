@@ -1,12 +1,15 @@
 //! The items that the fields of a line name.
 
-ghost use Rattle.std.specs.Prelude.{◌≡◌, ℕ, ◌≤◌, List, ◌++◌, Err, length, All, OnOk};
+ghost use Rattle.std.specs.Prelude.{◌≡◌, ℕ, ◌≤◌, List, ◌++◌, Some, Err, length, slice_get, slice_range, All, Contains, IfOk, OnOk, OnErr};
 ghost use Rattle.mine_model.specs.Limits.{most_items};
-ghost use Rattle.mine_model.specs.Names.{GrowBy};
+ghost use Rattle.mine_model.specs.Names.{AreDistinct, GrowBy};
 ghost use Rattle.mine_model.specs.Refusal.{HasMoreNames};
 ghost use Rattle.text_ports.specs.Lines.{IsWithin};
 ghost use Rattle.item_names.specs.Fields.{texts_at, AreItemsOf};
+ghost use Rattle.item_names.specs.Names.{IsInterned};
 
+use crate::keys::key_within;
+use crate::table::at_home;
 use crate::{MOST_NAMES, Names};
 use mine_model::{Item, NamesFault};
 use text_ports::Span;
@@ -30,7 +33,7 @@ impl Names {
     {
         items.clear();
         for span in fields {
-            let item = match self.intern(&text[span.from..span.to]) {
+            let item = match self.intern_within(text, *span) {
                 Ok(item) => item,
                 Err(fault) => return Err(fault),
             };
@@ -41,5 +44,25 @@ impl Names {
         }
         prove!(self.count() <= MOST_NAMES);
         Ok(())
+    }
+
+    // The number of the name that a field of a line is, as `intern` gives it.
+    #[inline(always)]
+    fn intern_within(&mut self, text: &[u8], span: Span) -> Result<Item, NamesFault>
+        requires { IsWithin (length text.now) span }
+        ensures number { IfOk result (λ item.
+            slice_get self.new item.0 ≡ Some (slice_range text.now span.from span.to)) }
+        ensures names { OnOk result (IsInterned self.old (slice_range text.now span.from span.to) self.new) }
+        ensures distinct { AreDistinct self.new }
+        ensures too_many { (result ≡ Err NamesFault.TooMany) → (length self.old ≡ most_items)
+            × ¬ Contains self.old (slice_range text.now span.from span.to) }
+        ensures err { OnErr result (self.new ≡ self.old) }
+    {
+        let name = &text[span.from..span.to];
+        let key = key_within(text, span.from, span.to);
+        if let Some(item) = at_home(&self.texts, self.slots.as_slice(), key, name) {
+            return Ok(item);
+        }
+        self.intern(name)
     }
 }

@@ -58,6 +58,7 @@ impl Names {
     }
 
     /// The number of a name: the one that it has, or the next. A name that is held takes no memory.
+    #[inline(never)]
     pub fn intern(&mut self, name: &[u8]) -> Result<Item, NamesFault>
         ensures number { IfOk result (λ item. slice_get self.new item.0 ≡ Some name.now) }
         ensures names { OnOk result (IsInterned self.old name.now self.new) }

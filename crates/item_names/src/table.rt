@@ -42,7 +42,25 @@ enum Outcome {
     Passed,
 }
 
-/// The number of the name with this key, if it is held. Most names stand at their home.
+/// The number of the name with this key, if it stands at its home, as most names do.
+#[inline(always)]
+pub(crate) fn at_home(texts: &Texts, slots: &[Slot], key: Key, name: &[u8]) -> Option<Item>
+    requires table { IsTable (map key_of texts.now) slots.now }
+    requires key { key ≡ key_of name.now }
+    requires bytes { AllByRecursion AreBytes texts.now }
+    ensures { IfSome result (λ item. slice_get texts.now item.0 ≡ Some name.now) }
+{
+    if slots.is_empty() {
+        return None;
+    }
+    let slot = slots[home_in(slots, key)];
+    if slot.held > 0 && is_of(texts, slot, key, name) {
+        return Some(Item(slot.held - 1));
+    }
+    None
+}
+
+/// The number of the name with this key, if it is held.
 pub(crate) fn find(texts: &Texts, slots: &[Slot], key: Key, name: &[u8]) -> Option<Item>
     requires table { IsTable (map key_of texts.now) slots.now }
     requires key { key ≡ key_of name.now }
@@ -53,16 +71,10 @@ pub(crate) fn find(texts: &Texts, slots: &[Slot], key: Key, name: &[u8]) -> Opti
     if slots.is_empty() {
         return None;
     }
-    let home = home_in(slots, key);
-    let slot = slots[home];
-    if slot.held > 0 && is_of(texts, slot, key, name) {
-        return Some(Item(slot.held - 1));
-    }
-    find_from(texts, slots, key, name, home)
+    find_from(texts, slots, key, name, home_in(slots, key))
 }
 
 /// The same by a search from the home of the key on.
-#[inline(never)]
 fn find_from(texts: &Texts, slots: &[Slot], key: Key, name: &[u8], home: usize) -> Option<Item>
     requires table { IsTable (map key_of texts.now) slots.now }
     requires key { key ≡ key_of name.now }
@@ -104,6 +116,7 @@ fn search(texts: &Texts, slots: &[Slot], key: Key, name: &[u8], from: usize, to:
 }
 
 /// Where a search for the key begins.
+#[inline(always)]
 fn home_in(slots: &[Slot], key: Key) -> usize
     requires { 0 < length slots.now }
     ensures home { result ≡ home_of (length slots.now) key }
@@ -112,6 +125,7 @@ fn home_in(slots: &[Slot], key: Key) -> usize
     key.mixed() as usize & (slots.len() - 1)
 }
 
+#[inline(always)]
 fn has_key(slot: Slot, key: Key) -> bool
     ensures { IsTrue result ↔ (key_in slot ≡ key) }
 {
@@ -119,6 +133,7 @@ fn has_key(slot: Slot, key: Key) -> bool
 }
 
 /// Whether the slot, which is taken, has the number of the name with this key.
+#[inline(always)]
 fn is_of(texts: &Texts, slot: Slot, key: Key, name: &[u8]) -> bool
     requires slot { IsSlot (map key_of texts.now) slot }
     requires taken { 0 < slot.held }

@@ -1,6 +1,7 @@
 //! Scans a line: where it ends, and where its fields stand.
 
-ghost use Rattle.std.specs.Prelude.{◌≡◌, ℕ, ◌≤◌, ◌<◌, ◌+◌, ◌∷◌, true, [], length, take, drop, IfOk, IfErr};
+ghost use Rattle.std.specs.Prelude.{◌≡◌, ℕ, ◌≤◌, ◌<◌, ◌+◌, ◌==◌, ◌∷◌, true, false, if◌then◌else◌, [], length, take, drop, slice_index, IfOk, IfErr};
+ghost use Rattle.std.specs.Int.{w64, trailing_zeros};
 ghost use Rattle.std.specs.List.{AllByRecursion, slice_range};
 ghost use Rattle.mine_model.specs.Text.{is_name_byte, is_blank, bad_byte, long_name, IsSoundLine};
 ghost use Rattle.mine_model.specs.Tokens.{BeginsOtherwise};
@@ -8,9 +9,13 @@ ghost use Rattle.text_ports.specs.Lines.{AreFields};
 ghost use Rattle.text_ports.specs.Scanning.{IsScanned, IsCut, StandsBehind, BeginsFaulty, lines_behind};
 
 use super::lines::Span;
+use std::simd::prelude::*;
 
 /// The most bytes of a name.
 const MOST_NAME_BYTES: usize = 255;
+
+/// How many bytes are looked at together.
+const LANES: usize = 16;
 
 /// What stands behind a field or a blank.
 #[derive(Clone, Copy, Debug)]
@@ -45,6 +50,31 @@ fn is_name(byte: u8) -> bool
     byte > b' ' && byte != 127
 }
 
+/// The place of the lowest bit that is set, or `LANES`.
+#[inline(always)]
+fn first_set(mask: u64) -> usize
+    ensures { result ≡ (if mask == 0 then 16 else trailing_zeros w64 mask) }
+{
+    if mask == 0 {
+        LANES
+    } else {
+        mask.trailing_zeros() as usize
+    }
+}
+
+/// How many of the `LANES` bytes from here on come before the first that is none of a name.
+#[inline(always)]
+fn names_ahead(rest: &[u8], at: usize) -> usize
+    requires { at + 16 ≤ length rest.now }
+    ensures within { result ≤ 16 }
+    ensures names { (k : ℕ) → at ≤ k → k < at + result → is_name_byte (slice_index rest.now k) ≡ true }
+    ensures stop { result < 16 → is_name_byte (slice_index rest.now (at + result)) ≡ false }
+{
+    let bytes = u8x16::from_slice(&rest[at..]);
+    let others = bytes.simd_lt(u8x16::splat(b'!')) | bytes.simd_eq(u8x16::splat(127));
+    first_set(others.to_bitmask())
+}
+
 /// Where the run of name bytes ends that begins here.
 fn name_end(rest: &[u8], from: usize) -> usize
     requires { from ≤ length rest.now }
@@ -53,6 +83,13 @@ fn name_end(rest: &[u8], from: usize) -> usize
     ensures within { (from ≤ result) × (result ≤ length rest.now) }
 {
     let mut at = from;
+    while rest.len() - at >= LANES {
+        let count = names_ahead(rest, at);
+        at += count;
+        if count < LANES {
+            return at;
+        }
+    }
     while at < rest.len() && is_name(rest[at]) {
         at += 1;
     }

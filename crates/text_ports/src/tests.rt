@@ -104,6 +104,29 @@ fn a_long_name_and_a_bad_byte_each_first_once(rt: HostRuntime) -> Result<(), Fai
     check(&rt, alloc, bytes.as_slice(), bad, "")
 }
 
+/// A name of so many more than four bytes, with this text behind it.
+fn with_name(alloc: Global, more: u32, behind: &str) -> Result<String, AllocError> {
+    let mut text = String::new(alloc);
+    text.push_str("ü~!")?;
+    for _ in 0..more {
+        text.push('x')?;
+    }
+    text.push_str(behind)?;
+    Ok(text)
+}
+
+#[test]
+fn a_name_of_any_length_ends_where_it_ends(rt: HostRuntime) -> Result<(), Fail> {
+    let alloc = rt.alloc();
+    let bad = Err(TextFault::BadByte { line: 2, column: 2 });
+    for more in 0..40 {
+        let text = with_name(alloc, more, "\tb \r\n \u{7F} and more than sixteen bytes")?;
+        let shown = with_name(alloc, more, "|b|/")?;
+        check(&rt, alloc, text.as_bytes(), bad, shown.as_str())?;
+    }
+    Ok(())
+}
+
 /// The outcome where this call of `open` or `read` fails, for a file that two reads take.
 fn failing(alloc: Global, fail: u64) -> Result<Outcome, AllocError> {
     let held = file(alloc, &[b' '; 4097])?;

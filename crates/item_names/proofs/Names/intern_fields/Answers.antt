@@ -18,8 +18,8 @@ loop-span-init c = record {
 pub returns-in-Err-clause-too_many : goal.returns-in-Err-clause-too_many
 returns-in-Err-clause-too_many c is =
     let fault : c.in-Err.fault ≡ TooMany = cc in
-    let full = c.in-Err.ensures.too_many.0 (ap Err fault) in
-    let kept : c.intern.new.self ≡ c.loop-span.self = c.in-Err.ensures.err in
+    let full = c.in-Err.ensures.too_many (ap Err fault) in
+    let kept : c.intern_within.new.self ≡ c.loop-span.self = c.in-Err.ensures.err in
     let distinct : AreDistinct c.loop-span.self = subst AreDistinct kept c.in-Err.ensures.distinct in
     let all : List (List ℕ) = c.args.self.now ++ texts_at c.args.text.now c.args.fields.now in
     more_names most_items c.loop-span.self all _ distinct full.0 full.1
@@ -31,15 +31,15 @@ returns-in-Err-clause-too_many c is =
 
 pub loop-span-preserved : goal.loop-span-preserved
 loop-span-preserved c =
-    let step = GrowBy-interned c.loop-span.self _ c.intern.new.self c.in-Ok.ensures.names in
+    let step = GrowBy-interned c.loop-span.self _ c.intern_within.new.self c.in-Ok.ensures.names in
     let more = texts_at-more c.args.text.now c.args.fields.now c.loop-span.span-index _ c.loop-span-test.true in
     record {
-      items = rw (c.in-Ok-push.ensures.items, more) (AreItemsOf-more c.loop-span.self c.intern.new.self c.loop-span.items.items _ c.in-Ok.item _ c.loop-span.invariant.items step c.in-Ok.ensures.number);
-      grown = rw more (GrowBy-more c.args.self.now _ c.loop-span.self _ c.intern.new.self c.loop-span.invariant.grown step);
+      items = rw (c.in-Ok-push.ensures.items, more) (AreItemsOf-more c.loop-span.self c.intern_within.new.self c.loop-span.items.items _ c.in-Ok.item _ c.loop-span.invariant.items step c.in-Ok.ensures.number);
+      grown = rw more (GrowBy-more c.args.self.now _ c.loop-span.self _ c.intern_within.new.self c.loop-span.invariant.grown step);
     }
 
 pub returns-in-Err-push-clause-kept : goal.returns-in-Err-push-clause-kept
 returns-in-Err-push-clause-kept c =
-    let step = GrowBy-interned c.loop-span.self _ c.intern.new.self c.in-Ok.ensures.names in
-    let grown = GrowBy-more c.args.self.now _ c.loop-span.self _ c.intern.new.self c.loop-span.invariant.grown step in
+    let step = GrowBy-interned c.loop-span.self _ c.intern_within.new.self c.in-Ok.ensures.names in
+    let grown = GrowBy-more c.args.self.now _ c.loop-span.self _ c.intern_within.new.self c.loop-span.invariant.grown step in
     (grown.added, grown.behind)

@@ -12,3 +12,13 @@ invariant-loop-at l = record {
 
 abbrev pub decreases-loop-at : goal.decreases-loop-at
 decreases-loop-at l = length l.rest - l.at
+
+abbrev pub invariant-loop-at-2 : goal.invariant-loop-at-2
+invariant-loop-at-2 l = record {
+  rises : l.from ≤ l.at;
+  within : l.at ≤ length l.rest;
+  names : AllByRecursion (λ b. is_name_byte b ≡ true) (slice_range l.rest l.from l.at);
+}
+
+abbrev pub decreases-loop-at-2 : goal.decreases-loop-at-2
+decreases-loop-at-2 l = length l.rest - l.at
