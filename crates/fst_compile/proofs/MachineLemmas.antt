@@ -1,15 +1,14 @@
 -- The edges of a transducer, row by row.
-use Rattle.std.proofs.Common.{◌≡◌, ℕ, zero, suc, ◌+◌, ◌-◌, ◌<◌, ◌≤◌, ◌↔◌, inl, inr, List, [], ◌∷◌, ◌++◌, map, length, get_or, refl, sym, ap, ◌∙◌, subst, arith, append_assoc}
+use Rattle.std.proofs.Common.{◌≡◌, ℕ, ◌+◌, ◌-◌, ◌<◌, ◌≤◌, ◌↔◌, inl, inr, List, [], ◌∷◌, ◌++◌, map, length, get_or, refl, sym, ap, ◌∙◌, subst, arith, append_assoc}
 use Rattle.std.specs.List.Sorted.{IsStrictlyIncreasing}
 use Rattle.std.specs.List.{slice_range, slice_index, Contains}
-use Rattle.std.proofs.Math.Seq.{get_or-append_seam, drop-append_seam}
-use Rattle.std.proofs.lemmas.List.{get_or_default, get_or_past, get_or_append_left, length-append, append-nil, map-append, take_all}
+use Rattle.std.proofs.lemmas.List.{get_or_default, get_or_past, length-append, append-nil, map-append}
 use Rattle.std.proofs.lemmas.List.Elements.{Contains-append_cases, Contains-append_right}
 use Rattle.std.proofs.lemmas.List.FromFn.{get_or-map-range_with_len, length-map-range_with_len}
 use Rattle.std.proofs.lemmas.Bool.{cases_lt}
-use Rattle.mine_model.specs.Ancestry.{start_of, list_at, AreCut}
-use Rattle.mine_model.proofs.ListLemmas.{Contains-cases, Contains-first, Contains-none, Contains-by, Contains-from, slice_range-append}
-use Rattle.mine_model.proofs.AncestryLemmas.{end_within}
+use Rattle.mine_model.specs.Ancestry.{start_of, list_at}
+use Rattle.mine_model.proofs.ListLemmas.{Contains-cases, Contains-first, Contains-none, Contains-by, Contains-from}
+use Rattle.mine_model.proofs.AncestryLemmas.{cut-more, list_at-old, list_at-new}
 use Rattle.fst_compile.specs.Rows.{HasEdge}
 use Rattle.fst_compile.proofs.RowLemmas.{Has-none}
 use Rattle.state_bits.specs.Members.{Has}
@@ -31,11 +30,6 @@ pub row_as_read : (ends : List ℕ) (edges read : List Edge) (start end state : 
 row_as_read ends edges read start end state starts stops same =
     ap (λ from. slice_range read from end) starts ∙ ap (slice_range read (start_of ends state)) stops
     ∙ ap (λ items. slice_range items (start_of ends state) (slice_index ends state)) same
-
-slice_range-behind : (edges added : List Edge) → slice_range (edges ++ added) (length edges) (length (edges ++ added)) ≡ added
-slice_range-behind edges added =
-    let rest : length (edges ++ added) - length edges ≡ length added = omega (arith, length-append edges added) in
-    rw (rest, drop-append_seam edges added) (take_all (length added) added (omega arith))
 
 -- ---- one row
 
@@ -98,42 +92,6 @@ are_rows-none labels rows = record {
   exact = λ state none. absurd (omega arith);
 }
 
-module _ (ends : List ℕ) (edges added : List Edge) (cut : AreCut ends (length edges)) where
-  abbrev EndsMore : List ℕ
-  EndsMore = ends ++ length (edges ++ added) ∷ []
-
-  start-kept : (state : ℕ) → state ≤ length ends → start_of EndsMore state ≡ start_of ends state
-  start-kept zero inside = refl
-  start-kept (suc state) inside = get_or_append_left ends (length (edges ++ added) ∷ []) 0 state (omega arith)
-
-  end-kept : (state : ℕ) → state < length ends → slice_index EndsMore state ≡ slice_index ends state
-  end-kept state inside = get_or_append_left ends (length (edges ++ added) ∷ []) 0 state inside
-
-  end-new : slice_index EndsMore (length ends) ≡ length (edges ++ added)
-  end-new = get_or-append_seam ends (length (edges ++ added)) [] 0
-
-  start-new : start_of EndsMore (length ends) ≡ length edges
-  start-new = start-kept (length ends) (omega arith) ∙ cut.whole
-
-  pub cut-more : AreCut EndsMore (length (edges ++ added))
-  cut-more = record {
-    forward = λ state inside. elim (cases_lt state (length ends)) [
-      | inl earlier ↦ rw (start-kept state (omega arith), end-kept state earlier) (cut.forward state earlier)
-      | inr last ↦
-          let here : state ≡ length ends = omega (arith, length-append ends (length (edges ++ added) ∷ [])) in
-          rw (here, start-new, end-new) (omega (arith, length-append edges added))
-    ];
-    whole = let all : length EndsMore ≡ suc (length ends) = omega (arith, length-append ends (length (edges ++ added) ∷ [])) in rw all end-new;
-  }
-
-  pub row-kept : (state : ℕ) → state < length ends → list_at EndsMore (edges ++ added) state ≡ list_at ends edges state
-  row-kept state inside =
-      rw (start-kept state (omega arith), end-kept state inside)
-      (slice_range-append edges added (start_of ends state) (slice_index ends state) (cut.forward state inside) (end_within ends (length edges) cut state inside))
-
-  pub row-new : list_at EndsMore (edges ++ added) (length ends) ≡ added
-  row-new = rw (start-new, end-new) (slice_range-behind edges added)
-
 pub are_rows-more : (labels : List Label) (rows ends : List ℕ) (edges grown : List Edge) (index : ℕ) → AreRowsOf labels rows ends edges index
     → IsRowPushed labels (get_or rows index 0) edges grown → AreRowsOf labels rows (ends ++ length grown ∷ []) grown (index + 1)
 are_rows-more labels rows ends edges grown index so_far pushed =
@@ -141,20 +99,20 @@ are_rows-more labels rows ends edges grown index so_far pushed =
     (record {
       count = omega (arith, length-append ends (length (edges ++ pushed.added) ∷ []), so_far.count);
       are = record {
-        cut = cut-more ends edges pushed.added so_far.are.cut;
+        cut = cut-more ends edges pushed.added (length (edges ++ pushed.added)) (length-append edges pushed.added) so_far.are.cut;
         rows = λ state inside. elim (cases_lt state (length ends)) [
-          | inl earlier ↦ subst (λ (es : List Edge). IsRow labels es) (sym (row-kept ends edges pushed.added so_far.are.cut state earlier)) (so_far.are.rows state earlier)
+          | inl earlier ↦ subst (λ (es : List Edge). IsRow labels es) (sym (list_at-old ends edges pushed.added (length (edges ++ pushed.added)) (length-append edges pushed.added) so_far.are.cut state earlier)) (so_far.are.rows state earlier)
           | inr last ↦
               let here : state ≡ length ends = omega (arith, length-append ends (length (edges ++ pushed.added) ∷ [])) in
-              rw here (subst (λ (es : List Edge). IsRow labels es) (sym (row-new ends edges pushed.added so_far.are.cut)) pushed.row_is)
+              rw here (subst (λ (es : List Edge). IsRow labels es) (sym (list_at-new ends edges pushed.added (length (edges ++ pushed.added)) (length-append edges pushed.added) so_far.are.cut)) pushed.row_is)
         ];
       };
       exact = λ state inside k. elim (cases_lt state (length ends)) [
-        | inl earlier ↦ rw (row-kept ends edges pushed.added so_far.are.cut state earlier) (so_far.exact state (omega (arith, so_far.count)) k)
+        | inl earlier ↦ rw (list_at-old ends edges pushed.added (length (edges ++ pushed.added)) (length-append edges pushed.added) so_far.are.cut state earlier) (so_far.exact state (omega (arith, so_far.count)) k)
         | inr last ↦
             let here : state ≡ length ends = omega (arith, so_far.count) in
             let also : length ends ≡ index = so_far.count in
-            rw (here, row-new ends edges pushed.added so_far.are.cut, also) (pushed.targets k)
+            rw (here, list_at-new ends edges pushed.added (length (edges ++ pushed.added)) (length-append edges pushed.added) so_far.are.cut, also) (pushed.targets k)
       ];
     })
 

@@ -1,8 +1,7 @@
 -- From gathered lists to a hierarchy, and why there may be none.
-use Rattle.std.proofs.Common.{◌≡◌, ◌≢◌, ℕ, ◌+◌, ◌≤◌, ◌<◌, ◌↔◌, inl, inr, List, [], ◌∷◌, ◌++◌, map, length, get_or, refl, sym, ap, ◌∙◌, subst, arith, Result, Ok, Err}
+use Rattle.std.proofs.Common.{◌≡◌, ◌≢◌, ℕ, ◌+◌, ◌≤◌, ◌<◌, ◌↔◌, inl, inr, List, [], ◌∷◌, ◌++◌, map, length, get_or, refl, sym, ap, ◌∙◌, subst, arith}
 use Rattle.std.specs.List.{All, AllPairs, Contains}
 use Rattle.std.specs.List.Sorted.{IsPermutation}
-use Rattle.std.specs.Result.{IfErr}
 use Rattle.std.proofs.lemmas.List.{get_or_default, length_push, length-append, length-map}
 use Rattle.std.proofs.lemmas.List.Elements.{Contains-get_or, All-append, All-contains}
 use Rattle.std.proofs.lemmas.List.Sorted.{Contains-permutation, IsPermutation-sym, IsPermutation-map}
@@ -272,8 +271,3 @@ module _ (rows others : List EdgeRow) (moved : IsPermutation rows others) where
   )
   refusal_moved items TooManyAncestors (acyclic, more) = (IsAcyclic-fewer (links_of rows) (links_of others) there acyclic, more_back items more)
   refusal_moved items NoMemory none = tt
-
--- what follows from what an error says
-pub IfErr-weaker : {T E : Type 0} (r : Result T E) (P Q : E → Type 0) → ((e : E) → P e → Q e) → IfErr r P → IfErr r Q
-IfErr-weaker (Ok x) P Q weaker p = tt
-IfErr-weaker (Err e) P Q weaker p = weaker e p

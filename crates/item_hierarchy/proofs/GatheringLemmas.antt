@@ -1,16 +1,10 @@
 -- Gathering the ancestors of items from the lists of their parents.
-use Rattle.std.proofs.Common.{◌≡◌, ◌≢◌, ℕ, zero, suc, ◌+◌, ◌-◌, ◌≤◌, ◌<◌, ◌⊎◌, ◌↔◌, ◌==◌, inl, inr, List, [], ◌∷◌, ◌++◌, map, length, get_or, set, take, refl, sym, ap, ◌∙◌, subst, arith, add-one, Result, Ok, Err}
+use Rattle.std.proofs.Common.{◌≡◌, ◌≢◌, ℕ, zero, suc, ◌+◌, ◌-◌, ◌≤◌, ◌<◌, ◌⊎◌, ◌↔◌, inl, inr, List, [], ◌∷◌, ◌++◌, map, length, get_or, set, take, refl, sym, ap, ◌∙◌, subst, arith, add-one}
 use Rattle.std.specs.List.{All, AllPairs, Contains, slice_index, slice_range}
-use Rattle.std.specs.List.Sorted.{IsPermutation}
-use Rattle.std.specs.Result.{IfOk}
 use Rattle.std.proofs.lemmas.List.{get_or_default, length_push, length-set, get_or-set_same, get_or-set_other, length-append, length-map, length-take, get_or-take, take_all, drop_at}
 use Rattle.std.proofs.lemmas.List.Elements.{Contains-get_or, Contains-append_left, Contains-append_right, Contains-push, Contains-push_cases, All-push, All-append, All-contains}
 use Rattle.std.proofs.lemmas.List.Quantifiers.{all_pairs_push}
-use Rattle.std.specs.Bool.{Decides}
 use Rattle.std.proofs.lemmas.Bool.{cases_lt, cases_eq}
-use Rattle.std.proofs.lemmas.Bool.Decides.{Decides-eqb, eqb_tells}
-use Rattle.std.proofs.lemmas.Map.Made.{AllPairs-from_IsDistinct, IsDistinct-from_AllPairs}
-use Rattle.std.proofs.lemmas.Map.Keys.{IsDistinct-IsPermutation}
 use Rattle.mine_model.specs.declared.item.Item.{Item}
 use Rattle.mine_model.specs.Limits.{most_ancestors}
 use Rattle.mine_model.specs.Hierarchy.{Link, IsWalk, IsAncestor, IsAcyclic, HasMoreAncestors}
@@ -344,23 +338,7 @@ module _ (stamp room : ℕ) (list : List Item) (index : ℕ) (old_seen : List �
         ];
       }
 
--- Different elements stay different when they change places
-
-pub apart_by_permutation : (xs ys : List Item) → IsPermutation xs ys → AllPairs (λ v w. v ≢ w) xs → AllPairs (λ v w. v ≢ w) ys
-apart_by_permutation xs ys moved apart =
-    AllPairs-from_IsDistinct decides ys (IsDistinct-IsPermutation (λ v w. v.0 == w.0) (λ v w. flips v.0 w.0) xs ys moved (IsDistinct-from_AllPairs decides xs apart))
-  where
-    decides : (v w : Item) → Decides (v.0 == w.0) (v ≡ w)
-    decides v w = (λ same. Item-same v w ((Decides-eqb v.0 w.0).0 same), λ same. (Decides-eqb v.0 w.0).1 (ap (λ t. t.0) same))
-
-    flips : (m n : ℕ) → (m == n) ≡ (n == m)
-    flips m n = elim (eqb_tells m n) [
-      | inl same ↦ same.0 ∙ sym ((Decides-eqb n m).1 (sym same.1))
-      | inr apart ↦ elim (eqb_tells n m) [
-        | inl same ↦ absurd (apart.1 (sym same.1))
-        | inr other ↦ apart.0 ∙ sym other.0
-      ]
-    ]
+-- Sorted items that differ rise
 
 pub rising_from_sorted : (items : List Item) → ((i j : ℕ) (d : Item) → i ≤ j → j < length items → (get_or items i d).0 ≤ (get_or items j d).0)
     → AllPairs (λ v w. v ≢ w) items → AreRising items
@@ -369,11 +347,6 @@ rising_from_sorted items sorted apart i j d less within =
       | inl same ↦ absurd (apart i j d less within (Item-same _ _ same))
       | inr other ↦ omega (arith, sorted i j d (omega arith) within)
     ]
-
--- what follows from what a result says
-pub IfOk-weaker : {T E : Type 0} (r : Result T E) (P Q : T → Type 0) → ((x : T) → P x → Q x) → IfOk r P → IfOk r Q
-IfOk-weaker (Ok x) P Q weaker p = weaker x p
-IfOk-weaker (Err e) P Q weaker p = tt
 
 -- the ancestors of one of the items are among them
 pub ancestor_within : (items : ℕ) (rows : List EdgeRow) → AreWithin items rows → (t : Item) (steps : List Item) (w : Item) → t.0 < items

@@ -16,7 +16,8 @@ use Rattle.mine_model.specs.Hierarchy.{PlacedLink}
 use Rattle.mine_model.specs.Limits.{most_file_bytes, most_items}
 use Rattle.mine_model.specs.Text.{lines_of, fields_of, bad_byte, long_name, IsSoundLine}
 use Rattle.mine_model.specs.Names.{name_of, HasName, link_by, GrowBy}
-use Rattle.mine_model.specs.Refusal.{IsTextRefusal, HasMoreNames, names_of, links_of_line, links_from}
+use Rattle.mine_model.specs.Refusal.{HasMoreNames, names_of, links_of_line, links_from}
+use Rattle.mine_model.proofs.RefusalLemmas.{no_text_fault}
 use Rattle.mine_model.proofs.NameLemmas.{GrowBy-none, GrowBy-more, no_more_names, name_of-grown, HasName-grown}
 use Rattle.item_names.proofs.Growing.{HasMoreNames-grown}
 use Rattle.text_ports.specs.Lines.{WasGiven, TookAll, StoppedAt, Refused}
@@ -105,14 +106,10 @@ module _ (known : List (List ℕ)) where
         ∙ sym (links_from-more 1 lines text);
   }
 
-  no_text_fault : (n : ℕ) (text : List ℕ) (other : Fault) → IsSoundLine text → IsTextRefusal Hierarchy n text other → ⊥
-  no_text_fault n text other sound (column, inl first) = sound bad_byte column first.0.0
-  no_text_fault n text other sound (column, inr first) = sound long_name column first.0.0
-
   -- a line that was taken is not refused
   accepted : (lines : List (List ℕ)) (v w : Reading) (n : ℕ) (text : List ℕ) → IsTaken known lines v → TookLine v n text w
       → (other : Fault) → IsLineRefusal known lines text other → ⊥
-  accepted lines v w n text taken took other (inl textual) = no_text_fault _ text other took.sound textual
+  accepted lines v w n text taken took other (inl textual) = no_text_fault Hierarchy _ text other took.sound textual
   accepted lines v w n text taken took other (inr (no_text, more)) =
       no_more_names most_items known (names_of (lines ++ text ∷ [])) w.names (grown_more lines v w n text taken took) took.room more.0
 
@@ -156,7 +153,7 @@ module _ (known : List (List ℕ)) where
   line_refused lines v text (NameTooLong line column) taken sound why apart = absurd why
   line_refused lines v text (TooManyItems line) taken sound why apart =
       inr (
-        (λ other. no_text_fault _ text other sound),
+        (λ other. no_text_fault Hierarchy _ text other sound),
         (subst (λ names. HasMoreNames most_items (known ++ names)) (sym (names_of-more lines text)) (HasMoreNames-grown most_items known (names_of lines) v.names (fields_of text) taken.grown why.1), ap (fault.TooManyItems Hierarchy) why.0),
       )
   line_refused lines v text NoMemory taken sound why apart = absurd (apart refl)

@@ -29,6 +29,10 @@ pub record HoldsAncestors (links : List (Link Item)) (t : Item) (gathered : List
 abbrev pub part_at : List Part → ℕ → Part
 part_at parts n = slice_index_or parts n (record { from = 0; to = 0 })
 
+-- the part does not end before it begins
+abbrev pub IsForward : Part → Type 0
+IsForward part = part.from ≤ part.to
+
 -- the list in the part of an item
 abbrev pub list_in : List Part → List Item → ℕ → List Item
 list_in parts lists n = slice_range lists (part_at parts n).from (part_at parts n).to
@@ -37,7 +41,7 @@ list_in parts lists n = slice_range lists (part_at parts n).from (part_at parts 
 pub record IsGathered (links : List (Link Item)) (parts : List Part) (lists : List Item)
     (t : Item) : Type 0 where
   pub inside : t.0 < length parts
-  pub forward : (part_at parts t.0).from ≤ (part_at parts t.0).to
+  pub forward : IsForward (part_at parts t.0)
   pub within : (part_at parts t.0).to ≤ length lists
   pub rising : AreRising (list_in parts lists t.0)
   pub ancestors : (w : Item) → (Contains (list_in parts lists t.0) w ↔ IsAncestor links w t)
@@ -72,7 +76,7 @@ Overflows links t size =
 
 -- the part lies within the lists, and its list rises
 pub record IsPart (parts : List Part) (lists : List Item) (n : ℕ) : Type 0 where
-  pub forward : (part_at parts n).from ≤ (part_at parts n).to
+  pub forward : IsForward (part_at parts n)
   pub within : (part_at parts n).to ≤ length lists
   pub rising : AreRising (list_in parts lists n)
 

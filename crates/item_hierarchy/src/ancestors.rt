@@ -7,7 +7,7 @@ ghost use Rattle.item_hierarchy.specs.declared.edges.EdgeRow.{EdgeRow};
 ghost use Rattle.item_hierarchy.specs.Edges.{links_of, AreWithin};
 ghost use Rattle.item_hierarchy.specs.ByChild.{AreByChild};
 ghost use Rattle.item_hierarchy.specs.Walking.{IsParentsFirst};
-ghost use Rattle.item_hierarchy.specs.Gathering.{part_at, list_in, AreStamped, IsGathered, AreGathered, Adds, Overflows};
+ghost use Rattle.item_hierarchy.specs.Gathering.{part_at, IsForward, list_in, AreStamped, IsGathered, AreGathered, Adds, Overflows};
 
 use super::edges::EdgeRow;
 use mine_model::{Item, NoMemory};
@@ -160,7 +160,7 @@ impl Ancestors {
     fn gather_parent(&mut self, parent: Item, stamp: u32, room: usize) -> Result<bool, NoMemory>
         requires inside { parent.0 < length self.old.parts.items }
         requires seen { length self.old.seen.items ≡ length self.old.parts.items }
-        requires forward { (part_at self.old.parts.items parent.0).from ≤ (part_at self.old.parts.items parent.0).to }
+        requires forward { IsForward (part_at self.old.parts.items parent.0) }
         requires end { (part_at self.old.parts.items parent.0).to ≤ length self.old.lists.items }
         requires within { All (λ w. w.0 < length self.old.seen.items)
             (list_in self.old.parts.items self.old.lists.items parent.0) }

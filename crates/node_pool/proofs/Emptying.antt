@@ -2,16 +2,16 @@
 use Rattle.std.proofs.Common.{◌≡◌, ℕ, ◌+◌, ◌-◌, ◌<◌, List, [], ◌∷◌, ◌++◌, Option, Some, All, refl, ap, sym, ◌∙◌, subst, length, arith, sum_by}
 use Rattle.std.proofs.lemmas.List.{length_push}
 use Rattle.std.proofs.lemmas.List.Sums.{sum_by_push}
-use Rattle.std.proofs.lemmas.List.Elements.{All-append}
+use Rattle.std.proofs.lemmas.List.Elements.{All-push}
 use Rattle.mine_model.specs.Labels.{SameLabels}
+use Rattle.mine_model.proofs.ElementLemmas.{get-left}
 use Rattle.crossbeam_deque.specs.Handles.{worker_view}
 use Rattle.node_pool.specs.declared.rule.Hand.{Hand}
 use Rattle.node_pool.specs.Rule.{Got}
 use Rattle.node_pool.specs.Opening.{Owner}
 use Rattle.node_pool.specs.Closing.{given_weight, got_weight, HaveParts}
-use Rattle.node_pool.proofs.Lists.{get_front, get_last}
+use Rattle.node_pool.proofs.Lists.{get_last}
 use Rattle.node_pool.proofs.Kept.{kept_none}
-use Rattle.node_pool.proofs.Steps.{all_one}
 
 module _ {T G : Type 0} (label : T → List ℕ) (ground_of : T → G) where
   -- as much was taken from the deque as came to the list
@@ -33,7 +33,7 @@ module _ {T G : Type 0} (label : T → List ℕ) (ground_of : T → G) where
     got = λ weight.
         let is : sum_by weight after.got ≡ sum_by weight (now.got ++ label x ∷ []) = ap (λ v. sum_by weight v.got) got.0 in
         omega (arith, s.got weight, sum_by_push weight now.got (label x), sum_by_push (λ t. weight (label t)) left x);
-    tasks = λ old. All-append (λ t. Some (ground_of t) ≡ first.known_ground) left (x ∷ []) (s.tasks old) (all_one (λ t. Some (ground_of t) ≡ first.known_ground) x (got.1 0 x (omega arith) ∙ s.known_ground));
+    tasks = λ old. All-push (λ t. Some (ground_of t) ≡ first.known_ground) left x (s.tasks old) (got.1 0 x (omega arith) ∙ s.known_ground);
   }
 
   -- fewer are left to take
@@ -71,7 +71,7 @@ module _ {T G : Type 0} (label : T → List ℕ) (ground_of : T → G) where
   remaining_next known_ground first before front o left more is balance grounds s =
       let t : Remaining known_ground first (front ++ o ∷ []) left = subst (λ (l : List (Owner T G)). Remaining known_ground first l left) is s in
       let last = remaining_whole known_ground first before front o left is s in record {
-        parts = λ k u e. t.parts k u (get_front front o k u e);
+        parts = λ k u e. t.parts k u (get-left front (o ∷ []) k u e);
         sums = λ weight. omega (arith, balance weight, t.sums weight, sum_by_push (λ (o : Owner T G). sum_by weight (worker_view o).given) front o, sum_by_push (λ (o : Owner T G). sum_by weight (worker_view o).got) front o);
         tasks = subst (λ (h : Option G). All (λ t. Some (ground_of t) ≡ h) more) last.1 (grounds (subst (λ (h : Option G). All (λ t. Some (ground_of t) ≡ h) left) (sym last.1) t.tasks));
       }

@@ -14,7 +14,8 @@ use Rattle.node_pool.specs.Ways.{AreRights}
 use Rattle.node_pool.specs.Opening.{Owner}
 use Rattle.node_pool.specs.Closing.{given_weight, got_weight, stolen_weight, all_stolen_weight, HaveParts, AreWays}
 use Rattle.node_pool.specs.Pool.{seat_ground, given, got, IsWholePool}
-use Rattle.node_pool.proofs.Lists.{get_map, same_lists, sum_by_flat_map}
+use Rattle.mine_model.proofs.CoverLemmas.{sum_by-flat_map}
+use Rattle.node_pool.proofs.Lists.{get_map, same_lists}
 use Rattle.node_pool.proofs.Kept.{kept_below, first_ground}
 use Rattle.node_pool.proofs.Steps.{sum_by_map}
 
@@ -106,7 +107,7 @@ module _ {T G : Type 0} where
     sum_by-cons (λ (o : Owner T G). sum_by weight (worker_view o).got) s.owner (owners_of ss),
     sum_by-cons (λ (v : Vec (Way T G) Global). stolen_weight weight v.items) s.ways (rows_of ss),
     sum_by-append weight (worker_view s.owner).got (flat_map (λ (r : Way T G). (view r.right).got) s.ways.items),
-    sum_by_flat_map (λ (r : Way T G). (view r.right).got) weight s.ways.items,
+    sum_by-flat_map weight (λ (r : Way T G). (view r.right).got) s.ways.items,
     got_sum weight ss,
   )
 
@@ -124,9 +125,9 @@ module _ {T G : Type 0} where
         took weight,
         balance weight,
         got_sum weight seats,
-        sum_by_flat_map (λ (s : Seat T G). given s) weight seats,
+        sum_by-flat_map weight (λ (s : Seat T G). given s) seats,
         sum_by_map (λ (o : Owner T G). sum_by weight (worker_view o).given) (λ (s : Seat T G). s.owner) seats,
-        sum_by_flat_map (λ (s : Seat T G). got s) weight seats,
+        sum_by-flat_map weight (λ (s : Seat T G). got s) seats,
         sum_by-append weight (flat_map got seats) (map label left),
         sum_by_map weight label left,
       )

@@ -2,7 +2,7 @@
 use Rattle.std.proofs.Common.{◌≡◌, ℕ, ◌+◌, ◌<◌, ◌≤◌, List, [], ◌∷◌, ◌++◌, Option, Some, refl, ap, sym, ◌∙◌, subst, slice_get, length, map, arith}
 use Rattle.std.proofs.lemmas.List.{length_push}
 use Rattle.std.proofs.lemmas.List.Sums.{sum_by_push}
-use Rattle.std.proofs.lemmas.Option.{slice_get_within, slice_get-map}
+use Rattle.std.proofs.lemmas.Option.{slice_get_within, slice_get-map, same_Some}
 use Rattle.std.specs.Option.{option_map}
 use Rattle.std.specs.declared.vec.Vec.{Vec}
 use Rattle.std.specs.declared.alloc.Global.{Global}
@@ -12,7 +12,8 @@ use Rattle.node_pool.specs.Deques.{pool_by}
 use Rattle.node_pool.specs.Ways.{AreRights}
 use Rattle.node_pool.specs.Opening.{Owner}
 use Rattle.node_pool.specs.Closing.{given_weight, got_weight, stolen_weight, all_stolen_weight, AllCanReturn, AllReturned, HaveParts, AreWays}
-use Rattle.node_pool.proofs.Lists.{everywhere_front, same_some, get_some}
+use Rattle.mine_model.proofs.ElementLemmas.{get-some}
+use Rattle.node_pool.proofs.Lists.{everywhere_front}
 use Rattle.node_pool.proofs.Kept.{kept_next, kept_room, kept_some}
 use Rattle.node_pool.proofs.NewWays.{same_length}
 use Rattle.node_pool.proofs.Returning.{returned_given, returned_got, returned_deques}
@@ -22,10 +23,10 @@ module _ {T G : Type 0} where
       → HaveParts known_ground (number + 1) owners → AreRights number known_ground ways → AllReturned owners ways after → HaveParts known_ground number after
   parts_next known_ground number owners ways after few size m n parts rights back k p at =
       let within = slice_get_within after k p at in
-      let o = get_some owners k (omega arith) in
-      let r = get_some ways k (omega arith) in
+      let o = get-some owners k (omega arith) in
+      let r = get-some ways k (omega arith) in
       let b = back k o.0 r.0 o.1 r.1 in
-      let same : p ≡ b.0 = same_some p b.0 (sym at ∙ b.1) in
+      let same : p ≡ b.0 = same_Some p b.0 (sym at ∙ b.1) in
       let mine = parts k o.0 o.1 in
       let right = rights k r.0 r.1 in
       let is : (worker_view p).parts ≡ (worker_view o.0).parts + (view r.0.right).parts = ap (λ (q : Owner T G). (worker_view q).parts) same ∙ ap (λ v. v.parts) b.2.1 in
@@ -83,7 +84,7 @@ module _ {T G : Type 0} where
       let within = slice_get_within owners k o at in
       let theirs : slice_get (pool_by ways.items) k ≡ Some (stealer_deque r.thief) = slice_get-map (λ (r : Way T G). stealer_deque r.thief) ways.items k ∙ ap (option_map (λ (r : Way T G). stealer_deque r.thief)) way in
       let mine : slice_get (map (λ (o : Owner T G). worker_deque o) owners) k ≡ Some (worker_deque o) = slice_get-map (λ (o : Owner T G). worker_deque o) owners k ∙ ap (option_map (λ (o : Owner T G). worker_deque o)) at in
-      let same : stealer_deque r.thief ≡ worker_deque o = same_some (stealer_deque r.thief) (worker_deque o) (sym theirs ∙ ap (λ l. slice_get l k) (last.0 ∙ sym t.deques) ∙ mine) in
+      let same : stealer_deque r.thief ≡ worker_deque o = same_Some (stealer_deque r.thief) (worker_deque o) (sym theirs ∙ ap (λ l. slice_get l k) (last.0 ∙ sym t.deques) ∙ mine) in
       let parts = (t.parts k o at).0 in
       let room = kept_some (length (front ++ ways ∷ [])) k (omega (arith, t.few, t.room)) (omega (arith, t.few, t.size)) in
       (same, omega arith, (last.1 k r way).1)

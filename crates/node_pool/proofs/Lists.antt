@@ -1,6 +1,7 @@
 -- Lists read by `slice_get`, after one element changed.
-use Rattle.std.proofs.Common.{◌≡◌, ◌≢◌, ℕ, zero, suc, ◌+◌, ◌<◌, ◌⊎◌, inl, inr, List, [], ◌∷◌, ◌++◌, set, sym, refl, ap, ◌∙◌, arith, sum_by, map, length, subst, Some, flat_map, slice_get}
-use Rattle.std.proofs.lemmas.List.Sums.{sum_by-append, sum_by-cons}
+use Rattle.std.proofs.Common.{◌≡◌, ◌≢◌, ℕ, zero, suc, ◌+◌, ◌⊎◌, inl, inr, List, [], ◌∷◌, ◌++◌, set, sym, refl, ap, ◌∙◌, arith, map, length, subst, Some, flat_map, slice_get}
+use Rattle.std.proofs.lemmas.Option.{same_Some}
+use Rattle.mine_model.proofs.ElementLemmas.{get-left}
 
 module _ {X : Type 0} where
   pub get_set : (xs : List X) (i : ℕ) (y : X) (k : ℕ) (z : X) → slice_get (set xs i y) k ≡ Some z → ((k ≡ i) × (y ≡ z)) ⊎ ((k ≢ i) × (slice_get xs k ≡ Some z))
@@ -21,15 +22,6 @@ module _ {X : Type 0} where
   flat_map_kept f (z ∷ xs) zero x y e same = let is : z ≡ x = cc in ap (λ a. a ++ flat_map f xs) (same ∙ ap f (sym is))
   flat_map_kept f (z ∷ xs) (suc i) x y e same = ap (λ a. f z ++ a) (flat_map_kept f xs i x y e same)
 
-  -- what all pieces weigh after one of them changed
-  pub flat_map_set : {Y : Type 0} (f : X → List Y) (weight : Y → ℕ) (xs : List X) (i : ℕ) (x y : X) → slice_get xs i ≡ Some x
-      → sum_by weight (flat_map f (set xs i y)) + sum_by weight (f x) ≡ sum_by weight (flat_map f xs) + sum_by weight (f y)
-  flat_map_set f weight [] i x y e = absurd (cc)
-  flat_map_set f weight (z ∷ xs) zero x y e = let is : z ≡ x = cc in let same : sum_by weight (f z) ≡ sum_by weight (f x) = ap (λ a. sum_by weight (f a)) is in
-      omega (arith, sum_by-append weight (f z) (flat_map f xs), sum_by-append weight (f y) (flat_map f xs))
-  flat_map_set f weight (z ∷ xs) (suc i) x y e =
-      omega (arith, sum_by-append weight (f z) (flat_map f xs), sum_by-append weight (f z) (flat_map f (set xs i y)), flat_map_set f weight xs i x y e)
-
   pub get_snoc : (xs : List X) (y : X) (k : ℕ) (z : X) → slice_get (xs ++ y ∷ []) k ≡ Some z → (slice_get xs k ≡ Some z) ⊎ ((k ≡ length xs) × (y ≡ z))
   get_snoc [] y zero z e = inr (refl, cc)
   get_snoc [] y (suc k) z e = absurd (cc)
@@ -46,18 +38,13 @@ module _ {X : Type 0} where
   pub everywhere_set : (F G : ℕ → X → Type 0) (xs : List X) (i : ℕ) (y : X) → Everywhere F xs → G i y → ((k : ℕ) (x : X) → k ≢ i → F k x → G k x) → Everywhere G (set xs i y)
   everywhere_set F G xs i y old new others k z e = elim (get_set xs i y k z e) [ inl t ↦ subst (λ (p : ℕ × X). G p.0 p.1) (λ j. (sym t.0 j, t.1 j)) new | inr t ↦ others k z t.0 (old k z t.1) ]
 
-  -- what holds of each element holds of a list's front
-  pub get_front : (xs : List X) (y : X) (k : ℕ) (z : X) → slice_get xs k ≡ Some z → slice_get (xs ++ y ∷ []) k ≡ Some z
-  get_front [] y k z e = absurd (cc)
-  get_front (x ∷ xs) y zero z e = e
-  get_front (x ∷ xs) y (suc k) z e = get_front xs y k z e
-
   pub get_last : (xs : List X) (y : X) → slice_get (xs ++ y ∷ []) (length xs) ≡ Some y
   get_last [] y = refl
   get_last (x ∷ xs) y = get_last xs y
 
+  -- what holds of each element holds of a list's front
   pub everywhere_front : (F : ℕ → X → Type 0) (xs : List X) (y : X) → Everywhere F (xs ++ y ∷ []) → Everywhere F xs × F (length xs) y
-  everywhere_front F xs y all = ((λ k z e. all k z (get_front xs y k z e)), all (length xs) y (get_last xs y))
+  everywhere_front F xs y all = ((λ k z e. all k z (get-left xs (y ∷ []) k z e)), all (length xs) y (get_last xs y))
 
   pub get_set_same : (xs : List X) (i : ℕ) (x y : X) → slice_get xs i ≡ Some x → slice_get (set xs i y) i ≡ Some y
   get_set_same [] i x y e = absurd (cc)
@@ -71,29 +58,15 @@ module _ {X : Type 0} where
   get_set_other (z ∷ xs) (suc i) zero y other = refl
   get_set_other (z ∷ xs) (suc i) (suc k) y other = get_set_other xs i k y (λ e. other (ap suc e))
 
-  pub same_some : (x y : X) → Some x ≡ Some y → x ≡ y
-  same_some x y e = cc
-
-  -- some element stands at each index
-  pub get_some : (xs : List X) (k : ℕ) → k < length xs → (x : X) × (slice_get xs k ≡ Some x)
-  get_some [] k h = absurd (omega arith)
-  get_some (x ∷ xs) zero h = (x, refl)
-  get_some (x ∷ xs) (suc k) h = get_some xs k (omega arith)
-
   -- lists of one length that agree at each index
   pub same_lists : (xs ys : List X) → length xs ≡ length ys → ((k : ℕ) (x : X) → slice_get xs k ≡ Some x → slice_get ys k ≡ Some x) → xs ≡ ys
   same_lists [] [] n all = refl
   same_lists [] (y ∷ ys) n all = absurd (omega arith)
   same_lists (x ∷ xs) [] n all = absurd (omega arith)
-  same_lists (x ∷ xs) (y ∷ ys) n all = let is : y ≡ x = same_some y x (all 0 x refl) in ap (λ a. a ∷ xs) (sym is) ∙ ap (λ l. y ∷ l) (same_lists xs ys (omega arith) (λ k. all (suc k)))
+  same_lists (x ∷ xs) (y ∷ ys) n all = let is : y ≡ x = same_Some y x (all 0 x refl) in ap (λ a. a ∷ xs) (sym is) ∙ ap (λ l. y ∷ l) (same_lists xs ys (omega arith) (λ k. all (suc k)))
 
   -- where an element of a mapped list comes from
   pub get_map : {Y : Type 0} (f : X → Y) (xs : List X) (k : ℕ) (y : Y) → slice_get (map f xs) k ≡ Some y → (x : X) × (slice_get xs k ≡ Some x) × (f x ≡ y)
   get_map f [] k y e = absurd (cc)
   get_map f (x ∷ xs) zero y e = (x, refl, cc)
   get_map f (x ∷ xs) (suc k) y e = get_map f xs k y e
-
-  -- what all pieces weigh
-  pub sum_by_flat_map : {Y : Type 0} (f : X → List Y) (weight : Y → ℕ) (xs : List X) → sum_by weight (flat_map f xs) ≡ sum_by (λ x. sum_by weight (f x)) xs
-  sum_by_flat_map f weight [] = refl
-  sum_by_flat_map f weight (x ∷ xs) = omega (arith, sum_by-append weight (f x) (flat_map f xs), sum_by-cons (λ x. sum_by weight (f x)) x xs, sum_by_flat_map f weight xs)

@@ -1,6 +1,6 @@
 -- The ways of a new seat, one by one.
 use Rattle.std.proofs.Common.{◌≡◌, ℕ, zero, suc, ◌+◌, ◌<◌, ◌≤◌, List, [], ◌∷◌, ◌++◌, Option, Some, refl, ap, sym, ◌∙◌, subst, slice_get, get_or, length, map, take, arith, add-one}
-use Rattle.std.proofs.lemmas.List.{length-map, length_push}
+use Rattle.std.proofs.lemmas.List.{length-map, length-take-le, length_push, map_push}
 use Rattle.std.proofs.lemmas.Option.{slice_get-map, slice_get_read}
 use Rattle.std.specs.Option.{option_map}
 use Rattle.std.specs.declared.vec.Vec.{Vec}
@@ -18,19 +18,9 @@ take_snoc [] k x e = absurd (cc)
 take_snoc (y ∷ ys) zero x e = let is : y ≡ x = cc in ap (λ z. z ∷ []) is
 take_snoc (y ∷ ys) (suc k) x e = ap (λ l. y ∷ l) (take_snoc ys k x e)
 
-map_snoc : {X Y : Type 0} (f : X → Y) (xs : List X) (x : X) → map f (xs ++ x ∷ []) ≡ map f xs ++ f x ∷ []
-map_snoc f [] x = refl
-map_snoc f (y ∷ ys) x = ap (λ l. f y ∷ l) (map_snoc f ys x)
-
 -- lists with the same images have the same length
 pub same_length : {X Y Z : Type 0} (f : X → Z) (g : Y → Z) (xs : List X) (ys : List Y) → map f xs ≡ map g ys → length xs ≡ length ys
 same_length f g xs ys e = sym (length-map xs f) ∙ ap length e ∙ length-map ys g
-
-length_front : {X : Type 0} (xs : List X) (k : ℕ) → k ≤ length xs → length (take k xs) ≡ k
-length_front [] zero h = refl
-length_front [] (suc k) h = absurd (omega arith)
-length_front (x ∷ xs) zero h = refl
-length_front (x ∷ xs) (suc k) h = ap suc (length_front xs k (omega arith))
 
 module _ {T G : Type 0} where
   -- which owner is next
@@ -43,7 +33,7 @@ module _ {T G : Type 0} where
   pool_next k first owners o ways r same so_far at there =
       let deques = map (λ (w : Owner T G). worker_deque w) first in
       let here : slice_get deques k ≡ Some (worker_deque o) = ap (λ l. slice_get l k) (sym same) ∙ slice_get-map (λ (w : Owner T G). worker_deque w) owners k ∙ ap (option_map (λ (w : Owner T G). worker_deque w)) at in
-      map_snoc (λ (r : Way T G). stealer_deque r.thief) ways r ∙ ap (λ l. l ++ stealer_deque r.thief ∷ []) so_far ∙ ap (λ d. take k deques ++ d ∷ []) there ∙ sym (take_snoc deques k (worker_deque o) here)
+      map_push (λ (r : Way T G). stealer_deque r.thief) ways r ∙ ap (λ l. l ++ stealer_deque r.thief ∷ []) so_far ∙ ap (λ d. take k deques ++ d ∷ []) there ∙ sym (take_snoc deques k (worker_deque o) here)
       ∙ ap (λ n. take n deques) (sym (add-one k))
 
   pub ways_next : (known_ground : Option G) (number k : ℕ) (first : List (Owner T G)) (ways : List (Way T G)) (r : Way T G) → k ≤ length first → pool_by ways ≡ take k (map (λ (w : Owner T G). worker_deque w) first)
@@ -51,7 +41,7 @@ module _ {T G : Type 0} where
   ways_next known_ground number k first ways r within so_far old new =
       let n = length-map ways (λ (r : Way T G). stealer_deque r.thief) in
       let m = length-map first (λ (w : Owner T G). worker_deque w) in
-      let front = length_front (map (λ (w : Owner T G). worker_deque w) first) k (omega arith) in
+      let front = length-take-le k (map (λ (w : Owner T G). worker_deque w) first) (omega arith) in
       let count : length ways ≡ k = sym n ∙ ap length so_far ∙ front in
       everywhere_snoc (λ j (r : Way T G). view r.right ≡ hand (share number j) [] [] known_ground) ways r old (new ∙ ap (λ j. hand (share number j) [] [] known_ground) (sym count))
 

@@ -7,10 +7,6 @@ use Rattle.node_pool.specs.Pool.{seat_ground, IsFresh, IsWholePool}
 use Rattle.node_pool.specs.Opening.{AreSeats}
 
 -- what follows of the value in an Ok
-pub ok_then : {X E : Type 0} (r : Result X E) (P Q : X → Type 0) → ((x : X) → P x → Q x) → IfOk r P → IfOk r Q
-ok_then (Ok x) P Q f p = f x p
-ok_then (Err e) P Q f p = p
-
 pub ok_both : {X E : Type 0} (r : Result X E) (P Q : X → Type 0) → IfOk r P → IfOk r Q → IfOk r (λ x. P x × Q x)
 ok_both (Ok x) P Q p q = (p, q)
 ok_both (Err e) P Q p q = p

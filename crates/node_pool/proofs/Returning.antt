@@ -1,7 +1,7 @@
 -- The passes of one seat come back, from the last deque to the first.
 use Rattle.std.proofs.Common.{◌≡◌, ℕ, suc, ◌+◌, ◌<◌, ◌≤◌, List, [], ◌∷◌, ◌++◌, Some, refl, ap, sym, ◌∙◌, subst, slice_get, get_or, set, length, map, arith, sum_by}
 use Rattle.std.proofs.lemmas.List.{length_push}
-use Rattle.std.proofs.lemmas.Option.{slice_get_within, slice_get_read}
+use Rattle.std.proofs.lemmas.Option.{slice_get_within, slice_get_read, same_Some}
 use Rattle.std.proofs.Common.{length-set}
 use mathlib.Core.Logic.{dite}
 use native.Mathlib.Decide.{ℕ_discrete}
@@ -10,7 +10,7 @@ use Rattle.node_pool.specs.declared.way.Way.{Way}
 use Rattle.node_pool.specs.Opening.{Owner}
 use Rattle.node_pool.specs.Closing.{CanReturn, Returned, AllCanReturn, AllReturned, given_weight, got_weight, stolen_weight}
 use Rattle.std.proofs.lemmas.List.Sums.{sum_by-cons, sum_by-append}
-use Rattle.node_pool.proofs.Lists.{Everywhere, everywhere_front, get_set_same, get_set_other, same_some}
+use Rattle.node_pool.proofs.Lists.{Everywhere, everywhere_front, get_set_same, get_set_other}
 
 module _ {T G : Type 0} where
   -- the passes of the ways that are left have yet to come back
@@ -61,8 +61,8 @@ module _ {T G : Type 0} where
         untouched = λ k h. get_set_other owners (length front) k p (λ e. omega arith) ∙ t.untouched k (omega arith);
         done = λ k u w past e f. dite (ℕ_discrete k (length front))
             (λ here.
-            let same : u ≡ o = same_some u o (sym e ∙ ap (slice_get first) here ∙ was) in
-            let way : w ≡ r = same_some w r (sym f ∙ ap (slice_get ways) here ∙ todo.1) in (
+            let same : u ≡ o = same_Some u o (sym e ∙ ap (slice_get first) here ∙ was) in
+            let way : w ≡ r = same_Some w r (sym f ∙ ap (slice_get ways) here ∙ todo.1) in (
               p,
               ap (slice_get (set owners (length front) p)) here ∙ get_set_same owners (length front) o p at,
               subst (λ (q : Owner T G × Way T G). Returned q.0 q.1 p) (λ i. (sym same i, sym way i)) back,
@@ -90,7 +90,7 @@ module _ {T G : Type 0} where
   returned_given weight (o ∷ os) (r ∷ rs) [] m n all = absurd (omega arith)
   returned_given weight (o ∷ os) (r ∷ rs) (p ∷ ps) m n all =
       let here = all 0 o r refl refl in
-      let same : p ≡ here.0 = same_some p here.0 here.1 in
+      let same : p ≡ here.0 = same_Some p here.0 here.1 in
       let is : sum_by weight (worker_view p).given ≡ sum_by weight (worker_view o).given = ap (λ (q : Owner T G). sum_by weight (worker_view q).given) same ∙ ap (λ v. sum_by weight v.given) here.2.1 in
       let rest = returned_given weight os rs ps (omega arith) (omega arith) (λ k. all (suc k)) in
       omega (arith, sum_by-cons (λ (q : Owner T G). sum_by weight (worker_view q).given) p ps, sum_by-cons (λ (q : Owner T G). sum_by weight (worker_view q).given) o os)
@@ -104,7 +104,7 @@ module _ {T G : Type 0} where
   returned_got weight (o ∷ os) (r ∷ rs) [] m n all = absurd (omega arith)
   returned_got weight (o ∷ os) (r ∷ rs) (p ∷ ps) m n all =
       let here = all 0 o r refl refl in
-      let same : p ≡ here.0 = same_some p here.0 here.1 in
+      let same : p ≡ here.0 = same_Some p here.0 here.1 in
       let is : sum_by weight (worker_view p).got ≡ sum_by weight ((worker_view o).got ++ (view r.right).got) = ap (λ (q : Owner T G). sum_by weight (worker_view q).got) same ∙ ap (λ v. sum_by weight v.got) here.2.1 in
       let rest = returned_got weight os rs ps (omega arith) (omega arith) (λ k. all (suc k)) in
       omega (
@@ -123,7 +123,7 @@ module _ {T G : Type 0} where
   returned_deques (o ∷ os) (r ∷ rs) [] m n all = absurd (omega arith)
   returned_deques (o ∷ os) (r ∷ rs) (p ∷ ps) m n all =
       let here = all 0 o r refl refl in
-      let same : p ≡ here.0 = same_some p here.0 here.1 in
+      let same : p ≡ here.0 = same_Some p here.0 here.1 in
       let is : worker_deque p ≡ worker_deque o = ap (λ (q : Owner T G). worker_deque q) same ∙ here.2.0 in
       let rest = returned_deques os rs ps (omega arith) (omega arith) (λ k. all (suc k)) in
       ap (λ d. d ∷ map (λ (o : Owner T G). worker_deque o) ps) is ∙ ap (λ l. worker_deque o ∷ l) rest

@@ -1,15 +1,16 @@
 -- Each step of a deque keeps its rule.
 use Rattle.std.proofs.Common.{◌≡◌, ℕ, zero, suc, ◌+◌, ◌-◌, ◌<◌, List, [], ◌∷◌, ◌++◌, set, sym, refl, ap, ◌∙◌, subst, arith, sum_by, map, length, Option, None, Some, All}
 use Rattle.std.proofs.lemmas.List.Sums.{sum_by-cons, sum_by-append, sum_by_push}
-use Rattle.std.proofs.lemmas.List.Elements.{All-append, All-take, All-drop}
+use Rattle.std.proofs.lemmas.List.Elements.{All-push, All-take, All-drop}
 use lib.Seq.{take-append_seam, drop-append_seam}
 use mathlib.Core.Option.{some, some-injective, some-ne-none}
 use lib.ListN.{get_elem?}
 use Rattle.mine_model.specs.Labels.{SameLabels}
+use Rattle.mine_model.proofs.SumLemmas.{sum_by_set}
 use Rattle.crossbeam_deque.specs.Tasks.{Pushes, Takes, Pops, Finds, Forks, Merges}
 use Rattle.node_pool.specs.declared.rule.Hand.{Hand}
 use Rattle.node_pool.specs.Rule.{hand, Fits, Balanced, Got}
-use Rattle.node_pool.proofs.Views.{sum_by_set, set_there, alone, others_idle, Each, each_set, each_snoc}
+use Rattle.node_pool.proofs.Views.{set_there, alone, others_idle, Each, each_set, each_snoc}
 
 pub sum_by_map : {X Y : Type 0} (weight : Y → ℕ) (f : X → Y) (xs : List X) → sum_by weight (map f xs) ≡ sum_by (λ x. weight (f x)) xs
 sum_by_map weight f [] = refl
@@ -18,10 +19,6 @@ sum_by_map weight f (x ∷ xs) = omega (arith, sum_by-cons weight (f x) (map f x
 pub sum_by_ones : {X : Type 0} (xs : List X) → sum_by (λ _. 1) xs ≡ length xs
 sum_by_ones [] = refl
 sum_by_ones (x ∷ xs) = omega (arith, sum_by-cons (λ _. 1) x xs, sum_by_ones xs)
-
-pub all_one : {X : Type 0} (P : X → Type 0) (x : X) → P x → All P (x ∷ [])
-all_one P x p zero d h = p
-all_one P x p (suc k) d h = absurd (omega arith)
 
 all_left : {X : Type 0} (P : X → Type 0) (xs ys : List X) → All P (xs ++ ys) → All P xs
 all_left P xs ys h = subst (All P) (take-append_seam xs ys) (All-take P (length xs) (xs ++ ys) h)
@@ -53,7 +50,7 @@ module _ {T G : Type 0} (label : T → List ℕ) (ground_of : T → G) where
           let b = h.2 weight in
           omega (arith, sum_by_push weight v.given (label x), sum_by_push (λ t. weight (label t)) tasks x)),
       each_set (λ _. Fits h.0) views port w ((λ _. (h.3 port v at).0 part), λ none. absurd (omega arith)) (λ j u _. h.3 j u),
-      All-append (λ t. Some (ground_of t) ≡ h.0) tasks (x ∷ []) h.4 (all_one (λ t. Some (ground_of t) ≡ h.0) x (sym known_ground ∙ (h.3 port v at).0 part)),
+      All-push (λ t. Some (ground_of t) ≡ h.0) tasks x h.4 (sym known_ground ∙ (h.3 port v at).0 part),
     ),
     refl,
   )

@@ -1,23 +1,12 @@
 -- Sums over the views of a deque's passes.
-use Rattle.std.proofs.Common.{◌≡◌, ◌≢◌, ℕ, zero, suc, ◌+◌, ◌≤◌, List, [], ◌∷◌, ◌++◌, set, sym, refl, ap, subst, ⊎_elim, arith, sum_by}
+use Rattle.std.proofs.Common.{◌≡◌, ◌≢◌, ℕ, zero, suc, ◌+◌, List, [], ◌∷◌, ◌++◌, set, sym, refl, ap, subst, ⊎_elim, arith, sum_by}
 use Rattle.std.proofs.lemmas.List.Sums.{sum_by-cons}
 use mathlib.Core.Option.{some, some-injective, some-ne-none}
 use lib.ListN.{get_elem?}
+use Rattle.mine_model.proofs.SumLemmas.{sum_by_at}
 use Rattle.crossbeam_deque.proofs.Lists.{at_set, at_snoc}
 
 module _ {V : Type 0} where
-  -- the sum after a change of one view
-  pub sum_by_set : (f : V → ℕ) (views : List V) (port : ℕ) (v w : V) → get_elem? views port ≡ some v → sum_by f (set views port w) + f v ≡ sum_by f views + f w
-  sum_by_set f [] port v w e = absurd (some-ne-none v (sym e))
-  sum_by_set f (x ∷ xs) zero v w e = let is : f x ≡ f v = ap f (some-injective x v e) in omega (arith, sum_by-cons f x xs, sum_by-cons f w xs)
-  sum_by_set f (x ∷ xs) (suc i) v w e = omega (arith, sum_by-cons f x xs, sum_by-cons f x (set xs i w), sum_by_set f xs i v w e)
-
-  -- no view weighs more than all
-  pub within : (f : V → ℕ) (views : List V) (port : ℕ) (v : V) → get_elem? views port ≡ some v → f v ≤ sum_by f views
-  within f [] port v e = absurd (some-ne-none v (sym e))
-  within f (x ∷ xs) zero v e = let is : f x ≡ f v = ap f (some-injective x v e) in omega (arith, sum_by-cons f x xs)
-  within f (x ∷ xs) (suc i) v e = omega (arith, sum_by-cons f x xs, within f xs i v e)
-
   -- where no view has a part, and a view with none weighs nothing, all weigh nothing
   pub none_left : (parts f : V → ℕ) (views : List V) → sum_by parts views ≡ 0 → ((j : ℕ) (u : V) → get_elem? views j ≡ some u → parts u ≡ 0 → f u ≡ 0) → sum_by f views ≡ 0
   none_left parts f [] zero_sum idle = refl
@@ -32,7 +21,7 @@ module _ {V : Type 0} where
   alone parts f (x ∷ xs) zero v e all idle = let c = sum_by-cons parts x xs in let d = sum_by-cons f x xs in
       let same : parts x ≡ parts v = ap parts (some-injective x v e) in let is : f x ≡ f v = ap f (some-injective x v e) in
       let rest : sum_by f xs ≡ 0 = none_left parts f xs (omega arith) (λ j. idle (suc j)) in omega arith
-  alone parts f (x ∷ xs) (suc i) v e all idle = let c = sum_by-cons parts x xs in let d = sum_by-cons f x xs in let le = within parts xs i v e in
+  alone parts f (x ∷ xs) (suc i) v e all idle = let c = sum_by-cons parts x xs in let d = sum_by-cons f x xs in let le = sum_by_at parts xs i v e in
       let here : f x ≡ 0 = idle 0 x refl (omega arith) in
       let rest : sum_by f xs ≡ f v = alone parts f xs i v e (omega arith) (λ j. idle (suc j)) in omega arith
 
@@ -40,9 +29,9 @@ module _ {V : Type 0} where
   pub others_idle : (parts : V → ℕ) (views : List V) (port : ℕ) (v : V) → get_elem? views port ≡ some v → sum_by parts views ≡ parts v → (j : ℕ) (u : V) → j ≢ port → get_elem? views j ≡ some u → parts u ≡ 0
   others_idle parts [] port v e all j u other at = absurd (some-ne-none v (sym e))
   others_idle parts (x ∷ xs) zero v e all zero u other at = absurd (other refl)
-  others_idle parts (x ∷ xs) zero v e all (suc j) u other at = let c = sum_by-cons parts x xs in let same : parts x ≡ parts v = ap parts (some-injective x v e) in let le = within parts xs j u at in omega arith
-  others_idle parts (x ∷ xs) (suc i) v e all zero u other at = let c = sum_by-cons parts x xs in let le = within parts xs i v e in let same : parts x ≡ parts u = ap parts (some-injective x u at) in omega arith
-  others_idle parts (x ∷ xs) (suc i) v e all (suc j) u other at = let c = sum_by-cons parts x xs in let le = within parts xs i v e in
+  others_idle parts (x ∷ xs) zero v e all (suc j) u other at = let c = sum_by-cons parts x xs in let same : parts x ≡ parts v = ap parts (some-injective x v e) in let le = sum_by_at parts xs j u at in omega arith
+  others_idle parts (x ∷ xs) (suc i) v e all zero u other at = let c = sum_by-cons parts x xs in let le = sum_by_at parts xs i v e in let same : parts x ≡ parts u = ap parts (some-injective x u at) in omega arith
+  others_idle parts (x ∷ xs) (suc i) v e all (suc j) u other at = let c = sum_by-cons parts x xs in let le = sum_by_at parts xs i v e in
       others_idle parts xs i v e (omega arith) j u (λ is. other (ap suc is)) at
 
   -- what stands where it was written

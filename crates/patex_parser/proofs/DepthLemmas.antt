@@ -1,9 +1,9 @@
 -- Brackets that are open and postfix signs in a row, of tokens and as they were read.
-use Rattle.std.proofs.Common.{◌≡◌, ℕ, zero, suc, ◌+◌, ◌-◌, ◌≤◌, ◌⊎◌, inl, inr, Option, Some, None, List, [], ◌∷◌, ◌++◌, length, take, drop, refl, sym, ap, ◌∙◌, subst, append_assoc, arith, length-append}
+use Rattle.std.proofs.Common.{◌≡◌, ℕ, suc, ◌+◌, ◌-◌, ◌≤◌, ◌⊎◌, inl, inr, Option, Some, None, List, [], ◌∷◌, ◌++◌, length, take, drop, refl, sym, ap, ◌∙◌, subst, append_assoc, arith, length-append}
 use Rattle.std.specs.List.{All, fold}
 use Rattle.std.proofs.lemmas.List.{append-nil, take-append-drop, length-drop}
 use Rattle.std.proofs.lemmas.List.Sums.{fold-append}
-use Rattle.std.proofs.lemmas.List.Elements.{All-append, All-nil, All-drop}
+use Rattle.std.proofs.lemmas.List.Elements.{All-push, All-nil, All-drop}
 use Rattle.mine_model.specs.declared.item.Item.{Item}
 use Rattle.mine_model.specs.Bytes.{exclamation_mark, open_round, close_round, asterisk, plus_sign, full_stop, equals_sign, question_mark, open_square, close_square, circumflex, vertical_bar}
 use Rattle.mine_model.specs.Limits.{most_nested}
@@ -337,10 +337,6 @@ open-count f tokens n (as_many last are not_open not_close) reads pairs =
 
 -- postfix signs in a row
 
-All-one : {X : Type 0} (P : X → Type 0) (x : X) → P x → All P (x ∷ [])
-All-one P x p zero d less = p
-All-one P x p (suc k) d less = absurd (omega arith)
-
 signs-from : (f : Item → Use) (front signs tokens : List Placed) (reads : List ReadToken) (n : ℕ) → length signs ≡ n → All (λ p. IsPostfixSign p.token) signs
     → Pairwise (MeansMark f) tokens reads
     → (before last : List Placed) × ((front ++ signs) ++ tokens ≡ before ++ last) × (length last ≡ fold (λ k read. signs_step k (effect_of read.kind)) n reads) × All (λ p. IsPostfixSign p.token) last
@@ -375,7 +371,7 @@ signs-from f front signs (t ∷ tokens) (r ∷ reads) n count all pairs =
         × (length last ≡ fold (λ k read. signs_step k (effect_of read.kind)) (signs_step n (effect_of r.kind)) reads) × All (λ p. IsPostfixSign p.token) last
     by-effect repeats e postfix more none' =
         moved ((front ++ (signs ++ t ∷ [])) ++ tokens) ((front ++ signs) ++ t ∷ tokens) (n + 1) (signs_step n (effect_of r.kind)) (one-sign-more front signs tokens t) (sym (ap (signs_step n) e))
-        (more (n + 1) (signs ++ t ∷ []) (omega (arith, length-append signs (t ∷ []), count)) (All-append (λ p. IsPostfixSign p.token) signs (t ∷ []) all (All-one (λ p. IsPostfixSign p.token) t (postfix e))))
+        (more (n + 1) (signs ++ t ∷ []) (omega (arith, length-append signs (t ∷ []), count)) (All-push (λ p. IsPostfixSign p.token) signs t all (postfix e)))
     by-effect opens e postfix more none' =
         moved ((((front ++ signs) ++ t ∷ []) ++ []) ++ tokens) ((front ++ signs) ++ t ∷ tokens) 0 (signs_step n (effect_of r.kind)) (none-more (front ++ signs) tokens t) (sym (ap (signs_step n) e)) none'
     by-effect closes e postfix more none' =

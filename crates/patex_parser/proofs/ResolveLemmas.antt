@@ -3,6 +3,7 @@ use Rattle.std.proofs.Common.{◌≡◌, ℕ, zero, suc, ◌+◌, ◌<◌, ◌�
 use Rattle.std.specs.Prelude.{slice_get, Contains}
 use Rattle.std.specs.List.{AllByRecursion}
 use Rattle.std.proofs.lemmas.List.{take_more, drop_more, take-append-drop, take_all, map-append}
+use Rattle.std.proofs.lemmas.Option.{slice_get_within, get_or_from_slice_get}
 use Rattle.mine_model.specs.declared.item.Item.{Item}
 use Rattle.mine_model.specs.declared.fault.Fault.{Fault}
 use Rattle.mine_model.specs.declared.fault.Fault.TheVariants.{Unknown}
@@ -15,12 +16,6 @@ use Rattle.mine_model.proofs.ListLemmas.{front_of_both, back_of_both, of_both}
 use Rattle.patex_parser.specs.declared.parsed.NameUse.{NameUse}
 use Rattle.patex_parser.specs.Parsing.{use_view, use_at, AreWithin, named_tree}
 use Rattle.patex_parser.specs.Resolving.{AreItemsOf, item_at}
-
--- a name that is held at a number
-held-at : (names : List (List ℕ)) (k : ℕ) (text : List ℕ) → slice_get names k ≡ Some text → (k < length names) × (get_or names k [] ≡ text)
-held-at [] k text e = cc
-held-at (n ∷ names) zero text e = (omega arith, cc)
-held-at (n ∷ names) (suc k) text e = let rest = held-at names k text e in (omega (arith, rest.0), rest.1)
 
 items-push : (names : List (List ℕ)) (uses : List Use) (items : List Item) (u : Use) (item : Item) → AreItemsOf names uses items
     → HasName names item × (name_of names item ≡ u.name) → AreItemsOf names (uses ++ u ∷ []) (items ++ item ∷ [])
@@ -75,7 +70,7 @@ pub items-on : (names : List (List ℕ)) (uses : List NameUse) (items : List Ite
 items-on names uses items i u item less is are held =
     let one : take (i + 1) uses ≡ take i uses ++ u ∷ [] = take_more uses i u less ∙ ap (λ x. take i uses ++ x ∷ []) (sym is) in
     subst (λ xs. AreItemsOf names xs (items ++ item ∷ [])) (sym (ap (map use_view) one ∙ map-append use_view (take i uses) (u ∷ [])))
-    (items-push names (map use_view (take i uses)) items (use_view u) item are (held-at names item.0 u.name held))
+    (items-push names (map use_view (take i uses)) items (use_view u) item are (slice_get_within names item.0 u.name held, get_or_from_slice_get names item.0 u.name [] held))
 
 pub items-all : (names : List (List ℕ)) (uses : List NameUse) (items : List Item) (i : ℕ) → length uses ≤ i → AreItemsOf names (map use_view (take i uses)) items
     → AreItemsOf names (map use_view uses) items

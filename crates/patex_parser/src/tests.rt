@@ -17,7 +17,8 @@ fn reads_expressions(rt: HostRuntime) -> Result<(), Fail> {
         ),
         (
             "NOUN+?",
-            "Rep { inner: Rep { inner: Leaf(Under(Item(0))), least: 1, most: None }, least: 0, most: Some(1) }",
+            "Rep { inner: Rep { inner: Leaf(Under(Item(0))), least: 1, most: None }, \
+             least: 0, most: Some(1) }",
         ),
         (
             "a= a^ a ^ =",
@@ -29,7 +30,8 @@ fn reads_expressions(rt: HostRuntime) -> Result<(), Fail> {
         ),
         (
             "(a{2}){ 1 , 2 }",
-            "Rep { inner: Cap(Rep { inner: Leaf(Under(Item(0))), least: 2, most: Some(2) }), least: 1, most: Some(2) }",
+            "Rep { inner: Cap(Rep { inner: Leaf(Under(Item(0))), least: 2, most: Some(2) }), \
+             least: 1, most: Some(2) }",
         ),
         (
             "[.{,3}]{004,}",
@@ -231,7 +233,8 @@ fn finds_the_items_of_names(rt: HostRuntime) -> Result<(), Fail> {
     let printed = format!(in rt.alloc(); "{tree:?}")?;
     assert_eq!(rt;
         printed.as_str(),
-        "Cat(Cat(Cap(Leaf(Under(Item(2)))), Rep { inner: Alt(Leaf(Under(Item(1))), Leaf(NotExact(Item(2)))), least: 0, most: None }), Leaf(Any))"
+        "Cat(Cat(Cap(Leaf(Under(Item(2)))), Rep { inner: Alt(Leaf(Under(Item(1))), \
+         Leaf(NotExact(Item(2)))), least: 0, most: None }), Leaf(Any))"
     );
     for (text, column) in [("(!zz)", 3), ("a ''", 3), ("a y 'z' y", 3)] {
         let parsed = parse(rt.alloc(), text.as_bytes())?;

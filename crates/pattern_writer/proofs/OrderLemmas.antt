@@ -1,6 +1,6 @@
 -- Rows that are sorted and have patterns of their own rise.
-use Rattle.std.proofs.Common.{◌≡◌, ◌≢◌, ℕ, ◌-◌, ◌≤◌, ◌<◌, suc, ◌==◌, Bool, false, List, [], ◌∷◌, ◌++◌, length, map, take, drop, get_or, refl, sym, ap, ◌∙◌, inl, inr, arith, All, AllPairs, true≢false, length-drop}
-use Rattle.std.specs.List.{AllByRecursion, IsDistinct}
+use Rattle.std.proofs.Common.{◌≡◌, ◌≢◌, ℕ, ◌-◌, ◌≤◌, ◌<◌, suc, false, List, [], ◌∷◌, ◌++◌, length, map, take, drop, get_or, refl, sym, ap, ◌∙◌, inl, inr, arith, All, AllPairs, true≢false, length-drop}
+use Rattle.std.specs.List.{AllByRecursion}
 use Rattle.std.specs.List.Sorted.{IsPermutation, IsSortedBy}
 use Rattle.std.specs.Bool.{Decides}
 use Rattle.std.specs.Cmp.{IsTotalOrder, tied_itself}
@@ -8,20 +8,18 @@ use Rattle.std.specs.Cmp.Lexicographic.{pointwise, slice_cmp}
 use Rattle.std.specs.Ordering.{nat_cmp, ordering_then, ordering_reverse, is_lt, is_eq, MatchOrdering}
 use Rattle.std.specs.declared.cmp.Ordering.{Ordering}
 use Rattle.std.specs.declared.cmp.Ordering.TheVariants.{Less, Equal, Greater}
-use Rattle.std.proofs.lemmas.Bool.Decides.{Decides-eqb}
-use Rattle.std.proofs.lemmas.Cmp.{nat_cmp_total, then_total, back_total, on_total, lists_total, nat_list_cmp_total, on_equiv, lists_equiv, nat_eq_equiv, ranked}
+use Rattle.std.proofs.lemmas.Cmp.{nat_cmp_total, then_total, back_total, on_total, lists_total, nat_list_cmp_total, ranked}
 use Rattle.std.proofs.lemmas.List.Elements.{All-head, All-tail}
 use Rattle.std.proofs.lemmas.List.{length-map, get_or-map, take-append-drop, take_all}
 use Rattle.std.proofs.lemmas.List.MinMax.{ranks_by}
 use Rattle.std.proofs.lemmas.List.Sorted.{IsPermutation-map, All-permutation, sorted_far}
-use Rattle.std.proofs.lemmas.Map.Keys.{IsDistinct-IsPermutation}
-use Rattle.std.proofs.lemmas.Map.Made.{AllPairs-from_IsDistinct, IsDistinct-from_AllPairs}
 use Rattle.std.proofs.lemmas.Map.Text.{is_eq-slice_cmp}
 use Rattle.std.proofs.lemmas.Slice.Eq.{slice_eq-Decides, bytes_eq-Decides}
 use Rattle.mine_model.specs.declared.item.Item.{Item}
 use Rattle.mine_model.specs.declared.row.Row.{Row}
 use Rattle.mine_model.specs.Answer.{NamedRow, ComesBefore, Rises}
 use Rattle.mine_model.specs.Names.{name_of, HasName, AreDistinct, named_row}
+use Rattle.mine_model.proofs.ApartLemmas.{item_eq, item_eq-Decides, apart_by_permutation}
 use Rattle.pattern_writer.specs.Order.{names_cmp, row_cmp}
 
 -- the comparison of rows is an order
@@ -114,16 +112,7 @@ Rises-from_AllPairs names (row ∷ rows) pairs = (
 
 -- ---- patterns that differ still do in another order
 
-abbrev item_eq : Item → Item → Bool
-item_eq first second = first.0 == second.0
-
-pub item_eq-Decides : (first second : Item) → Decides (item_eq first second) (first ≡ second)
-item_eq-Decides first second = (
-  λ e. let same : first.0 ≡ second.0 = (Decides-eqb first.0 second.0).0 e in λ i. record { 0 = same i },
-  λ e. (Decides-eqb first.0 second.0).1 (ap (λ (item : Item). item.0) e),
-)
-
-pub pattern_eq-Decides : (first second : List Item) → Decides (pointwise item_eq first second) (first ≡ second)
+pattern_eq-Decides : (first second : List Item) → Decides (pointwise item_eq first second) (first ≡ second)
 pattern_eq-Decides first second = slice_eq-Decides item_eq-Decides first second (pointwise item_eq first second) refl
 
 abbrev pattern_of : Row → List Item
@@ -146,9 +135,7 @@ rows_differ rows pairs i j d less within e =
 
 still_differ : (old new : List Row) → IsPermutation old new → AllPairs (λ first second. first.pattern ≢ second.pattern) old → AllPairs (λ first second. first.pattern ≢ second.pattern) new
 still_differ old new moved pairs =
-    let apart : IsDistinct (pointwise item_eq) (map pattern_of old) = IsDistinct-from_AllPairs pattern_eq-Decides (map pattern_of old) (patterns_differ old pairs) in
-    let flips = (lists_equiv (on_equiv (λ (item : Item). item.0) nat_eq_equiv)).symm in
-    rows_differ new (AllPairs-from_IsDistinct pattern_eq-Decides (map pattern_of new) (IsDistinct-IsPermutation (pointwise item_eq) flips (map pattern_of old) (map pattern_of new) (IsPermutation-map pattern_of old new moved) apart))
+    rows_differ new (apart_by_permutation pattern_eq-Decides (map pattern_of old) (map pattern_of new) (IsPermutation-map pattern_of old new moved) (patterns_differ old pairs))
 
 -- sorted rows with patterns of their own, all of whose items have names, rise
 pub Rises-from_sort : (names : List (List ℕ)) (old new : List Row) → AreDistinct names → All (λ row. All (HasName names) row.pattern) old

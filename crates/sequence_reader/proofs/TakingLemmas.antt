@@ -15,8 +15,9 @@ use Rattle.mine_model.specs.Limits.{most_file_bytes, most_items}
 use Rattle.mine_model.specs.Text.{lines_of, fields_of, placed_fields_of, bad_byte, long_name, IsSoundLine}
 use Rattle.mine_model.specs.Support.{Sequence}
 use Rattle.mine_model.specs.Names.{name_of, HasName, sequence_by, GrowBy}
-use Rattle.mine_model.specs.Refusal.{IsTextRefusal, HasMoreNames, sequence_of, sequences_of_lines, items_of, IsBadWeight, IsSequenceLineRefusal, IsSequencesRefusal}
+use Rattle.mine_model.specs.Refusal.{HasMoreNames, sequence_of, sequences_of_lines, items_of, IsBadWeight, IsSequenceLineRefusal, IsSequencesRefusal}
 use Rattle.mine_model.proofs.ListLemmas.{of_both}
+use Rattle.mine_model.proofs.RefusalLemmas.{no_text_fault}
 use Rattle.mine_model.proofs.NameLemmas.{GrowBy-none, GrowBy-more, no_more_names}
 use Rattle.item_names.proofs.Growing.{HasMoreNames-grown}
 use Rattle.text_ports.specs.Lines.{WasGiven, TookAll, StoppedAt, Refused}
@@ -86,14 +87,10 @@ module _ (known : List (List ℕ)) (weighted : Bool) where
   pub counted : (lines : List (List ℕ)) (v : Reading) → IsTaken known weighted lines v → length v.db ≡ length lines
   counted lines v taken = sym (length-map v.db (sequence_by (name_of v.names))) ∙ ap length taken.said ∙ length-map lines (λ line. sequence_of weighted (fields_of line))
 
-  no_text_fault : (n : ℕ) (text : List ℕ) (other : Fault) → IsSoundLine text → IsTextRefusal Sequences n text other → ⊥
-  no_text_fault n text other sound (column, inl first) = sound bad_byte column first.0.0
-  no_text_fault n text other sound (column, inr first) = sound long_name column first.0.0
-
   -- a line that was taken is not refused
   accepted : (lines : List (List ℕ)) (v w : Reading) (n : ℕ) (text : List ℕ) → IsTaken known weighted lines v → TookLine v n text w
       → (other : Fault) → IsSequenceLineRefusal weighted known lines text other → ⊥
-  accepted lines v w n text taken took other (inl textual) = no_text_fault _ text other took.sound textual
+  accepted lines v w n text taken took other (inl textual) = no_text_fault Sequences _ text other took.sound textual
   accepted lines v w n text taken took other (inr (no_text, inl many)) =
       let count = counted lines v taken in let few = took.few in let over = many.0 in omega (arith, count, few, over)
   accepted lines v w n text taken took other (inr (no_text, inr (not_many, inl weight))) =
@@ -141,11 +138,11 @@ module _ (known : List (List ℕ)) (weighted : Bool) where
   line_refused lines v text (NameTooLong line column) taken sound why apart = absurd why
   line_refused lines v text (TooManySequences line) taken sound why apart =
       let count = counted lines v taken in
-      inr ((λ other. no_text_fault _ text other sound), inl (let over = why.1 in omega (arith, count, over), ap fault.TooManySequences why.0))
+      inr ((λ other. no_text_fault Sequences _ text other sound), inl (let over = why.1 in omega (arith, count, over), ap fault.TooManySequences why.0))
   line_refused lines v text (BadWeight line column) taken sound why apart =
       let count = counted lines v taken in
       inr (
-        (λ other. no_text_fault _ text other sound),
+        (λ other. no_text_fault Sequences _ text other sound),
         inr (
           (λ other many. let few = why.1 in let over = many.0 in omega (arith, count, few, over)),
           inl (column, subst (λ b. IsBadWeight b (placed_fields_of text) column) taken.same why.2, ap (λ n. fault.BadWeight n column) why.0),
@@ -154,7 +151,7 @@ module _ (known : List (List ℕ)) (weighted : Bool) where
   line_refused lines v text (TooLong line) taken sound why apart =
       let count = counted lines v taken in
       inr (
-        (λ other. no_text_fault _ text other sound),
+        (λ other. no_text_fault Sequences _ text other sound),
         inr (
           (λ other many. let few = why.1 in let over = many.0 in omega (arith, count, few, over)),
           inr (
@@ -169,7 +166,7 @@ module _ (known : List (List ℕ)) (weighted : Bool) where
       let more : HasMoreNames most_items (v.names ++ (sequence_of weighted (fields_of text)).items) =
       subst (λ (s : Sequence (List ℕ)). HasMoreNames most_items (v.names ++ s.items)) (said_in lines v text taken) why.4 in
       inr (
-        (λ other. no_text_fault _ text other sound),
+        (λ other. no_text_fault Sequences _ text other sound),
         inr (
           (λ other many. let few = why.1 in let over = many.0 in omega (arith, count, few, over)),
           inr (

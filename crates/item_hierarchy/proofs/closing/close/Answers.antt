@@ -2,8 +2,8 @@ use Rattle.std.proofs.Common.{◌<◌, sym, subst}
 use Rattle.std.specs.List.Sorted.{IsPermutation}
 use Rattle.std.proofs.lemmas.List.Sorted.{All-permutation}
 use Rattle.item_hierarchy.specs.declared.edges.EdgeRow.{EdgeRow}
-use Rattle.item_hierarchy.proofs.GatheringLemmas.{IfOk-weaker}
-use Rattle.item_hierarchy.proofs.ClosingLemmas.{closes_moved, refusal_moved, IfErr-weaker}
+use Rattle.std.proofs.lemmas.Result.{IfOk-weaker, IfErr-weaker}
+use Rattle.item_hierarchy.proofs.ClosingLemmas.{closes_moved, refusal_moved}
 use Rattle.item_hierarchy.proofs.closing.close.Goals as goal
 
 pub close_sorted-requires-clause-within : goal.close_sorted-requires-clause-within

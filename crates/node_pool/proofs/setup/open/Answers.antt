@@ -1,11 +1,12 @@
 use Rattle.std.proofs.Common.{◌≡◌, ◌<◌, ◌∙◌, sym, length, map, Some, vec_len, arith, rules, All}
 use Rattle.std.proofs.lemmas.List.{length-map}
+use Rattle.std.proofs.lemmas.Result.{IfOk-weaker}
 use Rattle.crossbeam_deque.specs.Handles.{worker_deque}
 use Rattle.node_pool.specs.Pool.{seat_ground, IsWholePool}
 use Rattle.node_pool.specs.Opening.{AreSeats}
 use Rattle.node_pool.proofs.Kept.{first_ground, first_fresh, first_ground_is, fresh_for, rows_for}
 use Rattle.node_pool.proofs.NewWays.{same_length}
-use Rattle.node_pool.proofs.Opened.{ok_then, ok_both, whole_pool, all_ground}
+use Rattle.node_pool.proofs.Opened.{ok_both, whole_pool, all_ground}
 use Rattle.node_pool.proofs.setup.open.Goals as goal
 
 pub all_ways-requires-send-T : goal.all_ways-requires-send-T
@@ -35,7 +36,7 @@ seated-requires-send-T g c κs within =
 pub returns-clause-pool : goal.returns-clause-pool
 returns-clause-pool g c =
     let n = length-map c.all_ways.new.owners.items worker_deque in
-    ok_then c.seated.result
+    IfOk-weaker c.seated.result
     (λ seats. (vec_len seats ≡ vec_len c.all_ways.new.owners) × AreSeats (first_ground c.all_ways.new.owners.items) (map worker_deque c.all_ways.new.owners.items) seats.items)
     (λ seats. IsWholePool seats.items)
     (λ seats h. whole_pool (first_ground c.all_ways.new.owners.items) (map worker_deque c.all_ways.new.owners.items) seats.items (omega (arith, h.0, seats.ok.0, c.all_ways.new.owners.ok.0)) h.1)
@@ -49,7 +50,7 @@ returns-clause-ground g c =
     let known_ground : first_ground c.all_ways.new.owners.items ≡ Some c.args.ground.now =
     first_ground_is (first_ground c.in_ok-owners.owners.items) (vec_len c.in_ok-owners.owners) c.all_ways.new.owners.items some c.in_ok-rows.ensures.left
     ∙ first_ground_is (Some c.args.ground.now) 0 c.in_ok-owners.owners.items were c.in_ok-owners.ensures.fresh in
-    ok_then c.seated.result
+    IfOk-weaker c.seated.result
     (λ seats. AreSeats (first_ground c.all_ways.new.owners.items) (map worker_deque c.all_ways.new.owners.items) seats.items)
     (λ seats. All (λ seat. seat_ground seat ≡ Some c.args.ground.now) seats.items)
     (λ seats h. all_ground (first_ground c.all_ways.new.owners.items) (map worker_deque c.all_ways.new.owners.items) seats.items (Some c.args.ground.now) known_ground h)

@@ -3,7 +3,7 @@ use Rattle.mine_model.specs.declared.item.Item.{Item}
 use Rattle.mine_model.specs.declared.row.Row.{Row}
 use Rattle.std.proofs.lemmas.List.{get_or_default}
 use Rattle.std.proofs.lemmas.Slice.Eq.{slice_eq-Decides}
-use Rattle.pattern_writer.proofs.OrderLemmas.{item_eq-Decides}
+use Rattle.mine_model.proofs.ApartLemmas.{item_eq-Decides}
 use Rattle.pattern_writer.proofs.tests.is_new.Goals as goal
 
 pub loop-k-preserved : goal.loop-k-preserved

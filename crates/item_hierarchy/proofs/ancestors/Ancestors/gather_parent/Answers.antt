@@ -4,7 +4,7 @@ use Rattle.std.specs.Result.{IfOk, OnOk}
 use Rattle.std.proofs.lemmas.List.{get_or_default}
 use Rattle.mine_model.specs.declared.item.Item.{Item}
 use Rattle.item_hierarchy.specs.Gathering.{part_at, list_in}
-use Rattle.item_hierarchy.proofs.GatheringLemmas.{IfOk-weaker}
+use Rattle.std.proofs.lemmas.Result.{IfOk-weaker}
 use Rattle.item_hierarchy.proofs.ancestors.Ancestors.gather_parent.Goals as goal
 use Rattle.item_hierarchy.proofs.ancestors.Ancestors.gather_parent.Goals.{After-gather}
 
