@@ -71,17 +71,26 @@ module _ (Has : ℕ → ℕ → Type 0) where
       let (m, k, here, rest, e) = front.sums in
       (m, k, here, sums_reordered front.rest others k (λ weight. omega (arith, same weight, front.same weight, sum_by-cons weight (entry_of block) (map entry_of others), sum_by-cons weight (entry_of block) (map entry_of front.rest))) rest, e)
 
-module _ (problem : Problem) (ranks : List ℕ) where
+-- what is counted of sequences, where what is counted of two parts is added up
+module _ (problem : Problem) (Of : List (Sequence Item) → ℕ → Type 0) (none : Of [] 0)
+    (both : (xs ys : List (Sequence Item)) (n m : ℕ) → Of xs n → Of ys m → Of (xs ++ ys) (n + m)) where
   -- the sequences of one block after another, from this one on
-  laid : (count from n : ℕ) → length problem.sequences ≤ 256 * (from + count) → SumsTo problem (range_with_len from count) ranks n → Counts (HasCandidate problem ranks) (drop (256 * from) problem.sequences) n
-  laid zero from n all sums = rw (past_end (256 * from) problem.sequences (omega (arith, all))) sums
+  laid : (count from n : ℕ) → length problem.sequences ≤ 256 * (from + count)
+      → SumsBy (λ block m. Of (sequences_in problem block) m) (range_with_len from count) n → Of (drop (256 * from) problem.sequences) n
+  laid zero from n all sums = rw (past_end (256 * from) problem.sequences (omega (arith, all))) (subst (Of []) (sym sums) none)
   laid (suc count) from n all (m, k, here, rest, e) =
       let behind : List (Sequence Item) = drop (256 * from) problem.sequences in
       let next : drop (256 * (from + 1)) problem.sequences ≡ drop 256 behind = ap (λ (j : ℕ). drop j problem.sequences) (omega arith) ∙ sym (drop_drop (256 * from) 256 problem.sequences) in
-      let later : Counts (HasCandidate problem ranks) (drop 256 behind) k = rw next at (laid count (from + 1) k (omega (arith, all)) rest) in
-      let both = Counts-append (HasCandidate problem ranks) (take 256 behind) (drop 256 behind) m k here later in
-      rw e (subst (λ (xs : List (Sequence Item)). Counts (HasCandidate problem ranks) xs (m + k)) (take-append-drop 256 behind) both)
+      let later : Of (drop 256 behind) k = rw next at (laid count (from + 1) k (omega (arith, all)) rest) in
+      let whole = both (take 256 behind) (drop 256 behind) m k here later in
+      rw e (subst (λ (xs : List (Sequence Item)). Of xs (m + k)) (take-append-drop 256 behind) whole)
 
-  -- the sum over all blocks
-  pub sums_all : (n : ℕ) → SumsTo problem (range_with_len 0 (block_count problem)) ranks n → Counts (HasCandidate problem ranks) problem.sequences n
-  sums_all n sums = laid (block_count problem) 0 n (omega arith) sums
+  -- the sum over all blocks is what is counted of all sequences
+  pub sums_laid : (n : ℕ) → SumsBy (λ block m. Of (sequences_in problem block) m) (range_with_len 0 (block_count problem)) n → Of problem.sequences n
+  sums_laid n sums = laid (block_count problem) 0 n (omega arith) sums
+
+-- the sum over all blocks
+pub sums_all : (problem : Problem) (ranks : List ℕ) (n : ℕ) → SumsTo problem (range_with_len 0 (block_count problem)) ranks n
+    → Counts (HasCandidate problem ranks) problem.sequences n
+sums_all problem ranks n sums =
+    sums_laid problem (Counts (HasCandidate problem ranks)) refl (Counts-append (HasCandidate problem ranks)) n sums

@@ -11,6 +11,7 @@ use Rattle.mine_model.specs.Support.{Sequence}
 use Rattle.mine_model.specs.Ancestry.{Ancestry}
 use Rattle.mine_model.specs.First.{FirstOf, FirstAmong}
 use Rattle.mine_model.specs.Refusal.{IsExpressionRefusal, IsHierarchyRefusal, IsSequencesRefusal, IsUnknown, names_of, items_of, sequences_of}
+use Rattle.mine_model.specs.declared.mined.Work.{Work}
 use Rattle.mine_model.specs.Status.{fault_status, status_of}
 use Rattle.mine_model.proofs.ListLemmas.{Contains-first, Contains-other}
 use Rattle.mine_model.proofs.FirstLemmas.{AtMostOne, FirstOf-unique, FirstAmong-unique}
@@ -187,8 +188,8 @@ other_status s n (inl three) same not_three not_four = not_three (sym same ∙ t
 other_status s n (inr four) same not_three not_four = not_four (sym same ∙ four)
 
 module _ (words : List (List ℕ)) (holds : List ℕ → Option (List ℕ)) where
-  pub usage-ended : (outcome : Result (Unit {0}) Fault) → Ends words holds outcome → status_of outcome ≡ 2 → IsUsage words
-  usage-ended _ (done c has accepted) status = absurd (omega (arith, status))
+  pub usage-ended : (outcome : Result (Option Work) Fault) → Ends words holds outcome → status_of outcome ≡ 2 → IsUsage words
+  usage-ended _ (done c told has asked ends) status = absurd (omega (arith, status))
   usage-ended _ (no_command usage) status = usage
   usage-ended _ (refused_expression c fault is refused) status =
       absurd (other_status (fault_status fault) 2 (expression-status c.expression fault refused) status (λ e. omega (arith, e)) (λ e. omega (arith, e)))
@@ -199,8 +200,8 @@ module _ (words : List (List ℕ)) (holds : List ℕ → Option (List ℕ)) wher
   usage-ended _ no_memory status = absurd (omega (arith, status))
 
   -- words of no command end so, unless memory ran out
-  pub ended-usage : (outcome : Result (Unit {0}) Fault) → Ends words holds outcome → IsUsage words → (status_of outcome ≡ 2) ⊎ (status_of outcome ≡ 7)
-  ended-usage _ (done c has accepted) usage = absurd (IsUsage-excludes words c usage has.0)
+  pub ended-usage : (outcome : Result (Option Work) Fault) → Ends words holds outcome → IsUsage words → (status_of outcome ≡ 2) ⊎ (status_of outcome ≡ 7)
+  ended-usage _ (done c told has asked ends) usage = absurd (IsUsage-excludes words c usage has.0)
   ended-usage _ (no_command is) usage = inl refl
   ended-usage _ (refused_expression c fault is refused) usage = absurd (IsUsage-excludes words c usage is)
   ended-usage _ (refused_file c fault has refused malformed) usage = absurd (IsUsage-excludes words c usage has.0)
@@ -209,15 +210,15 @@ module _ (words : List (List ℕ)) (holds : List ℕ → Option (List ℕ)) wher
   ended-usage _ no_memory usage = inr refl
 
   -- a command whose expression is refused ends so, unless memory ran out
-  pub ended-expression : (outcome : Result (Unit {0}) Fault) → Ends words holds outcome → (c : Command) (fault : Fault) → IsCommand words c
+  pub ended-expression : (outcome : Result (Option Work) Fault) → Ends words holds outcome → (c : Command) (fault : Fault) → IsCommand words c
       → IsExpressionRefusal c.expression fault → (status_of outcome ≡ fault_status fault) ⊎ (status_of outcome ≡ 7)
   ended-expression _ ended c fault is refused = by _ ended
     where
       contradicts : (d : Command) → HasExpression words d → ⊥
       contradicts d has = has.1 fault (subst (λ (e : Command). IsExpressionRefusal e.expression fault) (IsCommand-unique words c d is has.0) refused)
 
-      by : (outcome : Result (Unit {0}) Fault) → Ends words holds outcome → (status_of outcome ≡ fault_status fault) ⊎ (status_of outcome ≡ 7)
-      by _ (done d has accepted) = absurd (contradicts d has)
+      by : (outcome : Result (Option Work) Fault) → Ends words holds outcome → (status_of outcome ≡ fault_status fault) ⊎ (status_of outcome ≡ 7)
+      by _ (done d told has asked ends) = absurd (contradicts d has)
       by _ (no_command usage) = absurd (IsUsage-excludes words c usage is)
       by _ (refused_expression d other is_d refused_d) =
           let here : IsExpressionRefusal d.expression fault = subst (λ (e : Command). IsExpressionRefusal e.expression fault) (IsCommand-unique words c d is is_d) refused in
@@ -229,10 +230,10 @@ module _ (words : List (List ℕ)) (holds : List ℕ → Option (List ℕ)) wher
 
   module _ (input : Input) (is : IsInput words holds input) where
     -- what is malformed or beyond a limit is the first refusal
-    pub refusal-ended : (outcome : Result (Unit {0}) Fault) → Ends words holds outcome → (status_of outcome ≡ 3) ⊎ (status_of outcome ≡ 4)
+    pub refusal-ended : (outcome : Result (Option Work) Fault) → Ends words holds outcome → (status_of outcome ≡ 3) ⊎ (status_of outcome ≡ 4)
         → (fault : Fault) × IsFirstRefusal input fault × (fault_status fault ≡ status_of outcome)
-    refusal-ended _ (done c has accepted) (inl e) = absurd (omega (arith, e))
-    refusal-ended _ (done c has accepted) (inr e) = absurd (omega (arith, e))
+    refusal-ended _ (done c told has asked ends) (inl e) = absurd (omega (arith, e))
+    refusal-ended _ (done c told has asked ends) (inr e) = absurd (omega (arith, e))
     refusal-ended _ (no_command usage) (inl e) = absurd (omega (arith, e))
     refusal-ended _ (no_command usage) (inr e) = absurd (omega (arith, e))
     refusal-ended _ (refused_expression c fault is_c refused) status =
@@ -246,9 +247,9 @@ module _ (words : List (List ℕ)) (holds : List ℕ → Option (List ℕ)) wher
     refusal-ended _ no_memory (inr e) = absurd (omega (arith, e))
 
     -- the first refusal ends the run, unless memory ran out or a fault of reading came
-    pub ended-refusal : (outcome : Result (Unit {0}) Fault) → Ends words holds outcome → (fault : Fault) → IsFirstRefusal input fault
+    pub ended-refusal : (outcome : Result (Option Work) Fault) → Ends words holds outcome → (fault : Fault) → IsFirstRefusal input fault
         → (status_of outcome ≡ fault_status fault) ⊎ (status_of outcome ≡ 7) ⊎ (status_of outcome ≡ 5)
-    ended-refusal _ (done c has accepted) fault refused = absurd (accepted input is fault refused)
+    ended-refusal _ (done c told has asked ends) fault refused = absurd ((ends input is).0 fault refused)
     ended-refusal _ (no_command usage) fault refused = absurd (IsUsage-excludes words input.command usage is.said)
     ended-refusal _ (refused_expression c other is_c refused_c) fault refused =
         let here : IsFirstRefusal input other =
@@ -257,13 +258,13 @@ module _ (words : List (List ℕ)) (holds : List ℕ → Option (List ℕ)) wher
     ended-refusal _ (refused_file c other has refused_c malformed) fault refused =
         inl (ap fault_status (first-unique input other fault (refused_c input is) refused))
     ended-refusal _ (read_fault c file has names) fault refused = inr (inr refl)
-    ended-refusal _ (write_fault c has accepted) fault refused = absurd (accepted input is fault refused)
+    ended-refusal _ (write_fault c has accepted) fault refused = absurd ((ends input is).0 fault refused)
     ended-refusal _ no_memory fault refused = inr (inl refl)
 
     -- where nothing is refused the run is done, or a fault of reading or writing came, or memory ran out
-    pub ended-accepted : (outcome : Result (Unit {0}) Fault) → Ends words holds outcome → IsAccepted input
+    pub ended-accepted : (outcome : Result (Option Work) Fault) → Ends words holds outcome → IsAccepted input
         → (status_of outcome ≡ 0) ⊎ (status_of outcome ≡ 5) ⊎ (status_of outcome ≡ 6) ⊎ (status_of outcome ≡ 7)
-    ended-accepted _ (done c has accepted) all = inl refl
+    ended-accepted _ (done c told has asked ends) all = inl refl
     ended-accepted _ (no_command usage) all = absurd (IsUsage-excludes words input.command usage is.said)
     ended-accepted _ (refused_expression c fault is_c refused) all =
         absurd (all fault (inl (subst (λ (d : Command). IsExpressionRefusal d.expression fault) (IsCommand-unique words c input.command is_c is.said) refused)))
@@ -273,7 +274,7 @@ module _ (words : List (List ℕ)) (holds : List ℕ → Option (List ℕ)) wher
     ended-accepted _ no_memory all = inr (inr (inr refl))
 
 -- what holds where a run is done
-pub if-done : (outcome : Result (Unit {0}) Fault) (P : Type 0) → OnOk outcome P → status_of outcome ≡ 0 → P
+pub if-done : (outcome : Result (Option Work) Fault) (P : Type 0) → OnOk outcome P → status_of outcome ≡ 0 → P
 if-done (Ok x) P p status = p
 if-done (Err Usage) P p status = absurd (omega (arith, status))
 if-done (Err (BadToken column)) P p status = absurd (omega (arith, status))
@@ -298,7 +299,7 @@ if-done (Err Write) P p status = absurd (omega (arith, status))
 if-done (Err NoMemory) P p status = absurd (omega (arith, status))
 
 -- what holds where a file was not read
-pub if-unread : (outcome : Result (Unit {0}) Fault) (P : Type 0) → ((file : Which) → outcome ≡ Err (Read file) → P) → status_of outcome ≡ 5 → P
+pub if-unread : (outcome : Result (Option Work) Fault) (P : Type 0) → ((file : Which) → outcome ≡ Err (Read file) → P) → status_of outcome ≡ 5 → P
 if-unread (Ok x) P p status = absurd (omega (arith, status))
 if-unread (Err Usage) P p status = absurd (omega (arith, status))
 if-unread (Err (BadToken column)) P p status = absurd (omega (arith, status))
@@ -323,7 +324,7 @@ if-unread (Err Write) P p status = absurd (omega (arith, status))
 if-unread (Err NoMemory) P p status = absurd (omega (arith, status))
 
 -- what holds where the answer was not written
-pub if-unwritten : (outcome : Result (Unit {0}) Fault) (P : Type 0) → (outcome ≡ Err Write → P) → status_of outcome ≡ 6 → P
+pub if-unwritten : (outcome : Result (Option Work) Fault) (P : Type 0) → (outcome ≡ Err Write → P) → status_of outcome ≡ 6 → P
 if-unwritten (Ok x) P p status = absurd (omega (arith, status))
 if-unwritten (Err Usage) P p status = absurd (omega (arith, status))
 if-unwritten (Err (BadToken column)) P p status = absurd (omega (arith, status))
@@ -349,8 +350,8 @@ if-unwritten (Err NoMemory) P p status = absurd (omega (arith, status))
 
 -- where a run is done, or the answer was not written, nothing is refused
 pub accepted-ended : (words : List (List ℕ)) (holds : List ℕ → Option (List ℕ)) (input : Input) → IsInput words holds input
-    → (outcome : Result (Unit {0}) Fault) → Ends words holds outcome → (status_of outcome ≡ 0) ⊎ (status_of outcome ≡ 6) → IsAccepted input
-accepted-ended words holds input is _ (done c has accepted) status = accepted input is
+    → (outcome : Result (Option Work) Fault) → Ends words holds outcome → (status_of outcome ≡ 0) ⊎ (status_of outcome ≡ 6) → IsAccepted input
+accepted-ended words holds input is _ (done c told has asked ends) status = (ends input is).0
 accepted-ended words holds input is _ (no_command usage) (inl e) = absurd (omega (arith, e))
 accepted-ended words holds input is _ (no_command usage) (inr e) = absurd (omega (arith, e))
 accepted-ended words holds input is _ (refused_expression c fault is_c refused) (inl e) =

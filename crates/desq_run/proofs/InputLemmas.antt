@@ -13,8 +13,13 @@ use Rattle.mine_model.specs.Names.{name_of, HasName, AreDistinct, named_row, seq
 use Rattle.mine_model.specs.Ancestry.{Ancestry}
 use Rattle.mine_model.specs.Refusal.{links_of, sequences_of}
 use Rattle.mine_model.proofs.ListLemmas.{Contains-first, Contains-other}
+use Rattle.mine_model.specs.declared.mined.Work.{Work}
+use Rattle.mine_model.specs.Counted.{HasPairs}
+use Rattle.mine_model.proofs.CountedLemmas.{pairs-forth}
 use Rattle.mine_model.proofs.NamedAnswer.{named_data, answer-named}
-use Rattle.desq_run.specs.Ends.{Input, data_of}
+use Rattle.command_line.specs.declared.words.Engine.{Engine}
+use Rattle.command_line.specs.declared.words.Engine.TheVariants.{Count}
+use Rattle.desq_run.specs.Ends.{Input, data_of, IsWorkOf}
 use Rattle.desq_run.specs.Inputs.{IsHierarchyOf, IsDatabaseOf, AreLinksWithin}
 use Rattle.desq_run.proofs.LinkLemmas.{names-rename}
 
@@ -48,3 +53,30 @@ rows-answer input tree known added h db e rows distinct read within is_db number
     (record { links = links_named; sequences = numbered; expression = named }) some rows frequent rises in
     subst (λ (s : List (Sequence (List ℕ))). IsAnswer (record { links = links_of input.hierarchy; sequences = s; expression = tree_by (λ (u : Use). u.name) tree; threshold = input.command.threshold }) (map (named_row names) rows)) is_db.sequences
     (subst (λ (t : Tree (List ℕ)). IsAnswer (record { links = links_of input.hierarchy; sequences = map (sequence_by (name_of names)) db; expression = t; threshold = input.command.threshold }) (map (named_row names) rows)) same_tree answer)
+
+-- the work found by numbers is the work by names
+pub work-answer : (input : Input) (tree : Tree Use) (known added : List (List ℕ)) (h : Ancestry) (db : List (Sequence Item)) (e : Tree Item) (engine : Engine) (work : Work)
+    → AreDistinct (known ++ added)
+    → IsHierarchyOf input.hierarchy known h
+    → AreLinksWithin h
+    → IsDatabaseOf input.command.weighted input.sequences known (known ++ added) db
+    → AllByRecursion (λ (s : Sequence Item). AllByRecursion (HasName (known ++ added)) s.items) db
+    → tree_by (name_of (known ++ added)) e ≡ tree_by (λ (u : Use). u.name) tree
+    → AllByRecursion (HasName (known ++ added)) (named_in e)
+    → IsWorkOf engine (record { links = h.links; sequences = db; expression = e; threshold = input.command.threshold }) work
+    → IsWorkOf engine (data_of input tree) work
+work-answer input tree known added h db e Count work distinct read within is_db numbered same_tree named is =
+    let names : List (List ℕ) = known ++ added in
+    let d : Data Item = record { links = h.links; sequences = db; expression = e; threshold = input.command.threshold } in
+    let pairs = pairs-forth (name_of names) (links_of input.hierarchy) d (HasName names) (names-rename input.hierarchy known added h distinct read within)
+    named numbered db is.pairs.0 numbered is.pairs.1 in
+    record {
+      nodes = is.nodes;
+      parts = is.parts;
+      pairs = (
+        is.pairs.0,
+        subst (λ (s : List (Sequence (List ℕ))). HasPairs (record { links = links_of input.hierarchy; sequences = s; expression = tree_by (λ (u : Use). u.name) tree; threshold = input.command.threshold }) s is.pairs.0) is_db.sequences
+        (subst (λ (t : Tree (List ℕ)). HasPairs (record { links = links_of input.hierarchy; sequences = map (sequence_by (name_of names)) db; expression = t; threshold = input.command.threshold }) (map (sequence_by (name_of names)) db) is.pairs.0) same_tree pairs),
+        is.pairs.2,
+      );
+    }

@@ -1,5 +1,5 @@
 -- The rows that were found, in order, and what they say of the input.
-use Rattle.std.proofs.Common.{◌≡◌, ◌≢◌, ◌⊎◌, inl, inr, ◌↔◌, ℕ, ◌<◌, ◌≤◌, List, [], ◌∷◌, ◌++◌, map, length, take, drop, All, Option, IfSome, IsPermutation, Contains, sym, ap, ◌∙◌, subst, arith}
+use Rattle.std.proofs.Common.{◌≡◌, ◌≢◌, ◌⊎◌, inl, inr, ◌↔◌, ℕ, ◌<◌, ◌≤◌, List, [], ◌∷◌, ◌++◌, map, length, take, drop, All, Option, Some, None, IfSome, IsPermutation, Contains, sym, ap, ◌∙◌, subst, arith}
 use Rattle.std.specs.List.{AllByRecursion}
 use Rattle.std.proofs.lemmas.List.{drop_all, take_all, append-nil}
 use Rattle.std.proofs.lemmas.List.Elements.{All-from_recursion}
@@ -16,11 +16,13 @@ use Rattle.mine_model.specs.Names.{name_of, HasName, AreDistinct, named_row}
 use Rattle.mine_model.specs.Ancestry.{Ancestry}
 use Rattle.mine_model.specs.Refusal.{IsUnknown}
 use Rattle.command_line.specs.Words.{Command}
-use Rattle.desq_run.specs.Ends.{Input, IsInput, bytes_named, HasExpression}
+use Rattle.mine_model.specs.declared.mined.Work.{Work}
+use Rattle.command_line.specs.declared.words.Engine.{Engine}
+use Rattle.desq_run.specs.Ends.{Input, IsInput, bytes_named, data_of, HasExpression, IsWorkOf}
 use Rattle.desq_run.specs.Inputs.{IsHierarchyOf, IsDatabaseOf, AreLinksWithin, AreInputs, AreRows, AreOrdered, IsMined}
 use Rattle.desq_run.proofs.HierarchyLemmas.{all-of}
 use Rattle.desq_run.proofs.EndLemmas.{same_command, read_at, found_at, reads_at, nothing-refused}
-use Rattle.desq_run.proofs.InputLemmas.{rows-answer}
+use Rattle.desq_run.proofs.InputLemmas.{rows-answer, work-answer}
 
 -- the items of rows have names, where those of a hierarchy have
 pub rows-named : (names : List (List ℕ)) (items : ℕ) (rows : List Row) → items ≡ length names
@@ -49,7 +51,7 @@ written_back new old n whole same =
     rw (none, append-nil) (take_all n new (omega arith))
 
 module _ (words : List (List ℕ)) (holds : List ℕ → Option (List ℕ)) (c : Command) (has : HasExpression words c)
-    (known : List (List ℕ)) (before : Ancestry) (db : List (Sequence Item)) (tree : Tree Use) (rows : List Row) where
+    (known : List (List ℕ)) (before : Ancestry) (db : List (Sequence Item)) (tree : Tree Use) (rows : List Row) (work : Work) where
   -- what was read and found, by these names, is mined
   Mines : List (List ℕ) → Type 0
   Mines names =
@@ -57,8 +59,8 @@ module _ (words : List (List ℕ)) (holds : List ℕ → Option (List ℕ)) (c :
       → IfSome (holds c.file) (λ bytes. IsDatabaseOf c.weighted bytes known names db)
       → AllByRecursion (λ (s : Sequence Item). AllByRecursion (HasName names) s.items) db
       → ((fault : Fault) → IsUnknown names (named_in tree) fault → ⊥)
-      → AreRows names before db (tree_by (λ (u : Use). u.name) tree) c.threshold rows
-      → IsMined words holds c names rows
+      → AreRows names before db (tree_by (λ (u : Use). u.name) tree) c.threshold c.engine rows work
+      → IsMined words holds c names rows work
 
   mined-at : (added : List (List ℕ)) → AreLinksWithin before → IfSome (bytes_named holds c.hierarchy) (λ bytes. IsHierarchyOf bytes known before)
       → ReadsAs c.expression tree → 1 ≤ c.threshold → Mines (known ++ added)
@@ -78,6 +80,16 @@ module _ (words : List (List ℕ)) (holds : List ℕ → Option (List ℕ)) (c :
               ↔ IsFrequent (record { links = before.links; sequences = db; expression = are.expression; threshold = d.threshold }) row.pattern row.support) same are.frequent)
               are.rises,
         );
+    work = λ input is.
+        let same : c ≡ input.command = same_command words holds c has input is in (
+          tree,
+          reads_at words holds c has known before read (known ++ added) db found tree reads input is,
+          subst (λ (engine : Engine). IsWorkOf engine (data_of input tree) work) (ap (λ (d : Command). d.engine) same)
+          (work-answer input tree known added before db are.expression c.engine work distinct
+              (read_at words holds c has known before read input is) within
+              (found_at words holds c has known before read (known ++ added) db found input is) numbered are.same are.named
+              (subst (λ (d : Command). IsWorkOf c.engine (record { links = before.links; sequences = db; expression = are.expression; threshold = d.threshold }) work) same are.work)),
+        );
   }
 
   pub mined : (names : List (List ℕ)) (h : Ancestry) → (inputs : AreInputs holds c names h db) → inputs.known ≡ known → inputs.before ≡ before
@@ -85,8 +97,8 @@ module _ (words : List (List ℕ)) (holds : List ℕ → Option (List ℕ)) (c :
       → AreDistinct names
       → AllByRecursion (λ (s : Sequence Item). AllByRecursion (HasName names) s.items) db
       → ((fault : Fault) → IsUnknown names (named_in tree) fault → ⊥)
-      → AreRows names h db (tree_by (λ (u : Use). u.name) tree) c.threshold rows
-      → IsMined words holds c names rows
+      → AreRows names h db (tree_by (λ (u : Use). u.name) tree) c.threshold c.engine rows work
+      → IsMined words holds c names rows work
   unfolding Mines
   mined names h inputs known_is before_is reads some distinct numbered known_all are =
       let behind : names ≡ known ++ inputs.added = inputs.behind ∙ ap (λ k. k ++ inputs.added) known_is in
@@ -96,12 +108,18 @@ module _ (words : List (List ℕ)) (holds : List ℕ → Option (List ℕ)) (c :
       let found : IfSome (holds c.file) (λ bytes. IsDatabaseOf c.weighted bytes known names db) =
       subst (λ k. IfSome (holds c.file) (λ bytes. IsDatabaseOf c.weighted bytes k names db)) known_is inputs.sequences in
       let links : h.links ≡ before.links = inputs.links ∙ ap (λ (b : Ancestry). b.links) before_is in
-      let are_before : AreRows names before db (tree_by (λ (u : Use). u.name) tree) c.threshold rows = record {
+      let are_before : AreRows names before db (tree_by (λ (u : Use). u.name) tree) c.threshold c.engine rows work = record {
         expression = are.expression;
         same = are.same;
         named = are.named;
         frequent = subst (λ l. (row : Row) → Contains rows row
             ↔ IsFrequent (record { links = l; sequences = db; expression = are.expression; threshold = c.threshold }) row.pattern row.support) links are.frequent;
         rises = are.rises;
+        work = subst (λ l. IsWorkOf c.engine (record { links = l; sequences = db; expression = are.expression; threshold = c.threshold }) work) links are.work;
       } in
       subst Mines (sym behind) (mined-at inputs.added (subst AreLinksWithin before_is inputs.within) read reads some) distinct found numbered known_all are_before
+
+-- what is told is the work
+pub is-work : {P : Work → Type 0} (told : Option Work) (work : Work) → IfSome told (λ t. t ≡ work) → P work → IfSome told P
+is-work None work same p = tt
+is-work {P} (Some t) work same p = subst P (sym same) p

@@ -1,5 +1,5 @@
 -- How a run ends: what its outcome says of the words and of the files.
-use Rattle.std.specs.Prelude.{◌≡◌, ℕ, ◌⊎◌, ◌++◌, List, [], Option, Some, None, Result, Ok, Err, Contains}
+use Rattle.std.specs.Prelude.{◌≡◌, ℕ, ◌⊎◌, ◌++◌, List, [], Option, Some, None, IfSome, is_some, Result, Ok, Err, Contains}
 use Rattle.mine_model.specs.declared.fault.Fault.{Fault}
 use Rattle.mine_model.specs.declared.fault.Fault.TheVariants.{Usage, Unknown, BadByte, BadWeight, Cycle, TooLarge, NameTooLong, TooManyItems, TooManyAncestors, TooManySequences, SequenceTooLong, Read, Write, NoMemory}
 use Rattle.mine_model.specs.declared.fault.Which.{Which}
@@ -9,8 +9,12 @@ use Rattle.mine_model.specs.Expression.{Tree, named_in, tree_by}
 use Rattle.mine_model.specs.Grammar.{Use, ReadsAs}
 use Rattle.mine_model.specs.Answer.{Data, NamedRow, IsAnswer}
 use Rattle.mine_model.specs.AnswerText.{text_of}
+use Rattle.mine_model.specs.Counted.{IsCountingWork}
+use Rattle.mine_model.specs.declared.mined.Work.{Work}
 use Rattle.mine_model.specs.First.{FirstOf}
 use Rattle.mine_model.specs.Refusal.{IsExpressionRefusal, IsHierarchyRefusal, IsSequencesRefusal, IsUnknown, names_of, links_of, items_of, sequences_of}
+use Rattle.command_line.specs.declared.words.Engine.{Engine}
+use Rattle.command_line.specs.declared.words.Engine.TheVariants.{Count}
 use Rattle.command_line.specs.Words.{Command, IsCommand, IsUsage}
 
 -- a command, and what its files hold
@@ -64,6 +68,15 @@ abbrev pub IsAnswerText : Input → List ℕ → Type 0
 IsAnswerText input text = (tree : Tree Use) × ReadsAs input.command.expression tree
     × (answer : List NamedRow) × IsAnswer (data_of input tree) answer × (text ≡ text_of answer)
 
+-- the work is that of a run of the engine over the data
+abbrev pub IsWorkOf : {A : Type 0} → Engine → Data A → Work → Type 0
+IsWorkOf Count d work = IsCountingWork d work
+
+-- the work is that of the command on its files
+abbrev pub IsWork : Input → Work → Type 0
+IsWork input work = (tree : Tree Use) × ReadsAs input.command.expression tree
+    × IsWorkOf input.command.engine (data_of input tree) work
+
 -- the command names a file of this kind
 abbrev pub NamesKind : Command → Which → Type 0
 NamesKind command Hierarchy = (name : List ℕ) × (command.hierarchy ≡ Some name)
@@ -93,11 +106,13 @@ abbrev pub HasExpression : List (List ℕ) → Command → Type 0
 HasExpression words command =
     IsCommand words command × ((fault : Fault) → IsExpressionRefusal command.expression fault → ⊥)
 
--- What each outcome of a run says of the words, and of what the files hold where they tell it.
-pub data Ends (words : List (List ℕ)) (holds : List ℕ → Option (List ℕ)) : Result (Unit {0}) Fault
+-- What each outcome of a run says of the words, and of what the files hold where they tell it. A run that is
+-- done tells its work where the command asks for it.
+pub data Ends (words : List (List ℕ)) (holds : List ℕ → Option (List ℕ)) : Result (Option Work) Fault
     → Type 0 where
-  done : (command : Command) → HasExpression words command
-      → ((input : Input) → IsInput words holds input → IsAccepted input) → Ends words holds (Ok tt)
+  done : (command : Command) (told : Option Work) → HasExpression words command → command.stats ≡ is_some told
+      → ((input : Input) → IsInput words holds input → IsAccepted input × IfSome told (IsWork input))
+      → Ends words holds (Ok told)
   no_command : IsUsage words → Ends words holds (Err Usage)
   refused_expression : (command : Command) (fault : Fault) → IsCommand words command
       → IsExpressionRefusal command.expression fault → Ends words holds (Err fault)

@@ -15,8 +15,10 @@ use Rattle.mine_model.specs.Answer.{IsFrequent, Rises, IsAnswer}
 use Rattle.mine_model.specs.Names.{name_of, HasName, sequence_by, named_row}
 use Rattle.mine_model.specs.Ancestry.{Ancestry}
 use Rattle.mine_model.specs.Refusal.{IsHierarchyRefusal, IsSequencesRefusal, names_of, links_of, items_of, sequences_of}
+use Rattle.mine_model.specs.declared.mined.Work.{Work}
+use Rattle.command_line.specs.declared.words.Engine.{Engine}
 use Rattle.command_line.specs.Words.{Command}
-use Rattle.desq_run.specs.Ends.{Input, IsInput, bytes_named, IsAccepted, data_of, HasExpression, IsOfKind}
+use Rattle.desq_run.specs.Ends.{Input, IsInput, bytes_named, IsAccepted, data_of, HasExpression, IsOfKind, IsWorkOf, IsWork}
 
 -- the names are exactly those of the hierarchy file, and above each other stands what stands so in the file
 pub record IsHierarchyOf (bytes : List ℕ) (names : List (List ℕ)) (h : Ancestry) : Type 0 where
@@ -60,10 +62,11 @@ pub data FailsBy (told : Option (List ℕ)) (Refused : List ℕ → Fault → Ty
   failed : Named → Faulty → FailsBy told Refused file Named Faulty (Read file)
   no_memory : FailsBy told Refused file Named Faulty NoMemory
 
--- The rows are the frequent patterns by numbers, in the order of their names; the tree is over names.
+-- The rows are the frequent patterns by numbers, in the order of their names, and the work is that of the
+-- engine; the tree is over names.
 pub record AreRows (names : List (List ℕ)) (h : Ancestry) (db : List (Sequence Item)) (tree : Tree (List ℕ))
-    (threshold : ℕ)
-    (rows : List Row) : Type 0 where
+    (threshold : ℕ) (engine : Engine)
+    (rows : List Row) (work : Work) : Type 0 where
   pub expression : Tree Item
   pub same : tree_by (name_of names) expression ≡ tree
   pub named : AllByRecursion (HasName names) (named_in expression)
@@ -72,17 +75,20 @@ pub record AreRows (names : List (List ℕ)) (h : Ancestry) (db : List (Sequence
       (record { links = h.links; sequences = db; expression = expression; threshold = threshold })
       row.pattern row.support
   pub rises : Rises (map (named_row names) rows)
+  pub work : IsWorkOf engine
+      (record { links = h.links; sequences = db; expression = expression; threshold = threshold }) work
 
 -- The rows are in the order of their names, the words name an expression that is not refused, and where the
--- files tell their bytes nothing is refused and the rows are the answer.
+-- files tell their bytes nothing is refused, the rows are the answer and the work is that of the command.
 pub record IsMined (words : List (List ℕ)) (holds : List ℕ → Option (List ℕ)) (command : Command)
     (names : List (List ℕ))
-    (rows : List Row) : Type 0 where
+    (rows : List Row) (work : Work) : Type 0 where
   pub expression : HasExpression words command
   pub accepted : (input : Input) → IsInput words holds input → IsAccepted input
   pub answer : (input : Input) → IsInput words holds input
       → (tree : Tree Use) × ReadsAs input.command.expression tree
       × IsAnswer (data_of input tree) (map (named_row names) rows)
+  pub work : (input : Input) → IsInput words holds input → IsWork input work
 
 -- the rows are the frequent patterns by numbers, in the order of their names
 pub record AreOrdered (names : List (List ℕ)) (h : Ancestry) (db : List (Sequence Item))

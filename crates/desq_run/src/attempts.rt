@@ -1,6 +1,6 @@
 //! From words to the answer written, or to the fault that ends the run.
 
-ghost use Rattle.std.specs.Prelude.{◌≡◌, ◌≢◌, ◌≤◌, ◌<◌, ◌++◌, ℕ, List, Some, Err, IsTrue, IfOk, IfErr, OnOk, OnErr, IfSome, All, map, length, take, string_bytes};
+ghost use Rattle.std.specs.Prelude.{◌≡◌, ◌≢◌, ◌≤◌, ◌<◌, ◌++◌, ℕ, List, Some, Err, IsTrue, IfOk, IfErr, OnOk, OnErr, IfSome, is_some, All, map, length, take, string_bytes};
 ghost use Rattle.text_ports.specs.Faults.{Rose};
 ghost use Rattle.mine_model.specs.declared.fault.Fault.TheVariants.{Read, Write};
 ghost use Rattle.mine_model.specs.declared.fault.Which.{Which};
@@ -15,36 +15,40 @@ use super::inputs::{Inputs, read_inputs};
 use super::rows::{read_expression, rows_of};
 use command_line::{Command, read_words};
 use item_names::Names;
-use mine_model::{Fault, NoMemory, Row, WriteFault};
+use mine_model::{Fault, Gate, Mined, NoMemory, Row, Work, WriteFault};
 use pattern_writer::write;
 use std::alloc::Global;
+use std::sync::Wait;
 use std::thread::Threads;
 use text_ports::{Files, Sink};
 
 /// How many bytes of the answer are gathered before they are written. Each write but the last has as many.
 const ROOM: usize = 65_536;
 
-/// The rows of the answer in their order, and the names of their items.
+/// The rows of the answer in their order, the names of their items, and the work of finding them.
 #[derive(Debug, Drop)]
-struct Mined {
+struct Answer {
     names: Names,
     rows: Vec<Row>,
+    work: Work,
 }
 
 /// Mines as the command says. Its expression is read before a file is opened.
-fn mine_files<R: Threads + Sync, F: Files>(
+fn mine_files<R: Threads + Wait + Sync, F: Files, G: Gate>(
     rt: &R,
     alloc: Global,
     command: &Command,
     files: &mut F,
-) -> Result<Mined, Fault>
+    gate: &G,
+) -> Result<Answer, Fault>
     requires may { (file : List ℕ) → NamesFile (command_said command.now) file
         → IsTrue (F.may files.old file) }
     requires support { 1 ≤ command.now.support }
+    requires workers { 1 ≤ command.now.workers }
     ensures mined { (words : List (List ℕ)) → IsCommand words (command_said command.now)
         → IfOk result
         (λ mined. IsMined words (F.holds files.old) (command_said command.now)
-        mined.names mined.rows.items) }
+        mined.names mined.rows.items mined.work) }
     ensures named { IfOk result (λ mined. All
         (λ row. All (HasName mined.names) row.pattern) mined.rows.items) }
     ensures ends { (words : List (List ℕ)) → IsCommand words (command_said command.now)
@@ -63,8 +67,16 @@ fn mine_files<R: Threads + Sync, F: Files>(
         hierarchy,
         db,
     } = inputs;
-    let rows = rows_of(rt, alloc, &names, hierarchy, db, &parsed, command.support)?;
-    Ok(Mined { names, rows })
+    let Mined { rows, work } = rows_of(rt, alloc, &names, hierarchy, db, &parsed, command, gate)?;
+    Ok(Answer { names, rows, work })
+}
+
+/// What is told of the work.
+fn told(command: &Command, work: Work) -> Option<Work>
+    ensures asked { command.now.stats ≡ is_some result }
+    ensures work { IfSome result (λ told. told ≡ work) }
+{
+    if command.stats { Some(work) } else { None }
 }
 
 /// Room for the bytes of the answer that wait to be written.
@@ -74,14 +86,15 @@ fn take_room(alloc: Global) -> Result<Vec<u8>, NoMemory>
     Ok(vec![in alloc; 0u8; ROOM]?)
 }
 
-/// Mines as the words say, and writes the answer.
-pub(crate) fn attempt<R: Threads + Sync, F: Files, O: Sink>(
+/// Mines as the words say, and writes the answer. Gives the work, where the words ask for it.
+pub(crate) fn attempt<R: Threads + Wait + Sync, F: Files, O: Sink, G: Gate>(
     rt: &R,
     alloc: Global,
     words: &[String],
     files: &mut F,
     out: &mut O,
-) -> Result<(), Fault>
+    gate: &G,
+) -> Result<Option<Work>, Fault>
     requires { (file : List ℕ) → IsNamed (map string_bytes words.now) file
         → IsTrue (F.may files.old file) }
     ensures ends { Ends (map string_bytes words.now) (F.holds files.old) result }
@@ -106,7 +119,7 @@ pub(crate) fn attempt<R: Threads + Sync, F: Files, O: Sink>(
         Some(command) => command,
         None => return Err(Fault::Usage),
     };
-    let mined = mine_files(rt, alloc, &command, files)?;
+    let mined = mine_files(rt, alloc, &command, files, gate)?;
     let mut room = take_room(alloc)?;
     match write(
         mined.rows.as_slice(),
@@ -114,7 +127,7 @@ pub(crate) fn attempt<R: Threads + Sync, F: Files, O: Sink>(
         out,
         room.as_mut_slice(),
     ) {
-        Ok(()) => Ok(()),
+        Ok(()) => Ok(told(&command, mined.work)),
         Err(WriteFault) => Err(Fault::Write),
     }
 }

@@ -3,12 +3,12 @@
 ghost use Rattle.std.specs.Prelude.{◌≡◌, ℕ, ◌+◌, ◌≤◌, ◌<◌, ◌++◌, List, [], Some, IfSome, length, codes, decimal};
 ghost use Rattle.arrayvec.specs.ArrayString.{array_string_len};
 ghost use Rattle.text_ports.specs.Faults.{Rose};
-ghost use Rattle.mine_model.specs.Status.{fault_status, status_of, file_text, at_column, at_line, at_place, fault_text, message_of};
+ghost use Rattle.mine_model.specs.Status.{fault_status, status_of, file_text, at_column, at_line, at_place, fault_text, work_text, message_of};
 ghost use Rattle.desq_run.specs.Reported.{IsReported};
 
 use arrayvec::ArrayString;
 use itoa::Buffer;
-use mine_model::{Fault, Which};
+use mine_model::{Fault, Which, Work};
 use text_ports::{Sink, write_all};
 
 /// The most bytes of a message.
@@ -18,11 +18,11 @@ const MOST_BYTES: usize = 160;
 type Text = ArrayString<MOST_BYTES>;
 
 /// The status of a run that ended so.
-pub(crate) fn status(outcome: &Result<(), Fault>) -> u8
+pub(crate) fn status(outcome: &Result<Option<Work>, Fault>) -> u8
     ensures { result ≡ status_of outcome.now }
 {
     match outcome {
-        Ok(()) => 0,
+        Ok(_) => 0,
         Err(fault) => status_of_fault(fault),
     }
 }
@@ -179,21 +179,42 @@ fn push_fault(text: &mut Text, fault: &Fault)
     }
 }
 
-/// The message of an outcome, with its line feed; nothing after a run that is done.
-fn message(outcome: &Result<(), Fault>) -> Text
+/// Appends the text of the work of a run.
+fn push_work(text: &mut Text, work: &Work)
+    requires { array_string_len text.old ≤ 6 }
+    ensures text { text.new.bytes ≡ text.old.bytes ++ work_text work.now }
+    ensures room { array_string_len text.new < 160 }
+{
+    text.push_str("nodes ");
+    push_number(text, work.nodes);
+    text.push_str(" parts ");
+    push_number(text, work.parts);
+    text.push_str(" candidates ");
+    push_number(text, work.candidates);
+}
+
+/// The message of an outcome, with its line feed; nothing after a run that is done and tells no work.
+fn message(outcome: &Result<Option<Work>, Fault>) -> Text
     ensures { result.bytes ≡ message_of outcome.now }
 {
     let mut text = Text::new();
-    if let Err(fault) = outcome {
-        text.push_str("desq: ");
-        push_fault(&mut text, fault);
-        text.push_str("\n");
+    match outcome {
+        Ok(None) => return text,
+        Ok(Some(work)) => {
+            text.push_str("desq: ");
+            push_work(&mut text, work);
+        }
+        Err(fault) => {
+            text.push_str("desq: ");
+            push_fault(&mut text, fault);
+        }
     }
+    text.push_str("\n");
     text
 }
 
 /// Writes the message of an outcome. A fault of the sink leaves its first bytes, and is told to nobody.
-pub(crate) fn report<E: Sink>(err: &mut E, outcome: &Result<(), Fault>)
+pub(crate) fn report<E: Sink>(err: &mut E, outcome: &Result<Option<Work>, Fault>)
     ensures reported { IsReported (E.written err.old) (E.written err.new)
         (Rose (E.faults err.old) (E.faults err.new))
         (message_of outcome.now) }

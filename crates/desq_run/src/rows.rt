@@ -1,26 +1,31 @@
 //! From what was read to the rows of the answer.
 
-ghost use Rattle.std.specs.Prelude.{◌≡◌, ◌⊎◌, ◌≤◌, ◌<◌, ℕ, length, map, All, IfOk, IfErr, OnOk};
+ghost use Rattle.std.specs.Prelude.{◌≡◌, ◌⊎◌, ◌≤◌, ◌<◌, ℕ, length, map, All, IfOk, IfErr, OnOk, Contains};
 ghost use Rattle.std.specs.List.{AllByRecursion};
 ghost use Rattle.mine_model.specs.declared.fault.Fault.{Fault};
 ghost use Rattle.mine_model.specs.declared.fault.Fault.TheVariants.{NoMemory as OutOfMemory};
 ghost use Rattle.mine_model.specs.Limits.{most_leaves};
 ghost use Rattle.mine_model.specs.Expression.{named_in, unfolded_leaves};
-ghost use Rattle.mine_model.specs.Numbered.{tree_of};
+ghost use Rattle.mine_model.specs.declared.row.Row.{Row as TheRow};
+ghost use Rattle.mine_model.specs.Numbered.{tree_of, AreFrequent};
 ghost use Rattle.mine_model.specs.Names.{HasName};
 ghost use Rattle.mine_model.specs.Refusal.{IsExpressionRefusal, IsUnknown};
 ghost use Rattle.patex_parser.specs.Parsing.{use_view, IsParsed, AreWithin, named_tree};
+ghost use Rattle.count_shards.specs.Blocks.{data_of};
+ghost use Rattle.desq_run.specs.Ends.{IsWorkOf};
 ghost use Rattle.desq_run.specs.Inputs.{AreOrdered, AreRows};
 
+use command_line::{Command, Engine};
 use count_engine::mine;
 use frequency_list::count;
 use fst_compile::compile;
 use fst_simulate::Job;
 use item_names::Names;
-use mine_model::{Db, Expr, Fault, Hierarchy, NoMemory, Row};
+use mine_model::{Db, Expr, Fault, Gate, Hierarchy, Mined, NoMemory};
 use patex_parser::{Parsed, parse, resolve};
 use pattern_writer::order;
 use std::alloc::Global;
+use std::sync::Wait;
 use std::thread::Threads;
 
 /// The expression that the text reads as.
@@ -33,57 +38,88 @@ pub(crate) fn read_expression(alloc: Global, text: &[u8]) -> Result<Parsed, Faul
     Ok(parse(alloc, text)?)
 }
 
-/// The frequent rows of the expression in order, where its names have these items.
-fn ordered_rows<R: Threads + Sync>(
+/// The frequent patterns of the job, found by the engine of the command, in no stated order.
+fn mined_by<R: Threads + Wait + Sync, G: Gate>(
+    rt: &R,
+    alloc: Global,
+    job: &Job,
+    command: &Command,
+    gate: &G,
+) -> Result<Mined, NoMemory>
+    requires workers { 1 ≤ command.now.workers }
+    ensures frequent { IfOk result (λ mined. AreFrequent (data_of job.now) mined.rows.items) }
+    ensures items { IfOk result (λ mined. (row : TheRow) → Contains mined.rows.items row
+        → AllByRecursion (λ t. t.0 < job.now.hierarchy.items) row.pattern) }
+    ensures work { IfOk result (λ mined. IsWorkOf command.now.engine (data_of job.now) mined.work) }
+{
+    match command.engine {
+        Engine::Count => mine(rt, alloc, job, command.workers, gate),
+    }
+}
+
+/// The frequent rows of the expression in order, where its names have these items, and the work of finding
+/// them.
+fn ordered_rows<R: Threads + Wait + Sync, G: Gate>(
     rt: &R,
     alloc: Global,
     names: &Names,
     hierarchy: Hierarchy,
     db: Db,
     expression: &Expr,
-    support: u64,
-) -> Result<Vec<Row>, NoMemory>
-    requires support { 1 ≤ support }
+    command: &Command,
+    gate: &G,
+) -> Result<Mined, NoMemory>
+    requires support { 1 ≤ command.now.support }
+    requires workers { 1 ≤ command.now.workers }
     requires items { hierarchy.items ≡ length names.now }
     requires sequences { AllByRecursion (λ s. AllByRecursion (HasName names.now) s.items) db }
     requires named { AllByRecursion (HasName names.now) (named_in (tree_of expression.now)) }
     requires leaves { unfolded_leaves (tree_of expression.now) ≤ most_leaves }
-    ensures rows { IfOk result (λ rows. AreOrdered names.now hierarchy db (tree_of expression.now) support
-        rows.items) }
-    ensures named { IfOk result (λ rows. All (λ row. All (HasName names.now) row.pattern) rows.items) }
+    ensures rows { IfOk result (λ mined. AreOrdered names.now hierarchy db (tree_of expression.now)
+        command.now.support mined.rows.items) }
+    ensures named { IfOk result (λ mined. All (λ row. All (HasName names.now) row.pattern) mined.rows.items) }
+    ensures work { IfOk result (λ mined. IsWorkOf command.now.engine (record {
+      links = hierarchy.links;
+      sequences = db;
+      expression = tree_of expression.now;
+      threshold = command.now.support;
+    }) mined.work) }
 {
-    let ranks = count(rt, alloc, &hierarchy, &db, support, names)?;
+    let ranks = count(rt, alloc, &hierarchy, &db, command.support, names)?;
     let fst = compile(alloc, expression)?;
-    let job = Job::new(hierarchy, db, fst, ranks, support);
-    let mut rows = mine(alloc, &job)?;
+    let job = Job::new(hierarchy, db, fst, ranks, command.support);
+    let Mined { mut rows, work } = mined_by(rt, alloc, &job, command, gate)?;
     order(rows.as_mut_slice(), names);
-    Ok(rows)
+    Ok(Mined { rows, work })
 }
 
-/// The rows of the answer.
-pub(crate) fn rows_of<R: Threads + Sync>(
+/// The rows of the answer, and the work of finding them.
+pub(crate) fn rows_of<R: Threads + Wait + Sync, G: Gate>(
     rt: &R,
     alloc: Global,
     names: &Names,
     hierarchy: Hierarchy,
     db: Db,
     parsed: &Parsed,
-    support: u64,
-) -> Result<Vec<Row>, Fault>
-    requires support { 1 ≤ support }
+    command: &Command,
+    gate: &G,
+) -> Result<Mined, Fault>
+    requires support { 1 ≤ command.now.support }
+    requires workers { 1 ≤ command.now.workers }
     requires items { hierarchy.items ≡ length names.now }
     requires sequences { AllByRecursion (λ s. AllByRecursion (HasName names.now) s.items) db }
     requires within { AreWithin (length (map use_view parsed.now.uses.items))
         (named_in (tree_of parsed.now.tree)) }
     requires leaves { unfolded_leaves (tree_of parsed.now.tree) ≤ most_leaves }
-    ensures rows { IfOk result (λ rows. AreRows names.now hierarchy db
-        (named_tree (map use_view parsed.now.uses.items) (tree_of parsed.now.tree)) support rows.items) }
-    ensures named { IfOk result (λ rows. All (λ row. All (HasName names.now) row.pattern) rows.items) }
+    ensures rows { IfOk result (λ mined. AreRows names.now hierarchy db
+        (named_tree (map use_view parsed.now.uses.items) (tree_of parsed.now.tree))
+        command.now.support command.now.engine mined.rows.items mined.work) }
+    ensures named { IfOk result (λ mined. All (λ row. All (HasName names.now) row.pattern) mined.rows.items) }
     ensures known { OnOk result ((fault : Fault)
         → ¬ IsUnknown names.now (map use_view parsed.now.uses.items) fault) }
     ensures refused { IfErr result (λ fault. (fault ≡ OutOfMemory)
         ⊎ IsUnknown names.now (map use_view parsed.now.uses.items) fault) }
 {
     let expression = resolve(parsed, names)?;
-    Ok(ordered_rows(rt, alloc, names, hierarchy, db, &expression, support)?)
+    Ok(ordered_rows(rt, alloc, names, hierarchy, db, &expression, command, gate)?)
 }

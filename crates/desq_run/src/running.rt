@@ -1,8 +1,9 @@
 //! The top call.
 
-ghost use Rattle.std.specs.Prelude.{◌≡◌, ◌≢◌, ℕ, ◌≤◌, ◌<◌, ◌++◌, ◌⊎◌, List, Some, Result, IsTrue, IfSome, map, take, length, string_bytes};
+ghost use Rattle.std.specs.Prelude.{◌≡◌, ◌≢◌, ℕ, ◌≤◌, ◌<◌, ◌++◌, ◌⊎◌, List, Option, Some, Result, IsTrue, IfSome, map, take, length, string_bytes};
 ghost use Rattle.text_ports.specs.Faults.{Rose};
 ghost use Rattle.mine_model.specs.declared.fault.Fault.{Fault};
+ghost use Rattle.mine_model.specs.declared.mined.Work.{Work};
 ghost use Rattle.mine_model.specs.Refusal.{IsExpressionRefusal};
 ghost use Rattle.mine_model.specs.Status.{fault_status, status_of, message_of};
 ghost use Rattle.command_line.specs.Words.{Command, IsNamed, IsCommand, IsUsage};
@@ -13,6 +14,7 @@ use super::attempts::attempt;
 use super::messages;
 use mine_model::Gate;
 use std::alloc::Global;
+use std::sync::Wait;
 use std::thread::Threads;
 use text_ports::{Files, Sink};
 
@@ -20,16 +22,16 @@ use text_ports::{Files, Sink};
 /// `out` and a message, where there is one, to `err`, and answers the status.
 ///
 /// 0 done, 2 the words are no command, 3 something is malformed, 4 a limit is exceeded, 5 a fault of reading,
-/// 6 a fault of writing, 7 not enough memory. A fault of `err` changes no status. `gate` is for the engines
-/// to come; none is passed so far.
-pub fn run<R: Threads + Sync, F: Files, O: Sink, E: Sink, G: Gate>(
+/// 6 a fault of writing, 7 not enough memory. A fault of `err` changes no status. A worker passes the gate
+/// before each block of sequences.
+pub fn run<R: Threads + Wait + Sync, F: Files, O: Sink, E: Sink, G: Gate>(
     rt: &R,
     alloc: Global,
     words: &[String],
     files: &mut F,
     out: &mut O,
     err: &mut E,
-    _gate: &G,
+    gate: &G,
 ) -> u8
     // The files that the words name may be opened. No other is.
     requires { (file : List ℕ) → IsNamed (map string_bytes words.now) file → IsTrue (F.may files.old file) }
@@ -37,7 +39,7 @@ pub fn run<R: Threads + Sync, F: Files, O: Sink, E: Sink, G: Gate>(
     ensures statuses { (result ≡ 0) ⊎ ((2 ≤ result) × (result ≤ 7)) }
 
     // Every end has its cause, and err gained its message, or after a fault of err the first bytes of it.
-    ensures ends { (outcome : Result (Unit {0}) Fault) × (result ≡ status_of outcome)
+    ensures ends { (outcome : Result (Option Work) Fault) × (result ≡ status_of outcome)
         × Ends (map string_bytes words.now) (F.holds files.old) outcome
         × IsReported (E.written err.old) (E.written err.new) (Rose (E.faults err.old) (E.faults err.new))
         (message_of outcome) }
@@ -84,7 +86,7 @@ pub fn run<R: Threads + Sync, F: Files, O: Sink, E: Sink, G: Gate>(
     ensures never_falls { (F.faults files.old ≤ F.faults files.new) × (O.faults out.old ≤ O.faults out.new)
         × (E.faults err.old ≤ E.faults err.new) }
 {
-    let outcome = attempt(rt, alloc, words, files, out);
+    let outcome = attempt(rt, alloc, words, files, out, gate);
     let status = messages::status(&outcome);
     messages::report(err, &outcome);
     status
