@@ -1,1 +1,4 @@
 mod ShareLemmas
+mod MadeLemmas
+mod WorkLemmas
+mod HandLemmas

@@ -2,7 +2,8 @@
 use Rattle.std.proofs.Common.{◌≡◌, ◌≢◌, ℕ, zero, suc, ◌+◌, ◌%◌, ◌<◌, ◌≤◌, ◌==◌, ◌⊎◌, inl, inr, Bool, true, false, cond, List, [], ◌∷◌, ◌++◌, map, filter, length, min, refl, sym, subst, ap, ◌∙◌, arith, sum_by}
 use Rattle.std.specs.List.{flat_map, range_with_len}
 use Rattle.std.proofs.lemmas.Bool.{cases_lt, cases_eq}
-use Rattle.std.proofs.lemmas.List.{map-append}
+use Rattle.std.proofs.lemmas.List.{map-append, append-nil}
+use Rattle.std.proofs.lemmas.List.FromFn.{filter_of_map_range_with_len_more}
 use Rattle.std.proofs.lemmas.List.Sums.{sum_by-cons, sum_by-append}
 use Rattle.mine_model.specs.Labels.{SameLabels}
 use Rattle.mine_model.specs.Counted.{told_of}
@@ -85,22 +86,49 @@ module _ (weight : List ℕ → ℕ) (workers : ℕ) where
       below : (block : ℕ) → block % workers < 0 + workers
       below block = grind (arith, some)
 
--- entries of lists laid end to end
-entries_flat : (f : ℕ → List ℕ) (ws : List ℕ) (weight : List ℕ → ℕ) → sum_by weight (map entry_of (flat_map f ws)) ≡ sum_by (λ w. sum_by weight (map entry_of (f w))) ws
-entries_flat f [] weight = refl
-entries_flat f (w ∷ ws) weight = omega (arith,
+-- the entries of lists, one list behind the other
+entries_weigh : (f : ℕ → List ℕ) (ws : List ℕ) (weight : List ℕ → ℕ) → sum_by weight (map entry_of (flat_map f ws)) ≡ sum_by (λ w. sum_by weight (map entry_of (f w))) ws
+entries_weigh f [] weight = refl
+entries_weigh f (w ∷ ws) weight = omega (arith,
     ap (sum_by weight) (map-append entry_of (f w) (flat_map f ws)),
     sum_by-append weight (map entry_of (f w)) (map entry_of (flat_map f ws)),
-    entries_flat f ws weight,
+    entries_weigh f ws weight,
     sum_by-cons (λ w. sum_by weight (map entry_of (f w))) w ws)
 
--- the shares of all workers, one behind the other, are all blocks in some order
-pub shares_are_all : (workers count : ℕ) → 1 ≤ workers
-    → SameLabels (map entry_of (flat_map (λ worker. share_of worker workers count) (range_with_len 0 workers))) (map entry_of (range_with_len 0 count))
+-- the shares of all workers, one behind the other
+abbrev pub all_shares_of : ℕ → ℕ → List ℕ
+all_shares_of workers count = flat_map (λ worker. share_of worker workers count) (range_with_len 0 workers)
+
+-- they are all blocks in some order
+pub shares_are_all : (workers count : ℕ) → 1 ≤ workers → SameLabels (map entry_of (all_shares_of workers count)) (map entry_of (range_with_len 0 count))
 unfolding leaving weighs all_shares
 shares_are_all workers count some = λ weight.
-    entries_flat (λ worker. share_of worker workers count) (range_with_len 0 workers) weight
+    entries_weigh (λ worker. share_of worker workers count) (range_with_len 0 workers) weight
     ∙ shares_weigh weight workers (range_with_len 0 count) some
+
+-- one block more, where it is of the share and where it is not
+pub share_more : (worker workers block : ℕ) → share_of worker workers (block + 1) ≡ share_of worker workers block ++ cond (block % workers == worker) (block ∷ []) []
+share_more worker workers block =
+    ap (filter (λ b. b % workers == worker)) (sym (map-id (range_with_len 0 (block + 1))))
+    ∙ filter_of_map_range_with_len_more (λ b. b % workers == worker) (λ b. b) 0 block block (omega arith)
+    ∙ ap (λ bs. filter (λ b. b % workers == worker) bs ++ cond (block % workers == worker) (block ∷ []) []) (map-id (range_with_len 0 block))
+  where
+    map-id : (xs : List ℕ) → map (λ x. x) xs ≡ xs
+    map-id [] = refl
+    map-id (x ∷ xs) = ap (λ ys. x ∷ ys) (map-id xs)
+
+pub share_with : (worker workers block : ℕ) → block % workers ≡ worker → share_of worker workers (block + 1) ≡ share_of worker workers block ++ block ∷ []
+share_with worker workers block same = share_more worker workers block ∙ ap (λ b. share_of worker workers block ++ cond b (block ∷ []) []) (is_true same)
+  where
+    is_true : block % workers ≡ worker → (block % workers == worker) ≡ true
+    is_true same = grind (arith, same)
+
+pub share_without : (worker workers block : ℕ) → block % workers ≢ worker → share_of worker workers (block + 1) ≡ share_of worker workers block
+share_without worker workers block apart =
+    share_more worker workers block ∙ ap (λ b. share_of worker workers block ++ cond b (block ∷ []) []) (is_false apart) ∙ append-nil (share_of worker workers block)
+  where
+    is_false : block % workers ≢ worker → (block % workers == worker) ≡ false
+    is_false apart = grind (arith, apart)
 
 -- ---- sums
 

@@ -1,5 +1,5 @@
 -- The blocks of each worker, what it is given and what it gives back.
-use Rattle.std.specs.Prelude.{◌≡◌, ℕ, ◌%◌, ◌<◌, ◌==◌, List, [], ◌∷◌, filter, length, map, slice_get, sum, Some, Result, Ok, Err, All}
+use Rattle.std.specs.Prelude.{◌≡◌, ℕ, ◌%◌, ◌<◌, ◌==◌, List, [], ◌∷◌, filter, length, map, slice_get, Some, Result, Ok, Err, All}
 use Rattle.std.specs.List.{range_with_len}
 use Rattle.std.specs.declared.alloc.Global.{Global}
 use Rattle.std.specs.declared.vec.Vec.{Vec}
@@ -57,7 +57,3 @@ pub record AreListsOf (results : List (Result Done NoMemory)) (lists : PassLists
 abbrev pub pairs_told : Result Done NoMemory → ℕ
 pairs_told (Ok done) = done.pairs
 pairs_told (Err refused) = 0
-
--- what is told of a sum
-abbrev pub told_of_all : List ℕ → ℕ
-told_of_all ns = told_of (sum ns)

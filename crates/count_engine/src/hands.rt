@@ -1,7 +1,8 @@
 //! What each worker is given, and what it gives back.
 
-ghost use Rattle.std.specs.Prelude.{◌≡◌, ℕ, ◌<◌, ◌^◌, length, slice_get, Some, Ok, IfOk, map};
-ghost use Rattle.count_engine.specs.Shares.{told_of_all, AreHandsOf, AreListsOf, pairs_told};
+ghost use Rattle.std.specs.Prelude.{◌≡◌, ℕ, ◌<◌, ◌^◌, length, slice_get, Some, Ok, IfOk, sum_by};
+ghost use Rattle.mine_model.specs.Counted.{told_of};
+ghost use Rattle.count_engine.specs.Shares.{AreHandsOf, AreListsOf, pairs_told};
 
 use count_shards::Shard;
 use mine_model::NoMemory;
@@ -44,7 +45,7 @@ pub(crate) fn gathered(
     results: Vec<Result<Done, NoMemory>>,
 ) -> Result<(Vec<Vec<Pass<Shard>>>, u64), NoMemory>
     ensures lists { IfOk result (λ r. AreListsOf results.items r.0.items) }
-    ensures pairs { IfOk result (λ r. r.1 ≡ told_of_all (map pairs_told results.items)) }
+    ensures pairs { IfOk result (λ r. r.1 ≡ told_of (sum_by pairs_told results.items)) }
 {
     let mut lists = Vec::with_capacity(alloc, results.len())?;
     let mut pairs: u64 = 0;

@@ -5,7 +5,7 @@ mod hands;
 mod mining;
 #[cfg(test)]
 mod tests;
-mod work;
+mod working;
 
 pub use mining::mine;
-pub use work::work;
+pub use working::work;

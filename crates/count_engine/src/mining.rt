@@ -8,7 +8,7 @@ ghost use Rattle.count_shards.specs.Shards.{AreShardsOf};
 ghost use Rattle.count_engine.specs.Shares.{IsHandOf, IsDone};
 
 use super::hands::{Done, Hand, gathered, hands_of};
-use super::work::work;
+use super::working::work;
 use count_shards::Shards;
 use fst_simulate::Job;
 use mine_model::{Gate, Mined, NoMemory, Work};
@@ -53,13 +53,15 @@ pub fn mine<R: Threads + Wait + Sync, G: Gate>(
 {
     let (shards, lists) = Shards::new(alloc, job, workers)?;
     let hands = hands_of(alloc, lists)?;
+    let sums = &shards;
     let results = thread::map_vec(
         rt,
         hands,
         &|hand: Hand| -> Result<Done, NoMemory>
-            requires { IsHandOf shards.now workers hand }
-            ensures { IfOk result (IsDone job.entry.now shards.entry.now workers hand.worker) }
-        { done_by(rt, alloc, job, &shards, hand, workers, gate) },
+            requires shards { AreShardsOf job.now sums.now }
+            requires hand { IsHandOf sums.now workers hand }
+            ensures { IfOk result (IsDone job.entry.now sums.entry.now workers hand.worker) }
+        { done_by(rt, alloc, job, sums, hand, workers, gate) },
     )?;
     let (lists, pairs) = gathered(alloc, results)?;
     let rows = shards.close(alloc, job, lists)?;

@@ -1,0 +1,154 @@
+-- What all workers together gave back.
+use Rattle.std.proofs.Common.{◌≡◌, ℕ, zero, suc, ◌+◌, ◌*◌, ◌%◌, ◌<◌, ◌≤◌, List, [], ◌∷◌, ◌++◌, map, length, take, drop, Option, Some, None, Result, Ok, Err, slice_get, get_or, refl, sym, subst, ap, ◌∙◌, arith, All, sum_by}
+use Rattle.std.specs.List.{flat_map, range_with_len, filter_map, cons_option}
+use Rattle.std.specs.declared.alloc.Global.{Global}
+use Rattle.std.specs.declared.vec.Vec.{Vec}
+use Rattle.std.proofs.lemmas.List.{map-append}
+use Rattle.std.proofs.lemmas.List.Sums.{sum_by-append, sum_by-cons}
+use Rattle.std.proofs.lemmas.List.Elements.{All-head, All-tail}
+use Rattle.std.proofs.lemmas.Option.{slice_get-get_or, same_Some}
+use Rattle.mine_model.specs.declared.item.Item.{Item}
+use Rattle.mine_model.specs.declared.memory.NoMemory.{NoMemory}
+use Rattle.mine_model.specs.Answer.{Data}
+use Rattle.mine_model.specs.Counted.{HasPairs, told_of}
+use Rattle.mine_model.specs.Labels.{SameLabels}
+use Rattle.mine_model.specs.Support.{Sequence}
+use Rattle.fst_simulate.specs.Problems.{Problem}
+use Rattle.turn_lock.specs.Passes.{made, pass_count}
+use Rattle.count_shards.specs.declared.shards.Shards.{Shards}
+use Rattle.count_shards.specs.Blocks.{sequences_in, block_count, data_of, SumsBy}
+use Rattle.count_shards.specs.Shard.{entry_of}
+use Rattle.count_shards.specs.Shards.{Lock, ShardPass, PassLists, ArePassesOf, AreShardsOf, AreAllLists, column, AddedEachOnce}
+use Rattle.count_engine.specs.declared.hands.Done.{Done}
+use Rattle.count_engine.specs.Shares.{share_of, HasBlockPairs, IsTold, IsDone, AreListsOf, pairs_told}
+use Rattle.count_shards.proofs.BlockSums.{sums_more, sums_reordered, sums_laid}
+use Rattle.count_engine.proofs.ShareLemmas.{all_shares_of, shares_are_all, share_with, sums-append, sums-flat, told-left, told-right}
+
+Results : Type 0
+Results = List (Result Done NoMemory)
+
+-- what was given back at each place is what the worker of that number did, from this number on
+abbrev pub AreDone : Problem → Shards → ℕ → ℕ → List (Result Done NoMemory) → Type 0
+AreDone problem shards workers from results =
+    (k : ℕ) (done : Done) → slice_get results k ≡ Some (Ok done) → IsDone problem shards workers (from + k) done
+
+module _ (problem : Problem) (shards : Shards) (workers : ℕ) where
+  -- ---- passes
+
+  column_made : (home from : ℕ) (lists : PassLists) → home < 16
+      → ((k : ℕ) (list : Vec ShardPass Global) → slice_get lists k ≡ Some list → (length list.items ≡ 16)
+      × All (λ pass. made pass ≡ map entry_of (share_of (from + k) workers (block_count problem))) list.items)
+      → flat_map made (column home lists) ≡ flat_map (λ w. map entry_of (share_of w workers (block_count problem))) (range_with_len from (length lists))
+  column_made home from [] within each = refl
+  column_made home from (list ∷ lists) within each =
+      let (long, all) = each 0 list refl in
+      let below : home < length list.items = omega (arith, long, within) in
+      let pass : ShardPass = at list.items home below in
+      let there : slice_get list.items home ≡ Some pass = at_is list.items home below in
+      let same : made pass ≡ map entry_of (share_of from workers (block_count problem)) =
+      subst (λ w. made pass ≡ map entry_of (share_of w workers (block_count problem))) (omega arith) (holds (λ p. made p ≡ map entry_of (share_of (from + 0) workers (block_count problem))) list.items home pass there all) in
+      ap (λ (o : Option ShardPass). flat_map made (cons_option o (column home lists))) there
+      ∙ (λ i. same i ++ column_made home (from + 1) lists within (λ k l got.
+      let next = each (suc k) l got in
+      (next.0, subst (λ w. All (λ pass. made pass ≡ map entry_of (share_of w workers (block_count problem))) l.items) (omega arith) next.1)) i)
+    where
+      at : (xs : List ShardPass) (k : ℕ) → k < length xs → ShardPass
+      at [] k h = absurd (omega (arith, h))
+      at (x ∷ xs) zero h = x
+      at (x ∷ xs) (suc k) h = at xs k (omega (arith, h))
+      at_is : (xs : List ShardPass) (k : ℕ) (h : k < length xs) → slice_get xs k ≡ Some (at xs k h)
+      at_is [] k h = absurd (omega (arith, h))
+      at_is (x ∷ xs) zero h = refl
+      at_is (x ∷ xs) (suc k) h = at_is xs k (omega (arith, h))
+      holds : (P : ShardPass → Type 0) (xs : List ShardPass) (k : ℕ) (x : ShardPass) → slice_get xs k ≡ Some x → All P xs → P x
+      holds P [] k x got all = absurd (cc)
+      holds P (y ∷ xs) zero x got all = subst P (same_Some y x got) (All-head P y xs all)
+      holds P (y ∷ xs) (suc k) x got all = holds P xs k x got (All-tail P y xs all)
+
+  entries_flat : (ws : List ℕ) (weight : List ℕ → ℕ) → sum_by weight (flat_map (λ w. map entry_of (share_of w workers (block_count problem))) ws)
+      ≡ sum_by weight (map entry_of (flat_map (λ w. share_of w workers (block_count problem)) ws))
+  entries_flat [] weight = refl
+  entries_flat (w ∷ ws) weight = omega (arith,
+      sum_by-append weight (map entry_of (share_of w workers (block_count problem))) (flat_map (λ w. map entry_of (share_of w workers (block_count problem))) ws),
+      entries_flat ws weight,
+      ap (sum_by weight) (map-append entry_of (share_of w workers (block_count problem)) (flat_map (λ w. share_of w workers (block_count problem)) ws)),
+      sum_by-append weight (map entry_of (share_of w workers (block_count problem))) (map entry_of (flat_map (λ w. share_of w workers (block_count problem)) ws)))
+
+  plain : (k : ℕ) → 0 + k ≡ k
+  plain k = omega arith
+
+  -- the lists that were given back
+  module _ (results : List (Result Done NoMemory)) (lists : PassLists) (given : AreListsOf results lists) (done : AreDone problem shards workers 0 results) where
+    done_at : (k : ℕ) (list : Vec ShardPass Global) → slice_get lists k ≡ Some list
+        → ArePassesOf shards list.items × All (λ pass. made pass ≡ map entry_of (share_of k workers (block_count problem))) list.items
+    done_at k list at =
+        let (d, got, same) = given.each k list at in
+        let is = subst (λ w. IsDone problem shards workers w d) (plain k) (done k d got) in
+        (subst (λ (l : Vec ShardPass Global). ArePassesOf shards l.items) same is.passes,
+        subst (λ (l : Vec ShardPass Global). All (λ pass. made pass ≡ map entry_of (share_of k workers (block_count problem))) l.items) same is.made)
+
+    pub each_once : AreShardsOf problem shards → 1 ≤ workers → length results ≡ workers → AddedEachOnce problem lists
+    each_once are some all = λ home within weight.
+        ap (sum_by weight) (column_made home 0 lists within (λ k list at. let both = done_at k list at in (both.0.all ∙ are.sixteen, subst (λ w. All (λ pass. made pass ≡ map entry_of (share_of w workers (block_count problem))) list.items) (sym (plain k)) both.1)))
+        ∙ ap (λ (n : ℕ). sum_by weight (flat_map (λ w. map entry_of (share_of w workers (block_count problem))) (range_with_len 0 n))) (given.all ∙ all)
+        ∙ entries_flat (range_with_len 0 workers) weight
+        ∙ shares_are_all workers (block_count problem) some weight
+
+    pub all_lists : (before : PassLists) → AreAllLists shards before → length before ≡ workers → length results ≡ workers → AreAllLists shards lists
+    all_lists before are few all = record {
+      each = λ k d below. (done_at k (get_or lists k d) (slice_get-get_or lists k d below)).0;
+      all = subst (λ (n : ℕ). All (λ (lock : Lock). pass_count lock ≡ n) shards.locks.items) (few ∙ sym (given.all ∙ all)) are.all;
+    }
+
+  -- ---- pairs
+
+  -- what is told of the pairs of all shares
+  told_shares : (from : ℕ) (results : List (Result Done NoMemory)) (lists : PassLists) → AreListsOf results lists → AreDone problem shards workers from results
+      → (n : ℕ) × SumsBy (λ w m. HasBlockPairs problem (share_of w workers (block_count problem)) m) (range_with_len from (length results)) n
+      × (told_of (sum_by pairs_told results) ≡ told_of n)
+  told_shares from [] lists given done = (0, refl, refl)
+  told_shares from (Err e ∷ results) [] given done = absurd (omega (arith, given.all))
+  told_shares from (Err e ∷ results) (list ∷ lists) given done = let (d, got, same) = given.each 0 list refl in absurd (cc)
+  told_shares from (Ok d ∷ results) [] given done = absurd (omega (arith, given.all))
+  told_shares from (Ok d ∷ results) (list ∷ lists) given done =
+      let first : IsDone problem shards workers from d = subst (λ w. IsDone problem shards workers w d) (first_is from) (done 0 d refl) in
+      let later : AreDone problem shards workers (from + 1) results = λ k e got. subst (λ w. IsDone problem shards workers w e) (next_is from k) (done (suc k) e got) in
+      let rest = told_shares (from + 1) results lists (record { all = omega (arith, given.all); each = λ k l at. given.each (suc k) l at }) later in
+      let m : ℕ = first.pairs.0 in
+      let n : ℕ = rest.0 in
+      (m + n, (m, n, first.pairs.1, rest.1, refl), ap told_of (sum_by-cons pairs_told (Ok d) results) ∙ told_sum d.pairs m (sum_by pairs_told results) n first.pairs.2 rest.2)
+    where
+      first_is : (from : ℕ) → from + 0 ≡ from
+      first_is from = omega arith
+      next_is : (from k : ℕ) → from + suc k ≡ from + 1 + k
+      next_is from k = omega arith
+      told_sum : (p m q n : ℕ) → p ≡ told_of m → told_of q ≡ told_of n → told_of (p + q) ≡ told_of (m + n)
+      told_sum p m q n one other = omega (arith, one, other)
+
+  pairs-append : (d : Data Item) (xs ys : List (Sequence Item)) (n m : ℕ) → HasPairs d xs n → HasPairs d ys m → HasPairs d (xs ++ ys) (n + m)
+  pairs-append d [] ys n m none more = subst (HasPairs d ys) (omega (arith, none)) more
+  pairs-append d (s ∷ xs) ys n m (first, rest, is, here, later) more =
+      (first, rest + m, omega (arith, is), here, pairs-append d xs ys rest m later more)
+
+  -- all pairs are told
+  pub told_all : (results : List (Result Done NoMemory)) (lists : PassLists) → AreListsOf results lists → AreDone problem shards workers 0 results
+      → 1 ≤ workers → length results ≡ workers
+      → (n : ℕ) × HasPairs (data_of problem) problem.sequences n × (told_of (sum_by pairs_told results) ≡ told_of n)
+  told_all results lists given done some all =
+      let told = told_shares 0 results lists given done in
+      let Has : ℕ → ℕ → Type 0 = λ block m. HasPairs (data_of problem) (sequences_in problem block) m in
+      let by_share = subst (λ (k : ℕ). SumsBy (λ w m. HasBlockPairs problem (share_of w workers (block_count problem)) m) (range_with_len 0 k) told.0) all told.1 in
+      let flat = sums-flat Has (λ w. share_of w workers (block_count problem)) (range_with_len 0 workers) told.0 by_share in
+      let ordered = sums_reordered Has (all_shares_of workers (block_count problem)) (range_with_len 0 (block_count problem)) told.0 (shares_are_all workers (block_count problem) some) flat in
+      (told.0, sums_laid problem (HasPairs (data_of problem)) refl (pairs-append (data_of problem)) told.0 ordered, told.2)
+
+-- the pairs of one block more, which is of the share
+pub pairs_with : (problem : Problem) (worker workers block old here new : ℕ) → block % workers ≡ worker
+    → IsTold (HasBlockPairs problem (share_of worker workers block)) old
+    → IsTold (HasPairs (data_of problem) (sequences_in problem block)) here
+    → new ≡ told_of (old + here)
+    → IsTold (HasBlockPairs problem (share_of worker workers (block + 1))) new
+pairs_with problem worker workers block old here new same (n, has, is) (m, pairs, is_here) added =
+    let Has : ℕ → ℕ → Type 0 = λ b k. HasPairs (data_of problem) (sequences_in problem b) k in
+    let more = sums_more Has (share_of worker workers block) block n m has pairs in
+    (n + m, subst (λ blocks. SumsBy Has blocks (n + m)) (sym (share_with worker workers block same)) more, omega (arith, is, is_here, added))

@@ -1,0 +1,37 @@
+use Rattle.std.proofs.Common.{◌≡◌, ◌++◌, ◌∷◌, [], ℕ, map, ap, sym, subst, ◌∙◌, arith}
+use Rattle.mine_model.specs.Counted.{HasPairs}
+use Rattle.fst_simulate.specs.Problems.{Problem}
+use Rattle.count_shards.specs.Blocks.{data_of, sequences_in}
+use Rattle.count_shards.specs.Shard.{entry_of}
+use Rattle.count_engine.specs.Shares.{share_of, HasBlockPairs, IsTold}
+use Rattle.count_engine.proofs.ShareLemmas.{share_with, share_without}
+use Rattle.count_engine.proofs.MadeLemmas.{MadeMore, made_with}
+use Rattle.count_engine.proofs.WorkLemmas.{pairs_with}
+use Rattle.count_engine.proofs.working.work.Goals as goal
+
+pub loop-block-preserved-then-block-workers : goal.loop-block-preserved-then-block-workers
+loop-block-preserved-then-block-workers g c =
+    let same = share_without c.args.worker c.args.workers c.loop-block.block c.if-block-workers.true in
+    record {
+      passes = c.loop-block.invariant.passes;
+      made = subst (λ blocks. MadeMore (map entry_of blocks) c.args.passes.now c.loop-block.passes) (sym same) c.loop-block.invariant.made;
+      problem = c.loop-block.invariant.problem;
+      pairs = subst (λ blocks. IsTold (HasBlockPairs c.args.job.now blocks) c.loop-block.pairs) (sym same) c.loop-block.invariant.pairs;
+    }
+
+pub loop-block-preserved : goal.loop-block-preserved
+loop-block-preserved g c =
+    let problem : c.loop-block.counts.problem ≡ c.args.job.now = c.loop-block.invariant.problem in
+    let counts = c.in_ok-fill.ensures.counts in
+    let at : c.fill.new.self.number ≡ c.loop-block.block = counts.at in
+    let made_more = subst (λ (n : ℕ). MadeMore (entry_of n ∷ []) c.loop-block.passes c.merge.new.passes) at c.in_ok-merge.ensures.made in
+    let here : IsTold (HasPairs (data_of c.args.job.now) (sequences_in c.args.job.now c.loop-block.block)) c.fill.new.self.pairs =
+    subst (λ (p : Problem). IsTold (HasPairs (data_of p) (sequences_in p c.loop-block.block)) c.fill.new.self.pairs) problem counts.pairs in
+    record {
+      passes = c.in_ok-merge.ensures.passes;
+      made = made_with c.args.worker c.args.workers c.loop-block.block c.args.passes.now c.loop-block.passes c.merge.new.passes
+          c.if-block-workers.false c.loop-block.invariant.made made_more;
+      problem = c.fill.ensures.problem ∙ problem;
+      pairs = pairs_with c.args.job.now c.args.worker c.args.workers c.loop-block.block c.loop-block.pairs c.fill.new.self.pairs c.saturating_add-pairs.result
+          c.if-block-workers.false c.loop-block.invariant.pairs here (rw c.pairs.ensures at c.saturating_add-pairs.ensures);
+    }
