@@ -1,22 +1,17 @@
 -- What grids say, as ranks.
-use Rattle.std.proofs.Common.{◌≡◌, ◌↔◌, ℕ, suc, ◌+◌, ◌-◌, ◌<◌, ◌≤◌, ◌⊎◌, inl, inr, IsTrue, Bool, true, false, None, Some, List, [], ◌∷◌, ◌++◌, length, take, drop, get_or, refl, sym, ap, ◌∙◌, subst, arith, append_assoc}
+use Rattle.std.proofs.Common.{◌≡◌, ◌↔◌, ℕ, ◌-◌, ◌<◌, ◌≤◌, inl, inr, IsTrue, Bool, true, false, None, Some, List, [], ◌∷◌, length, drop, refl, subst, arith}
 use Rattle.std.specs.List.{AllByRecursion, Contains, slice_get}
-use Rattle.std.proofs.lemmas.List.{append-nil, take_more, take_all}
-use Rattle.std.proofs.lemmas.List.Elements.{Contains-append_left, Contains-append_right, Contains-append_cases}
 use Rattle.std.proofs.lemmas.Option.{slice_get_within}
-use Rattle.state_bits.specs.Members.{Has}
 use Rattle.mine_model.specs.declared.item.Item.{Item}
 use Rattle.mine_model.specs.Ranks.{HasRank, Ranking}
-use Rattle.mine_model.proofs.ListLemmas.{Contains-cases, Contains-first, Contains-none}
-use Rattle.fst_compile.specs.declared.edge.Edge.{Edge}
-use Rattle.fst_compile.specs.Transducer.{Transducer, IsPath, Leads, Enters, edges_from}
-use Rattle.fst_compile.proofs.RowLemmas.{Has-none}
+use Rattle.mine_model.proofs.ListLemmas.{Contains-first, Contains-none}
+use Rattle.fst_compile.specs.Transducer.{IsPath}
 use Rattle.fst_simulate.specs.declared.bound.Bound.{Bound}
 use Rattle.fst_simulate.specs.Problems.{Problem}
 use Rattle.fst_simulate.specs.Grids.{IsAllowed, HoldsNeeded, Completes, Ends, WritesRank, GridList, items_at, rest_at}
 use Rattle.candidate_gen.specs.Candidates.{AreRanked}
 use Rattle.candidate_gen.specs.Paths.{Space, Writes}
-use Rattle.candidate_gen.specs.Views.{IsGridOf, WritesMore, WritesAs, LeadsFrom}
+use Rattle.candidate_gen.specs.Views.{IsGridOf, WritesMore, WritesAs}
 
 -- a rank is that of a place of the order
 pub rank-within : (order : List Item) (v : Item) (rank : ℕ) → HasRank order v rank → (1 ≤ rank) × (rank ≤ length order)

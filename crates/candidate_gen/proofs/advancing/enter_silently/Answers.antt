@@ -1,4 +1,4 @@
-use Rattle.std.proofs.Common.{lit<, arith}
+use Rattle.std.proofs.Common.{arith}
 use Rattle.candidate_gen.proofs.advancing.enter_silently.Goals as goal
 
 pub overflow_add-position : goal.overflow_add-position

@@ -1,4 +1,4 @@
-use Rattle.std.proofs.Common.{◌∙◌, arith, get_or, subst, ℕ, ◌⊎◌, ◌↔◌, sym}
+use Rattle.std.proofs.Common.{◌∙◌, arith, get_or, subst, ℕ, ◌⊎◌, ◌↔◌}
 use Rattle.std.proofs.lemmas.List.{get_or_default}
 use Rattle.state_bits.specs.Members.{Has}
 use Rattle.candidate_gen.proofs.SuccessorLemmas.{targets-none, targets-more, targets-all, next-state}
