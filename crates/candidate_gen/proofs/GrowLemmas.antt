@@ -1,19 +1,22 @@
 -- The stack at the start of a walk, after each step, and at its end.
 use Rattle.std.proofs.Common.{◌≡◌, ℕ, suc, ◌+◌, ◌-◌, ◌^◌, ◌<◌, ◌≤◌, inl, inr, None, Some, get_or, Bool, true, false, List, [], ◌∷◌, ◌++◌, length, take, drop, refl, sym, ap, ◌∙◌, subst, arith, lit≤}
 use Rattle.std.specs.List.{Contains, AllPairs, slice_get}
+use Rattle.std.proofs.lemmas.Bool.{cases_Bool}
 use Rattle.std.proofs.lemmas.Option.{slice_get-get_or}
 use Rattle.std.specs.List.Sorted.{IsPermutation}
 use Rattle.std.proofs.lemmas.List.Sorted.{Contains-permutation, IsPermutation-sym}
+use Rattle.std.proofs.lemmas.List.Elements.{Contains-append_left, Contains-append_right, Contains-append_cases}
 use Rattle.mine_model.proofs.ListLemmas.{Contains-cases, Contains-first, Contains-none}
 use Rattle.mine_model.proofs.ElementLemmas.{no_members}
 use Rattle.candidate_gen.specs.declared.place.Place.{Place}
 use Rattle.candidate_gen.specs.Paths.{Space, Writes}
-use Rattle.candidate_gen.specs.Places.{IsOf, IsPlace, IsBelow, Fits, AreWaiting, prefix_of, grown}
-use Rattle.candidate_gen.specs.Walk.{IsWritten, IsToCome, IsListed, AreWritten, Takes, Keeps, Grows, weight}
+use Rattle.candidate_gen.specs.Places.{IsOf, IsPlace, IsBelow, Fits, AreWaiting, OnlyEnds, prefix_of, grown}
+use Rattle.candidate_gen.specs.Walk.{IsWritten, IsToCome, IsListed, AreWritten, Takes, Keeps, Grows, ListsEnds, weight}
 use Rattle.candidate_gen.proofs.AbsorbLemmas.{front-held, last-held, last-cases}
 use Rattle.candidate_gen.proofs.PairLemmas.{pairs-across}
-use Rattle.candidate_gen.proofs.StepLemmas.{below-top, step-listed, step-passed, step-waiting}
-use Rattle.candidate_gen.proofs.WeightLemmas.{weight-falls}
+use Rattle.candidate_gen.proofs.StepLemmas.{below-top, length-grown, stays-short, step-listed, step-passed, step-rest, step-waiting}
+use Rattle.candidate_gen.proofs.EndLemmas.{ends-listed, listed-permuted}
+use Rattle.candidate_gen.proofs.WeightLemmas.{weight-falls, weight-rest}
 
 -- the same places in another order
 pub takes-permuted : (space : Space) (depth rank start : ℕ) (before after found kept : List Place) (stops : Bool)
@@ -54,22 +57,71 @@ module _ (space : Space) (path : List ℕ) (top : Place) (before after : List Pl
       (step-waiting space path top.depth top.rank top.position before grows.rest grows.kept stops top-fits.least top-fits.most waiting grows.takes
       (below-top before grows.front top grows.cut waiting.sorted) grows.sorted)
 
-  pub grown-listed : (listed : List (List ℕ)) → stops ≡ true → IsListed space path before listed
-      → IsListed space (grown path top.depth top.rank) after (listed ++ grown path top.depth top.rank ∷ [])
-  grown-listed listed stop is = subst (λ l. IsListed space (grown path top.depth top.rank) l (listed ++ grown path top.depth top.rank ∷ [])) (sym grows.after_is)
-      (step-listed space path top.depth top.rank top.position before grows.rest grows.kept stops top-fits.least top-fits.most waiting grows.takes
-      (below-top before grows.front top grows.cut waiting.sorted) listed stop is)
-
-  pub grown-passed : (listed : List (List ℕ)) → stops ≡ false → IsListed space path before listed
-      → IsListed space (grown path top.depth top.rank) after listed
-  grown-passed listed goes is = subst (λ l. IsListed space (grown path top.depth top.rank) l listed) (sym grows.after_is)
-      (step-passed space path top.depth top.rank top.position before grows.rest grows.kept stops top-fits.least top-fits.most waiting grows.takes
-      (below-top before grows.front top grows.cut waiting.sorted) listed (λ stop. absurd (cc)) is)
-
   pub grown-lighter : weight (2 ^ 64) (length space.sequence) after < weight (2 ^ 64) (length space.sequence) before
   grown-lighter = subst (λ l. weight (2 ^ 64) (length space.sequence) l < weight (2 ^ 64) (length space.sequence) before) (sym grows.after_is)
       (weight-falls space top.depth top.rank top.position before grows.rest grows.kept stops (2 ^ 64) grows.takes grows.few (lit≤ tt) top (last-held before grows.front top grows.cut) (refl, refl) refl
       (waiting.places top (last-held before grows.front top grows.cut)).within)
+
+module _ (space : Space) (path : List ℕ) (top : Place) (before front rest found : List Place) (stops : Bool) (cut : before ≡ front ++ top ∷ [])
+    (waiting : AreWaiting space path before) (takes : Takes space top.depth top.rank top.position before rest found stops) where
+  fits-top : Fits path top
+  fits-top = waiting.fits top (last-held before front top cut)
+
+  taken-listed : (listed : List (List ℕ)) → stops ≡ true → IsListed space path before listed
+      → IsListed space (grown path top.depth top.rank) (rest ++ found) (listed ++ grown path top.depth top.rank ∷ [])
+  taken-listed listed stop is =
+      step-listed space path top.depth top.rank top.position before rest found stops fits-top.least fits-top.most waiting takes
+      (below-top before front top cut waiting.sorted) listed stop is
+
+  taken-passed : (listed : List (List ℕ)) → stops ≡ false → IsListed space path before listed
+      → IsListed space (grown path top.depth top.rank) (rest ++ found) listed
+  taken-passed listed goes is =
+      step-passed space path top.depth top.rank top.position before rest found stops fits-top.least fits-top.most waiting takes
+      (below-top before front top cut waiting.sorted) listed (λ stop. absurd (cc)) is
+
+  -- the prefix was listed if it is a candidate, and the longer ones are still to come
+  pub taken-either : (listed now : List (List ℕ)) → IsListed space path before listed → (stops ≡ true → now ≡ listed ++ grown path top.depth top.rank ∷ [])
+      → (stops ≡ false → now ≡ listed) → IsListed space (grown path top.depth top.rank) (rest ++ found) now
+  taken-either listed now is stopped passed = elim (cases_Bool stops) [
+    | inl stop ↦ subst (IsListed space (grown path top.depth top.rank) (rest ++ found)) (sym (stopped stop)) (taken-listed listed stop is)
+    | inr goes ↦ subst (IsListed space (grown path top.depth top.rank) (rest ++ found)) (sym (passed goes)) (taken-passed listed goes is)
+  ]
+
+  -- the longer ones wait
+  pub kept-listed : (after left : List Place) (listed : List (List ℕ)) → Keeps rest found after left → IsListed space (grown path top.depth top.rank) (rest ++ found) listed
+      → IsListed space (grown path top.depth top.rank) after listed
+  kept-listed after left listed keeps is =
+      listed-permuted space (grown path top.depth top.rank) (rest ++ found) after listed
+      (λ place. (
+        (λ inside. subst (λ l. Contains l place) (sym keeps.after_is) (elim (Contains-append_cases rest found place inside) [
+          | inl stays ↦ Contains-append_left rest keeps.kept place stays
+          | inr longer ↦ Contains-append_right rest keeps.kept place (Contains-permutation found keeps.kept place keeps.same longer)
+        ])),
+        (λ inside. elim (Contains-append_cases rest keeps.kept place (subst (λ l. Contains l place) keeps.after_is inside)) [
+          | inl stays ↦ Contains-append_left rest found place stays
+          | inr longer ↦ Contains-append_right rest found place (Contains-permutation keeps.kept found place (IsPermutation-sym found keeps.kept keeps.same) longer)
+        ]),
+      ))
+      is
+
+  -- the longer ones can only end, and were listed
+  pub ended-waiting : AreWaiting space (grown path top.depth top.rank) rest
+  ended-waiting =
+      step-rest space path top.depth top.rank top.position before rest found stops fits-top.least fits-top.most waiting takes
+      (below-top before front top cut waiting.sorted)
+
+  pub ended-listed : ((place : Place) → Contains found place → OnlyEnds space place) → (listed after : List (List ℕ))
+      → IsListed space (grown path top.depth top.rank) (rest ++ found) listed → ListsEnds (grown path top.depth top.rank) found listed after
+      → IsListed space (grown path top.depth top.rank) rest after
+  ended-listed ends listed after is (ranks, are, after_is) =
+      ends-listed space (grown path top.depth top.rank) top.depth rest found ranks (length-grown path top.depth top.rank fits-top.least fits-top.most)
+      ended-waiting.fits
+      (stays-short space path top.depth top.rank top.position before rest found stops fits-top.least fits-top.most waiting takes (below-top before front top cut waiting.sorted))
+      (λ place inside. (takes.depths place inside).0) ends are listed after is after_is
+
+  pub ended-lighter : weight (2 ^ 64) (length space.sequence) rest < weight (2 ^ 64) (length space.sequence) before
+  ended-lighter =
+      weight-rest space top.depth top.rank top.position before rest found stops (2 ^ 64) takes (lit≤ tt) top (last-held before front top cut) (refl, refl)
 
 -- the places of the topmost prefix are no earlier than the top
 pub top-first : (waiting front : List Place) (top : Place) → waiting ≡ front ++ top ∷ [] → AllPairs IsBelow waiting

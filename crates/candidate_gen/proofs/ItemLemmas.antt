@@ -284,3 +284,11 @@ step-past space position live found over next others = (
   ]),
   (λ h. elim h [ inl (state, has, path) ↦ absurd (Has-none state has) | inr old ↦ inr old ]),
 )
+
+-- where no state is live only what was found is ahead
+pub step-idle : (space : Space) (position live : ℕ) (found : List Place) → live ≡ 0
+    → (next : ℕ) (others : List ℕ) → IsAhead space position live found next others ↔ IsAhead space (position + 1) 0 found next others
+step-idle space position live found none next others = (
+  (λ h. elim h [ inl (state, has, path) ↦ absurd (Has-none state (subst (λ (l : ℕ). Has l state) none has)) | inr old ↦ inr old ]),
+  (λ h. elim h [ inl (state, has, path) ↦ absurd (Has-none state has) | inr old ↦ inr old ]),
+)

@@ -4,6 +4,7 @@ pub mod PairLemmas
 pub mod StepLemmas
 pub mod FlatLemmas
 pub mod ViewLemmas
+pub mod SuccessorLemmas
 pub mod AbsorbLemmas
 pub mod EnterLemmas
 pub mod ItemLemmas
@@ -11,4 +12,5 @@ pub mod WayLemmas
 pub mod SortLemmas
 pub mod WeightLemmas
 pub mod GrowLemmas
+pub mod EndLemmas
 pub mod RankedLemmas

@@ -245,6 +245,17 @@ module _ (space : Space) (path : List ℕ) (depth rank start : ℕ) (before afte
     );
   }
 
+  -- the places that stay wait in their order
+  pub step-rest : AreWaiting space (grown path depth rank) after
+  step-rest = record {
+    sorted = let (taken, cut) = takes.cut in pairs-front IsBelow after taken (subst (AllPairs IsBelow) cut waiting.sorted);
+    fits = stays-fits;
+    places = λ place stays. waiting.places place (stays-held place stays);
+  }
+
+  pub stays-short : (place : Place) → Contains after place → place.depth ≤ depth
+  stays-short place stays = (below place (stays-held place stays)).0
+
   -- the places that then wait are in their order
   pub step-waiting : AllPairs IsBelow found → AreWaiting space (grown path depth rank) (after ++ found)
   step-waiting sorted = record {

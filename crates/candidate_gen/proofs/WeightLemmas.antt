@@ -100,3 +100,19 @@ weight-falls space depth rank start before after found stops base takes few leas
     let lighter : weight base (length space.sequence) found < base ^ (length space.sequence - start) = lighter-than base (length space.sequence) start least found few
     (λ p h. let d = takes.depths p h in (d.1, d.2.within)) in
     omega (arith, whole, now, one, here, lighter)
+
+-- it falls too where nothing waits in their place
+pub weight-rest : (space : Space) (depth rank start : ℕ) (before after found : List Place) (stops : Bool) (base : ℕ)
+    → Takes space depth rank start before after found stops → 1 ≤ base → (top : Place) → Contains before top → IsOf depth rank top
+    → weight base (length space.sequence) after < weight base (length space.sequence) before
+weight-rest space depth rank start before after found stops base takes least top inside of =
+    let (taken, cut) = takes.cut in
+    let held : Contains taken top = elim (Contains-append_cases after taken top (subst (λ l. Contains l top) cut inside)) [
+      | inl stays ↦ absurd (takes.rest top stays of)
+      | inr gone ↦ gone
+    ] in
+    let whole : weight base (length space.sequence) before ≡ weight base (length space.sequence) after + weight base (length space.sequence) taken =
+    ap (λ l. weight base (length space.sequence) l) cut ∙ weight-append base (length space.sequence) after taken in
+    let one : base ^ (length space.sequence - top.position) ≤ weight base (length space.sequence) taken = heavy base (length space.sequence) taken top held in
+    let some : 1 ≤ base ^ (length space.sequence - top.position) = power-positive base (length space.sequence - top.position) least in
+    omega (arith, whole, one, some)

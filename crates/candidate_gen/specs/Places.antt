@@ -59,3 +59,8 @@ FollowsFound space found rank others =
 abbrev pub FollowsLive : Space → ℕ → ℕ → List ℕ → Type 0
 FollowsLive space position live more =
     (state : ℕ) × Has live state × Writes space (drop position space.sequence) state more
+
+-- from the place on a path writes nothing, and none writes more
+pub record OnlyEnds (space : Space) (place : Place) : Type 0 where
+  pub ends : Follows space place []
+  pub no_more : (next : ℕ) (others : List ℕ) → Follows space place (next ∷ others) → ⊥

@@ -1,5 +1,5 @@
 -- The walk over the prefixes of one sequence's candidates.
-use Rattle.std.specs.Prelude.{◌≡◌, ◌≢◌, ℕ, ◌+◌, ◌-◌, ◌^◌, ◌<◌, ◌⊎◌, ◌↔◌, Bool, IsTrue, List, [], ◌∷◌, ◌++◌, length, Contains, AllPairs}
+use Rattle.std.specs.Prelude.{◌≡◌, ◌≢◌, ℕ, ◌+◌, ◌-◌, ◌^◌, ◌<◌, ◌⊎◌, ◌↔◌, Bool, IsTrue, List, [], ◌∷◌, ◌++◌, length, map, Contains, AllPairs}
 use Rattle.std.specs.List.Sorted.{IsPermutation}
 use Rattle.candidate_gen.specs.declared.place.Place.{Place}
 use Rattle.candidate_gen.specs.Candidates.{IsEarlier}
@@ -67,3 +67,14 @@ pub record Grows (space : Space) (top : Place) (before after : List Place) (stop
   pub sorted : AllPairs IsBelow kept
   pub few : length kept < 2 ^ 64
   pub after_is : after ≡ rest ++ kept
+
+-- these are the ranks of the places, rising
+pub record AreRanksOf (places : List Place) (ranks : List ℕ) : Type 0 where
+  pub rising : AllPairs (λ low high. low < high) ranks
+  pub exact : (rank : ℕ) → Contains ranks rank
+      ↔ ((place : Place) × Contains places place × (place.rank ≡ rank))
+
+-- the path was listed with each rank behind it that one of the places has, rising
+abbrev pub ListsEnds : List ℕ → List Place → List (List ℕ) → List (List ℕ) → Type 0
+ListsEnds path found before after =
+    (ranks : List ℕ) × AreRanksOf found ranks × (after ≡ before ++ map (λ rank. path ++ rank ∷ []) ranks)

@@ -1,11 +1,12 @@
 //! The way of one prefix through the sequence: what may follow it is found position by position, from all its
 //! places at once.
 
-ghost use Rattle.std.specs.Prelude.{◌≡◌, ℕ, ◌+◌, ◌≤◌, ◌<◌, ◌⊎◌, ◌↔◌, List, [], ◌∷◌, ◌++◌, length, map, drop, slice_get, Contains, AllPairs, IsTrue, IfOk, OnOk, IfSome, IfNone, Some};
+ghost use Rattle.std.specs.Prelude.{◌≡◌, ℕ, ◌+◌, ◌*◌, ◌≤◌, ◌<◌, ◌⊎◌, ◌↔◌, List, [], ◌∷◌, ◌++◌, length, map, drop, slice_get, Contains, AllPairs, IsTrue, IfOk, OnOk, IfSome, IfNone, Some};
 ghost use Rattle.state_bits.specs.Members.{Has};
 ghost use Rattle.mine_model.specs.declared.item.Item.{Item};
 ghost use Rattle.fst_simulate.specs.Grids.{Reads};
 ghost use Rattle.candidate_gen.specs.Paths.{Writes};
+ghost use Rattle.candidate_gen.specs.Successors.{AreSuccessors};
 ghost use Rattle.candidate_gen.specs.Views.{WritesMore, WritesAs, IsSmall};
 ghost use Rattle.candidate_gen.specs.declared.place.Place.{Place};
 ghost use Rattle.candidate_gen.specs.Places.{IsPlace, IsBelow, IsOf, FollowsFound};
@@ -13,8 +14,10 @@ ghost use Rattle.candidate_gen.specs.Steps.{IsAhead, FollowsInto, AreStates, Add
 ghost use Rattle.candidate_gen.specs.Walk.{Takes};
 
 use super::place::Place;
-use super::view::{States, View};
+use super::successors::targets_of;
+use super::view::View;
 use mine_model::NoMemory;
+use state_bits::StateSet;
 
 /// Takes the topmost place away, where it is one of the prefix at the position, and gives its state.
 fn take_place(waiting: &mut Vec<Place>, depth: u32, rank: u32, position: u32) -> Option<u32>
@@ -34,8 +37,13 @@ fn take_place(waiting: &mut Vec<Place>, depth: u32, rank: u32, position: u32) ->
 }
 
 /// Makes the state live, where more can be written from it at the position. Whether a path can end there.
-fn take_state(view: &View, position: u32, state: u32, live: &mut States) -> bool
-    requires small { IsSmall view.now }
+fn take_state<const W: usize>(
+    view: &View,
+    position: u32,
+    state: u32,
+    live: &mut StateSet<W>,
+) -> bool
+    requires room { length view.now.problem.machine.labels < 64 * W }
     requires position { position ≤ length view.now.sequence }
     requires state { state ≤ length view.now.problem.machine.labels }
     ensures live { (other : ℕ) → Has live.new other
@@ -50,15 +58,15 @@ fn take_state(view: &View, position: u32, state: u32, live: &mut States) -> bool
 
 /// Takes the places of the prefix at the position from the stack. Those from which more can be written are
 /// live from then on. Whether the prefix can end at one of them.
-fn absorb(
+fn absorb<const W: usize>(
     view: &View,
     depth: u32,
     rank: u32,
     position: u32,
     waiting: &mut Vec<Place>,
-    live: &mut States,
+    live: &mut StateSet<W>,
 ) -> bool
-    requires small { IsSmall view.now }
+    requires room { length view.now.problem.machine.labels < 64 * W }
     requires position { position ≤ length view.now.sequence }
     requires places { (place : Place) → Contains waiting.old.items place → IsPlace view.now place }
     requires states { AreStates view.now live.old }
@@ -103,8 +111,9 @@ fn push_places(
 
 /// Makes the state live behind the item at the position, where its edges read the item and write nothing, and
 /// more can then be written.
-fn enter_silently(view: &View, position: u32, state: u32, live: &mut States)
+fn enter_silently<const W: usize>(view: &View, position: u32, state: u32, live: &mut StateSet<W>)
     requires small { IsSmall view.now }
+    requires room { length view.now.problem.machine.labels < 64 * W }
     requires position { position < length view.now.sequence }
     requires start { 0 < state }
     requires state { state ≤ length view.now.problem.machine.labels }
@@ -149,13 +158,15 @@ fn enter_writing(
 
 /// Enters these states by the item at the position: the states that are live behind it, and, appended, the
 /// places where it has written something.
-fn enter_all(
+fn enter_all<const W: usize>(
     view: &View,
     depth: u32,
     position: u32,
-    targets: &States,
+    targets: &StateSet<W>,
     found: &mut Vec<Place>,
-) -> Result<States, NoMemory>
+) -> Result<StateSet<W>, NoMemory>
+    requires width { W ≤ 17 }
+    requires room { length view.now.problem.machine.labels < 64 * W }
     requires small { IsSmall view.now }
     requires position { position < length view.now.sequence }
     requires targets { (to : ℕ) → Has targets.now to
@@ -168,7 +179,7 @@ fn enter_all(
     ensures places { OnOk result
         (AddsPlaces view.now depth (position + 1) found.old.items found.new.items) }
 {
-    let mut after = States::new();
+    let mut after = StateSet::new();
     for state in targets.iter() {
         enter_silently(view, position, state, &mut after);
         enter_writing(view, depth, position, state, found)?;
@@ -178,13 +189,16 @@ fn enter_all(
 
 /// Goes over the item at the position from all live states: the states that are live behind it, and,
 /// appended, the places where it has written something.
-fn step(
+fn step<const W: usize>(
     view: &View,
+    successors: &[StateSet<W>],
     depth: u32,
     position: u32,
-    live: &States,
+    live: &StateSet<W>,
     found: &mut Vec<Place>,
-) -> Result<States, NoMemory>
+) -> Result<StateSet<W>, NoMemory>
+    requires width { W ≤ 17 }
+    requires successors { AreSuccessors W view.now.problem.machine successors.now }
     requires small { IsSmall view.now }
     requires states { AreStates view.now live.now }
     ensures ahead { IfOk result (λ after. (next : ℕ) (others : List ℕ)
@@ -195,20 +209,23 @@ fn step(
     ensures places { OnOk result (AddsPlaces view.now depth (position + 1) found.old.items found.new.items) }
     ensures within { OnOk result (length view.now.sequence ≤ position → found.new.items ≡ found.old.items) }
 {
-    if position >= view.length() {
-        return Ok(States::new());
+    if live.is_empty() {
+        return Ok(StateSet::new());
     }
-    let targets = view.targets(live);
+    if position >= view.length() {
+        return Ok(StateSet::new());
+    }
+    let targets = targets_of(successors, live);
     enter_all(view, depth, position, &targets, found)
 }
 
 /// The next position that matters to the prefix: this one while a state is live, else that of its next place.
-fn next_position(
+fn next_position<const W: usize>(
     waiting: &[Place],
     depth: u32,
     rank: u32,
     position: u32,
-    live: &States,
+    live: &StateSet<W>,
 ) -> Option<u32>
     ensures live { IfSome result (λ at. (at ≡ position) ⊎ (live.now ≡ 0)) }
     ensures place { IfSome result (λ at. live.now ≡ 0 → (front : List Place) × (top : Place)
@@ -230,14 +247,17 @@ fn next_position(
 /// Takes all places of the topmost prefix from the stack, and finds those of the prefixes that are longer by
 /// one.
 /// Whether the prefix is a candidate.
-pub(crate) fn advance(
+pub(crate) fn advance<const W: usize>(
     view: &View,
+    successors: &[StateSet<W>],
     depth: u32,
     rank: u32,
     start: u32,
     waiting: &mut Vec<Place>,
     found: &mut Vec<Place>,
 ) -> Result<bool, NoMemory>
+    requires width { W ≤ 17 }
+    requires successors { AreSuccessors W view.now.problem.machine successors.now }
     requires small { IsSmall view.now }
     requires sorted { AllPairs IsBelow waiting.old.items }
     requires below { (place : Place) → Contains waiting.old.items place
@@ -251,7 +271,7 @@ pub(crate) fn advance(
         (Takes view.now depth rank start waiting.old.items waiting.new.items found.new.items) }
 {
     let mut ended = false;
-    let mut live = States::new();
+    let mut live = StateSet::<W>::new();
     let mut position = start;
     'positions: while let Some(at) = next_position(
         waiting.as_slice(),
@@ -263,7 +283,7 @@ pub(crate) fn advance(
         if absorb(view, depth, rank, at, waiting, &mut live) {
             ended = true;
         }
-        live = step(view, depth + 1, at, &live, found)?;
+        live = step(view, successors, depth + 1, at, &live, found)?;
         position = at + 1;
     }
     Ok(ended)

@@ -7,6 +7,7 @@ mod listing;
 mod patterns;
 mod place;
 mod rank_lists;
+mod successors;
 mod view;
 mod walk;
 

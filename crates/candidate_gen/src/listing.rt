@@ -2,6 +2,7 @@ ghost use Rattle.std.specs.Prelude.{◌≡◌, ◌≤◌, ◌<◌, ◌==◌, [],
 ghost use Rattle.candidate_gen.specs.Candidates.{AreCandidateRanks};
 
 use super::rank_lists::RankLists;
+use super::successors::{Successors, successors_of};
 use super::view::View;
 use super::walk::Walk;
 use fst_simulate::{Bound, Grids, Job};
@@ -15,6 +16,7 @@ use std::marker::Model;
 pub struct CandidateList<'a> {
     job: &'a Job,
     grids: Grids<'a>,
+    successors: Successors,
     walk: Walk,
     listed: RankLists,
 }
@@ -32,7 +34,9 @@ impl<'a> Model for CandidateList<'a> {
 
     ghost view = { λ c. record { problem = c.job.now; listed = c.listed } };
 
-    ghost invariant = { λ c. IsGridOf c.job.now c.grids };
+    ghost use Rattle.candidate_gen.specs.Widths.{AreOf};
+
+    ghost invariant = { λ c. IsGridOf c.job.now c.grids × AreOf c.job.now.machine c.successors };
 }
 
 impl<'a> CandidateList<'a> {
@@ -47,6 +51,7 @@ impl<'a> CandidateList<'a> {
         Ok(CandidateList {
             job,
             grids: Grids::new(alloc, job, bound)?,
+            successors: successors_of(alloc, job.fst())?,
             walk: Walk::new(alloc),
             listed: RankLists::new(alloc),
         })
@@ -65,7 +70,7 @@ impl<'a> CandidateList<'a> {
         self.grids.clear();
         self.grids.push(seq)?;
         let view = View::new(self.job, &self.grids, seq);
-        self.walk.list(&view, &mut self.listed)?;
+        self.walk.list(&view, &self.successors, &mut self.listed)?;
         Ok(())
     }
 

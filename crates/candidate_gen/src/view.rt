@@ -1,25 +1,17 @@
-ghost use Rattle.std.specs.Prelude.{◌≡◌, ℕ, ◌≤◌, ◌<◌, ◌⊎◌, ◌↔◌, List, [], ◌∷◌, length, drop, IsTrue, Contains, Some, slice_get};
-ghost use Rattle.state_bits.specs.Members.{Has};
+ghost use Rattle.std.specs.Prelude.{◌≡◌, ℕ, ◌≤◌, ◌<◌, ◌↔◌, List, [], ◌∷◌, length, drop, IsTrue, Contains, Some, slice_get};
 ghost use Rattle.mine_model.specs.declared.item.Item.{Item};
-ghost use Rattle.fst_compile.specs.Transducer.{Leads};
 ghost use Rattle.fst_simulate.specs.Problems.{IsWhole, items_of};
 ghost use Rattle.fst_simulate.specs.Grids.{Reads};
 ghost use Rattle.candidate_gen.specs.Paths.{Writes};
-ghost use Rattle.candidate_gen.specs.Views.{IsGridOf, WritesMore, WritesAs, LeadsFrom, IsSmall};
-ghost use Rattle.candidate_gen.specs.Steps.{AreStates};
+ghost use Rattle.candidate_gen.specs.Views.{IsGridOf, WritesMore, WritesAs, IsSmall};
 
-use fst_compile::{Fst, State};
+use fst_compile::State;
 use fst_simulate::{Grids, Job};
-use state_bits::StateSet;
 use std::marker::Model;
-
-/// A set of states: it has room for 1,025 of them.
-pub(crate) type States = StateSet<17>;
 
 /// One sequence with its grid, as a walk reads it.
 #[derive(Drop)]
 pub(crate) struct View<'a, 'b> {
-    fst: &'a Fst,
     grids: &'a Grids<'b>,
     length: u32,
 }
@@ -38,7 +30,7 @@ impl<'a, 'b> Model for View<'a, 'b> {
 
     ghost view = { λ v. record { problem = v.grids.now.problem; sequence = items_at v.grids.now 0 } };
 
-    ghost invariant = { λ v. IsView v.fst.now v.grids.now v.length };
+    ghost invariant = { λ v. IsView v.grids.now v.length };
 }
 
 impl<'a, 'b> View<'a, 'b> {
@@ -50,16 +42,16 @@ impl<'a, 'b> View<'a, 'b> {
         ensures space { result ≡ record { problem = job.now; sequence = items_of job.now seq } }
         ensures whole { IsWhole job.now }
     {
-        let fst = job.fst();
-        let _states = fst.states();
+        let _states = job.fst().states();
         let length = job.db().sequence(seq).len() as u32;
-        View { fst, grids, length }
+        View { grids, length }
     }
 
     /// How many items the sequence has.
     pub(crate) fn length(&self) -> u32
         ensures length { result ≡ length self.now.sequence }
         ensures small { IsSmall self.now }
+        ensures whole { IsWhole self.now.problem }
     {
         self.length
     }
@@ -113,32 +105,5 @@ impl<'a, 'b> View<'a, 'b> {
             → (Contains result.now rank ↔ WritesAs self.now.problem t state rank) }
     {
         self.grids.outputs(0, position, State(state))
-    }
-
-    /// The states to which edges lead from one of these.
-    pub(crate) fn targets(&self, states: &States) -> States
-        requires { AreStates self.now states.now }
-        ensures targets { (to : ℕ) → Has result to ↔ LeadsFrom self.now.problem.machine states.now to }
-        ensures within { (to : ℕ) → Has result to
-            → (0 < to) × (to ≤ length self.now.problem.machine.labels) }
-        ensures whole { IsWhole self.now.problem }
-    {
-        let _length = self.length;
-        let mut targets = States::new();
-        for state in states.iter() {
-            add_targets(self.fst, state, &mut targets);
-        }
-        targets
-    }
-}
-
-// Adds the states to which edges lead from this one.
-fn add_targets(fst: &Fst, state: u32, targets: &mut States)
-    requires state { state ≤ length fst.now.labels }
-    requires few { length fst.now.labels ≤ 1024 }
-    ensures { (to : ℕ) → Has targets.new to ↔ (Has targets.old to ⊎ Leads fst.now state to) }
-{
-    for edge in fst.edges(State(state)) {
-        targets.add(edge.to.0);
     }
 }

@@ -1,24 +1,29 @@
-ghost use Rattle.std.specs.Prelude.{◌≡◌, List, [], ◌∷◌, ◌++◌, IfOk, OnOk};
+ghost use Rattle.std.specs.Prelude.{◌≡◌, ◌^◌, ◌≤◌, ◌<◌, true, false, List, [], ◌∷◌, ◌++◌, length, map, Contains, IsTrue, OnOk};
 ghost use Rattle.candidate_gen.specs.declared.place.Place.{Place};
+ghost use Rattle.candidate_gen.specs.Successors.{AreSuccessors};
+ghost use Rattle.candidate_gen.specs.Widths.{AreOf};
 ghost use Rattle.candidate_gen.specs.Views.{IsSmall};
-ghost use Rattle.candidate_gen.specs.Places.{AreWaiting, grown};
-ghost use Rattle.candidate_gen.specs.Walk.{AreWritten, IsListed, Keeps, Grows};
+ghost use Rattle.candidate_gen.specs.Places.{IsPlace, AreWaiting, OnlyEnds};
+ghost use Rattle.candidate_gen.specs.Walk.{AreWritten, IsListed, Keeps, AreRanksOf, ListsEnds, weight};
 
 use super::advancing::advance;
 use super::place::Place;
 use super::rank_lists::RankLists;
+use super::successors::Successors;
 use super::view::View;
 use mine_model::NoMemory;
 use smallvec::SmallVec;
+use state_bits::StateSet;
 use std::alloc::Global;
 
 /// What a walk over the prefixes of a sequence's candidates keeps: the prefix where it is, the places of the
-/// prefixes that wait, and those that one step finds. Each walk uses the same room again.
+/// prefixes that wait, and those that one step finds, or their ranks. Each walk uses the same room again.
 #[derive(Drop)]
 pub(crate) struct Walk {
     path: SmallVec<u32, 16>,
     waiting: Vec<Place>,
     found: Vec<Place>,
+    ranks: Vec<u32>,
 }
 
 impl Walk {
@@ -28,29 +33,57 @@ impl Walk {
             path: SmallVec::new(alloc),
             waiting: Vec::new(alloc),
             found: Vec::new(alloc),
+            ranks: Vec::new(alloc),
         }
     }
 
     /// Appends the ranks of each candidate, rising.
-    pub(crate) fn list(&mut self, view: &View, listed: &mut RankLists) -> Result<(), NoMemory>
-        requires { listed.old ≡ [] }
+    pub(crate) fn list(
+        &mut self,
+        view: &View,
+        successors: &Successors,
+        listed: &mut RankLists,
+    ) -> Result<(), NoMemory>
+        requires successors { AreOf view.now.problem.machine successors.now }
+        requires none { listed.old ≡ [] }
+        ensures { OnOk result (AreWritten view.now listed.new) }
+    {
+        match successors {
+            Successors::One(sets) => self.list_over(view, sets.as_slice(), listed),
+            Successors::Four(sets) => self.list_over(view, sets.as_slice(), listed),
+            Successors::Wide(sets) => self.list_over(view, sets.as_slice(), listed),
+        }
+    }
+
+    // The same with sets of one width.
+    fn list_over<const W: usize>(
+        &mut self,
+        view: &View,
+        successors: &[StateSet<W>],
+        listed: &mut RankLists,
+    ) -> Result<(), NoMemory>
+        requires width { W ≤ 17 }
+        requires successors { AreSuccessors W view.now.problem.machine successors.now }
+        requires none { listed.old ≡ [] }
         ensures { OnOk result (AreWritten view.now listed.new) }
     {
         let _length = view.length();
-        self.begin(view)?;
+        self.begin(view, successors)?;
         'prefixes: while let Some(top) = self.waiting.last().copied() {
-            let stops = self.grow(view, top)?;
-            if !stops {
-                continue;
-            }
-            listed.push(self.path.as_slice())?;
+            self.grow(view, successors, top, listed)?;
         }
         Ok(())
     }
 
     // The empty prefix has gone its way, and the prefixes of one rank wait.
-    fn begin(&mut self, view: &View) -> Result<(), NoMemory>
-        requires { IsSmall view.now }
+    fn begin<const W: usize>(
+        &mut self,
+        view: &View,
+        successors: &[StateSet<W>],
+    ) -> Result<(), NoMemory>
+        requires width { W ≤ 17 }
+        requires successors { AreSuccessors W view.now.problem.machine successors.now }
+        requires small { IsSmall view.now }
         ensures path { OnOk result (self.new.path.items ≡ []) }
         ensures found { OnOk result (self.new.found.items ≡ []) }
         ensures waiting { OnOk result (AreWaiting view.now [] self.new.waiting.items) }
@@ -65,35 +98,142 @@ impl Walk {
             position: 0,
             state: 0,
         })?;
-        advance(view, 0, 0, 0, &mut self.waiting, &mut self.found)?;
+        advance(
+            view,
+            successors,
+            0,
+            0,
+            0,
+            &mut self.waiting,
+            &mut self.found,
+        )?;
         keep(&mut self.waiting, &mut self.found)?;
         Ok(())
     }
 
-    // Takes the topmost prefix from the stack, and puts those that are longer by one in its place. Whether it
-    // is a candidate.
-    fn grow(&mut self, view: &View, top: Place) -> Result<bool, NoMemory>
+    // Takes the topmost prefix from the stack, and lists it where it is a candidate. Those that are longer by
+    // one are put in its place, or, where all of them can only end, listed too.
+    fn grow<const W: usize>(
+        &mut self,
+        view: &View,
+        successors: &[StateSet<W>],
+        top: Place,
+        listed: &mut RankLists,
+    ) -> Result<(), NoMemory>
+        requires width { W ≤ 17 }
+        requires successors { AreSuccessors W view.now.problem.machine successors.now }
         requires small { IsSmall view.now }
         requires waiting { AreWaiting view.now self.old.path.items self.old.waiting.items }
         requires top { (front : List Place) × (self.old.waiting.items ≡ front ++ top ∷ []) }
         requires found { self.old.found.items ≡ [] }
-        ensures path { OnOk result (self.new.path.items ≡ grown self.old.path.items top.depth top.rank) }
+        requires listed { IsListed view.now self.old.path.items self.old.waiting.items listed.old }
         ensures found { OnOk result (self.new.found.items ≡ []) }
-        ensures grows { IfOk result (Grows view.now top self.old.waiting.items self.new.waiting.items) }
+        ensures waiting { OnOk result (AreWaiting view.now self.new.path.items self.new.waiting.items) }
+        ensures listed { OnOk result
+            (IsListed view.now self.new.path.items self.new.waiting.items listed.new) }
+        ensures lighter { OnOk result
+            (weight (2 ^ 64) (length view.now.sequence) self.new.waiting.items
+            < weight (2 ^ 64) (length view.now.sequence) self.old.waiting.items) }
     {
         self.path.truncate(top.depth as usize - 1);
         self.path.push(top.rank)?;
-        let ended = advance(
+        let stops = advance(
             view,
+            successors,
             top.depth,
             top.rank,
             top.position,
             &mut self.waiting,
             &mut self.found,
         )?;
+        list_prefix(self.path.as_slice(), stops, listed)?;
+        if only_end(view, self.found.as_slice()) {
+            list_ends(&mut self.path, &mut self.found, &mut self.ranks, listed)?;
+            return Ok(());
+        }
         keep(&mut self.waiting, &mut self.found)?;
-        Ok(ended)
+        Ok(())
     }
+}
+
+// Lists the prefix, where it is a candidate.
+fn list_prefix(path: &[u32], stops: bool, listed: &mut RankLists) -> Result<(), NoMemory>
+    ensures stops { OnOk result (stops ≡ true → listed.new ≡ listed.old ++ path.now ∷ []) }
+    ensures passes { OnOk result (stops ≡ false → listed.new ≡ listed.old) }
+{
+    if stops {
+        listed.push(path)?;
+    }
+    Ok(())
+}
+
+// Whether paths from each of these places can only end.
+fn only_end(view: &View, places: &[Place]) -> bool
+    requires { (place : Place) → Contains places.now place → IsPlace view.now place }
+    ensures { IsTrue result → (place : Place) → Contains places.now place → OnlyEnds view.now place }
+{
+    for place in places {
+        if !ends_there(view, *place) {
+            return false;
+        }
+    }
+    true
+}
+
+// The same of one place.
+fn ends_there(view: &View, place: Place) -> bool
+    requires { IsPlace view.now place }
+    ensures { IsTrue result → OnlyEnds view.now place }
+{
+    view.ends(place.position, place.state) && !view.writes_more(place.position, place.state)
+}
+
+// Lists the path with each rank behind it that a place has which was found, rising.
+fn list_ends(
+    path: &mut SmallVec<u32, 16>,
+    found: &mut Vec<Place>,
+    ranks: &mut Vec<u32>,
+    listed: &mut RankLists,
+) -> Result<(), NoMemory>
+    ensures path { OnOk result (path.new.items ≡ path.old.items) }
+    ensures found { OnOk result (found.new.items ≡ []) }
+    ensures listed { OnOk result (ListsEnds path.old.items found.old.items listed.old listed.new) }
+{
+    collect_ranks(found.as_slice(), ranks)?;
+    found.clear();
+    list_longer(path, ranks.as_slice(), listed)
+}
+
+// The ranks of these places, rising.
+fn collect_ranks(places: &[Place], ranks: &mut Vec<u32>) -> Result<(), NoMemory>
+    ensures { OnOk result (AreRanksOf places.now ranks.new.items) }
+{
+    ranks.clear();
+    for place in places {
+        ranks.push(place.rank)?;
+    }
+    ranks.sort_unstable();
+    ranks.dedup();
+    Ok(())
+}
+
+// Lists the path with each of the ranks behind it.
+fn list_longer(
+    path: &mut SmallVec<u32, 16>,
+    ranks: &[u32],
+    listed: &mut RankLists,
+) -> Result<(), NoMemory>
+    ensures path { OnOk result (path.new.items ≡ path.old.items) }
+    ensures listed { OnOk result
+        (listed.new ≡ listed.old ++ map (λ rank. path.old.items ++ rank ∷ []) ranks.now) }
+{
+    let length = path.len();
+    for rank in ranks {
+        path.push(*rank)?;
+        listed.push(path.as_slice())?;
+        path.truncate(length);
+    }
+    Ok(())
 }
 
 // Puts the places that were found on the stack, those to be taken first at its top.

@@ -1,14 +1,14 @@
 use Rattle.std.proofs.Common.{◌≡◌, [], ◌^◌, length}
 use Rattle.candidate_gen.specs.Places.{AreWaiting}
 use Rattle.candidate_gen.specs.Walk.{IsListed, weight}
-use Rattle.candidate_gen.proofs.walk.Walk.list.Given as goal
+use Rattle.candidate_gen.proofs.walk.Walk.list_over.Given as goal
 
 abbrev pub invariant-prefixes : goal.invariant-prefixes
-invariant-prefixes l = record {
+invariant-prefixes g l = record {
   waiting : AreWaiting l.view l.self.path.items l.self.waiting.items;
   listed : IsListed l.view l.self.path.items l.self.waiting.items l.listed;
   found : l.self.found.items ≡ [];
 }
 
 abbrev pub decreases-prefixes : goal.decreases-prefixes
-decreases-prefixes l = weight (2 ^ 64) (length l.view.sequence) l.self.waiting.items
+decreases-prefixes g l = weight (2 ^ 64) (length l.view.sequence) l.self.waiting.items
