@@ -1,5 +1,6 @@
 -- An expression that is not refused has not too many leaves once its repetitions are written out.
 use Rattle.std.proofs.Common.{◌≡◌, ◌⊎◌, inl, inr, ℕ, ◌≤◌, ◌<◌, min, nat_lt, true, false, List, map, refl, sym, ap, ◌∙◌, subst, arith}
+use Rattle.std.proofs.lemmas.Bool.{cases_Bool}
 use Rattle.std.proofs.lemmas.Bool.Decides.{nat_tests}
 use Rattle.mine_model.specs.declared.item.Item.{Item}
 use Rattle.mine_model.specs.declared.fault.Fault.{Fault}
@@ -10,7 +11,6 @@ use Rattle.mine_model.specs.Grammar.{Use, ReadsAs}
 use Rattle.mine_model.specs.Names.{name_of}
 use Rattle.mine_model.specs.First.{FirstOf}
 use Rattle.mine_model.specs.Refusal.{IsExpressionRefusal}
-use Rattle.mine_model.proofs.ElementLemmas.{tells}
 use Rattle.patex_parser.specs.Parsing.{use_at, named_tree}
 use Rattle.patex_parser.proofs.RunLemmas.{unfolded_leaves-by}
 
@@ -22,7 +22,7 @@ behind accepted fault is = accepted fault (inr ((λ other first. accepted other 
 pub leaves_few : (text : List ℕ) (tree : Tree Use) → ReadsAs text tree → ((fault : Fault) → IsExpressionRefusal text fault → ⊥)
     → unfolded_leaves tree ≤ most_leaves
 leaves_few text tree (tokens, are, reads) accepted =
-    elim (tells (nat_lt most_leaves (unfolded_leaves tree))) [
+    elim (cases_Bool (nat_lt most_leaves (unfolded_leaves tree))) [
       | inl many ↦
           let more : most_leaves < unfolded_leaves tree = grind (arith, nat_tests, many) in
           absurd (behind (behind (behind (behind (behind (behind accepted)))))

@@ -3,9 +3,9 @@ use Rattle.std.proofs.Common.{◌≡◌, ◌≢◌, ℕ, zero, suc, ◌+◌, ◌
 use Rattle.std.specs.Bool.{IsTrue, ◌==◌}
 use Rattle.std.specs.List.{All, AllPairs, AllByRecursion, Contains, slice_get, slice_index, slice_range}
 use Rattle.std.proofs.Math.ListN.{length-set}
-use Rattle.std.proofs.Math.Seq.{get_or-append_seam, drop-append_seam}
+use Rattle.std.proofs.Math.Seq.{get_or-append_seam}
 use Rattle.std.proofs.lemmas.List.{get_or_append_left, append-nil, length-append, take_more, take_all}
-use Rattle.std.proofs.lemmas.List.Elements.{Contains-get_or, Contains-append_cases, Contains-append_left, Contains-append_right}
+use Rattle.std.proofs.lemmas.List.Elements.{All-from_recursion, Contains-get_or, Contains-append_cases, Contains-append_left, Contains-append_right}
 use Rattle.std.proofs.lemmas.Option.{slice_get_within, get_or_from_slice_get, slice_get_read, slice_get-get_or, same_Some}
 use Rattle.std.proofs.lemmas.Bool.{cases_lt, cases_eq}
 use Rattle.mine_model.specs.declared.item.Item.{Item}
@@ -14,8 +14,9 @@ use Rattle.mine_model.specs.Expression.{Tree, leaf, cat, alt, rep, cap, named_by
 use Rattle.mine_model.specs.Numbered.{leaf_of, tree_of}
 use Rattle.mine_model.specs.Generation.{Matches, MayWrite, WritesAt}
 use Rattle.mine_model.specs.Ranks.{HasRank}
-use Rattle.mine_model.proofs.ListLemmas.{Contains-cases, Contains-first, Contains-none, Contains-by, AllByRecursion-contained, slice_range-append}
-use Rattle.mine_model.proofs.AncestryLemmas.{Item-same}
+use Rattle.mine_model.proofs.ListLemmas.{Contains-cases, Contains-first, Contains-none, Contains-by, front_of_both, back_of_both, slice_range-append}
+use Rattle.mine_model.proofs.AncestryLemmas.{Item-same, slice_range-behind}
+use Rattle.mine_model.proofs.ElementLemmas.{get-left}
 use Rattle.fst_compile.specs.declared.edge.Label.{Label}
 use Rattle.fst_compile.specs.Shape.{Entry, labels_of, unfold_tree}
 use Rattle.fst_compile.specs.Transducer.{entry_of}
@@ -27,7 +28,6 @@ use Rattle.fst_simulate.specs.Problems.{Problem, IsWhole}
 use Rattle.fst_simulate.specs.Grids.{Reads, WritesRank}
 use Rattle.fst_simulate.specs.Tables.{ClassSets, IsClassOf, unknown}
 use Rattle.fst_simulate.specs.Kinds.{IsNeededRank, Goes, Needs, IsClassFor, IsCell, IsRow, AreEntered, Extends, IsKind, HasKind, AreKinds, KindsGrow}
-use Rattle.fst_simulate.proofs.TableLemmas.{slice_get-grow}
 
 -- ---- ranks
 
@@ -128,10 +128,6 @@ All-from_contains xs n below i d inside = below (get_or xs i d) (Contains-get_or
 
 -- ---- the leaves of the labels name items of the hierarchy
 
-AllByRecursion-parts : {X : Type 0} (P : X → Type 0) (xs ys : List X) → AllByRecursion P (xs ++ ys) → AllByRecursion P xs × AllByRecursion P ys
-AllByRecursion-parts P [] ys all = (tt, all)
-AllByRecursion-parts P (x ∷ xs) ys (here, rest) = let (left, right) = AllByRecursion-parts P xs ys rest in ((here, left), right)
-
 Contains-copies : {X : Type 0} (n : ℕ) (xs : List X) (x : X) → Contains (copies_of n xs) x → Contains xs x
 Contains-copies zero xs x held = absurd (Contains-none x (subst (λ ys. Contains ys x) (copies_of-zero xs) held))
 Contains-copies (suc n) xs x held = elim (Contains-append_cases xs (copies_of n xs) x (subst (λ ys. Contains ys x) (copies_of-suc n xs) held)) [
@@ -147,13 +143,15 @@ module _ (P : Item → Type 0) where
     | inr none ↦ absurd (Contains-none entry none)
   ]
   named_entries (cat left right) captured all entry held =
-      let (l, r) = AllByRecursion-parts P (named_in left) (named_in right) all in
+      let l = front_of_both P (named_in left) (named_in right) all in
+      let r = back_of_both P (named_in left) (named_in right) all in
       elim (Contains-append_cases (labels_of (unfold_tree left captured)) (labels_of (unfold_tree right captured)) entry held) [
         | inl first ↦ named_entries left captured l entry first
         | inr second ↦ named_entries right captured r entry second
       ]
   named_entries (alt left right) captured all entry held =
-      let (l, r) = AllByRecursion-parts P (named_in left) (named_in right) all in
+      let l = front_of_both P (named_in left) (named_in right) all in
+      let r = back_of_both P (named_in left) (named_in right) all in
       elim (Contains-append_cases (labels_of (unfold_tree left captured)) (labels_of (unfold_tree right captured)) entry held) [
         | inl first ↦ named_entries left captured l entry first
         | inr second ↦ named_entries right captured r entry second
@@ -163,9 +161,6 @@ module _ (P : Item → Type 0) where
       (Contains-copies (unfolded_times least most) (labels_of (unfold_tree inner captured)) entry
       (subst (λ (es : List Entry). Contains es entry) (labels-repeated (unfold_tree inner captured) least most) held))
   named_entries (cap inner) captured all entry held = named_entries inner true all entry held
-
-All-from_recursion : {X : Type 0} (P : X → Type 0) (xs : List X) → AllByRecursion P xs → All P xs
-All-from_recursion P xs all i d inside = AllByRecursion-contained P xs (get_or xs i d) all (Contains-get_or xs i d inside)
 
 -- the leaf of a label names items of the hierarchy
 pub named_label : (problem : Problem) → IsWhole problem → (k : ℕ) (label : Label) → slice_get problem.machine.labels k ≡ Some label
@@ -190,7 +185,7 @@ label_at labels k read captured inside first second =
     let d : Label = record { leaf = read; captured = captured } in
     slice_get-get_or labels k d inside ∙ ap Some (label_same (get_or labels k d) read captured (first d) (second d))
 
-nil-not-cons : (v : Item) (xs : List Item) → [] ≡ v ∷ xs → ⊥
+pub nil-not-cons : (v : Item) (xs : List Item) → [] ≡ v ∷ xs → ⊥
 nil-not-cons v xs e = let h : 0 ≡ suc (length xs) = ap length e in omega arith
 
 module _ (problem : Problem) (bound : Bound) (t : Item) (k : ℕ) (read : ItemLeaf) where
@@ -235,11 +230,6 @@ module _ (problem : Problem) (bound : Bound) (t : Item) (k : ℕ) (read : ItemLe
 
 -- ---- a row of outputs, state by state
 
-slice_range-behind : (xs ys : List ℕ) → slice_range (xs ++ ys) (length xs) (length (xs ++ ys)) ≡ ys
-slice_range-behind xs ys =
-    let rest : length (xs ++ ys) - length xs ≡ length ys = omega (arith, length-append xs ys) in
-    rw (rest, drop-append_seam xs ys) (take_all (length ys) ys (omega arith))
-
 module _ (problem : Problem) (bound : Bound) (t : Item) (base : ℕ) where
   -- a cell stays where more stands behind it
   pub IsCell-grow : (ends more ranks others : List ℕ) (k : ℕ) → 1 ≤ k → base + k < length ends → IsCell problem bound t base ends ranks k
@@ -278,7 +268,7 @@ module _ (problem : Problem) (bound : Bound) (t : Item) (base : ℕ) where
           | inl same ↦ rw same (record {
             forward = omega (arith, at_end, before, is, length-append ranks found);
             within = omega (arith, at_end, is);
-            outputs = rw (at_end, before, is, slice_range-behind ranks found) are;
+            outputs = rw (at_end, before, is, slice_range-behind ranks found (length (ranks ++ found)) (length-append ranks found)) are;
           })
           | inr other ↦ IsCell-grow ends (end ∷ []) ranks found j least (omega arith) (row.cells j least (omega arith))
         ];
@@ -341,7 +331,7 @@ pub IsKind-grow : (problem : Problem) (bound : Bound) (classes classes' : List C
 IsKind-grow problem bound classes classes' ends ends' ranks ranks' t kind is (more1, e1) (more2, e2) (more3, e3) =
     let room = is.room in
     rw (e1, e2, e3) (record {
-      class = let (c, found, right) = is.class in (c, slice_get-grow classes more1 kind.class c found, right);
+      class = let (c, found, right) = is.class in (c, get-left classes more1 kind.class c found, right);
       room = omega (arith, room, length-append ends more2);
       cells = λ k target. IsCell-grow problem bound t kind.base ends more2 ranks more3 k target.0 (let high = target.1 in omega arith) (is.cells k target);
     })
@@ -350,7 +340,7 @@ pub HasKind-grow : (problem : Problem) (bound : Bound) (classes classes' : List 
     → HasKind problem bound classes kinds t number → Extends classes classes' → KindsGrow kinds kinds' → HasKind problem bound classes' kinds' t number
 HasKind-grow problem bound classes classes' kinds kinds' t number (kind, found, is) grown grow = (
   kind,
-  (let (more, e) = grow.kinds in rw e (slice_get-grow kinds.kinds.items more number kind found)),
+  (let (more, e) = grow.kinds in rw e (get-left kinds.kinds.items more number kind found)),
   IsKind-grow problem bound classes classes' kinds.ends.items kinds'.ends.items kinds.ranks.items kinds'.ranks.items t kind is grown grow.ends grow.ranks,
 )
 

@@ -1,11 +1,11 @@
 -- The equations by which what completes and what ends follows from the next place.
-use Rattle.std.proofs.Common.{◌≡◌, ℕ, suc, ◌-◌, ◌⊎◌, ◌↔◌, inl, inr, Bool, true, false, List, [], ◌∷◌, ◌++◌, length, arith, refl, sym, ap, ◌∙◌, subst, Some, None, Option, rules}
+use Rattle.std.proofs.Common.{◌≡◌, ℕ, ◌-◌, ◌⊎◌, ◌↔◌, inl, inr, Bool, true, false, List, [], ◌∷◌, ◌++◌, arith, refl, sym, ap, ◌∙◌, subst, Some, None, Option, rules}
 use Rattle.std.specs.List.{AllByRecursion, slice_get}
 use Rattle.std.proofs.lemmas.Option.{slice_get-get_or, same_Some}
 use Rattle.mine_model.specs.declared.item.Item.{Item}
 use Rattle.mine_model.specs.Expression.{Leaf}
 use Rattle.mine_model.specs.Numbered.{leaf_of}
-use Rattle.mine_model.specs.Generation.{Matches, WritesAt}
+use Rattle.mine_model.specs.Generation.{Matches, MayWrite, WritesAt}
 use Rattle.mine_model.specs.Hierarchy.{Link}
 use Rattle.mine_model.specs.Ranks.{HasRank}
 use Rattle.mine_model.proofs.ListLemmas.{Contains-cases, Contains-first, Contains-other}
@@ -16,13 +16,10 @@ use Rattle.fst_simulate.specs.declared.bound.Bound.{Bound}
 use Rattle.fst_simulate.specs.Problems.{Problem, IsWhole}
 use Rattle.fst_simulate.specs.Grids.{IsAllowed, IsNeeded, HoldsNeeded, Completes, Ends, Reads, WritesRank}
 use Rattle.fst_simulate.specs.Kinds.{IsNeededRank, Goes, Needs, IsTarget}
-use Rattle.fst_simulate.proofs.KindLemmas.{rank_unique}
-
-nil-not-cons : (v : Item) (xs : List Item) → [] ≡ v ∷ xs → ⊥
-nil-not-cons v xs e = let h : 0 ≡ suc (length xs) = ap length e in omega arith
+use Rattle.fst_simulate.proofs.KindLemmas.{rank_unique, nil-not-cons}
 
 -- what stands at an edge's target is what the edge carries
-label_at_edge : (labels : List Label) (edge : Edge) → Enters labels edge → slice_get labels (edge.to.0 - 1) ≡ Some (record { leaf = edge.leaf; captured = edge.captured })
+pub label_at_edge : (labels : List Label) (edge : Edge) → Enters labels edge → slice_get labels (edge.to.0 - 1) ≡ Some (record { leaf = edge.leaf; captured = edge.captured })
 label_at_edge labels edge enters =
     let d : Label = record { leaf = edge.leaf; captured = edge.captured } in
     let place : edge.to.0 - 1 ≡ enters.number = omega (arith, enters.to) in
@@ -53,14 +50,19 @@ path-step problem whole state t rest output = (
       (edge, here, there, held, matches, writes, joined, subst (λ (k : ℕ). IsPath problem.hierarchy.links problem.machine k rest there) (sym to) path)),
 )
 
-writes-cases : (links : List (Link Item)) (l : Leaf Item) (captured : Bool) (t : Item) (output : List Item) → WritesAt links l captured t output
-    → (output ≡ []) ⊎ ((v : Item) × (output ≡ v ∷ []))
-writes-cases links l true t output writes = let (v, _, same) = writes in inr (v, same)
-writes-cases links l false t output writes = inl writes
+-- a leaf that is not captured writes nothing, and a captured one writes one item
+pub writes-cases : (links : List (Link Item)) (leaf : Leaf Item) (captured : Bool) (t : Item) (output : List Item) → WritesAt links leaf captured t output
+    → ((captured ≡ false) × (output ≡ [])) ⊎ ((captured ≡ true) × ((v : Item) × MayWrite links leaf t v × (output ≡ v ∷ [])))
+writes-cases links leaf true t output writes = inr (refl, writes)
+writes-cases links leaf false t output writes = inl (refl, writes)
 
 -- an edge writes nothing or one item
 pub reads-cases : (problem : Problem) (t : Item) (k : ℕ) (here : List Item) → Reads problem t k here → (here ≡ []) ⊎ ((v : Item) × (here ≡ v ∷ []))
-reads-cases problem t k here (label, found, matches, writes) = writes-cases problem.hierarchy.links (leaf_of label.leaf) label.captured t here writes
+reads-cases problem t k here (label, found, matches, writes) =
+    elim (writes-cases problem.hierarchy.links (leaf_of label.leaf) label.captured t here writes) [
+      | inl silent ↦ inl silent.1
+      | inr (is, (v, may, same)) ↦ inr (v, same)
+    ]
 
 -- edges lead into states
 pub target-of : (problem : Problem) → IsWhole problem → (from to : ℕ) → Leads problem.machine from to → IsTarget problem to

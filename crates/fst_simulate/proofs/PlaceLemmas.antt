@@ -14,7 +14,7 @@ use Rattle.fst_simulate.specs.Problems.{Problem, IsWhole}
 use Rattle.fst_simulate.specs.Tables.{ClassSets, TripleSets, TableValue, Grows, IsStep, IsLast}
 use Rattle.fst_simulate.specs.Kinds.{IsClassFor, HasKind, KindsGrow, Extends}
 use Rattle.fst_simulate.specs.Places.{IsTripleOf, HasTriple, IsTableOf, IsPlaceAt, ArePlaces}
-use Rattle.fst_simulate.proofs.TableLemmas.{slice_get-grow}
+use Rattle.mine_model.proofs.ElementLemmas.{get-left}
 use Rattle.fst_simulate.proofs.KindLemmas.{HasKind-grow, slice_get-last}
 use Rattle.fst_simulate.proofs.PathLemmas.{target-of, ends-step, seen-step, unseen-step}
 
@@ -96,13 +96,13 @@ IsTripleOf-step problem whole bound table is_table t rest class after before is_
 
 pub HasTriple-grow : (problem : Problem) (bound : Bound) (triples triples' : List TripleSets) (rest : List Item) (number : ℕ)
     → HasTriple problem bound triples rest number → Extends triples triples' → HasTriple problem bound triples' rest number
-HasTriple-grow problem bound triples triples' rest number (triple, found, is) (more, e) = (triple, (rw e (slice_get-grow triples more number triple found)), is)
+HasTriple-grow problem bound triples triples' rest number (triple, found, is) (more, e) = (triple, (rw e (get-left triples more number triple found)), is)
 
 pub IsTableOf-grow : (problem : Problem) (table table' : TableValue) → IsTableOf problem table → Grows table table' → IsTableOf problem table'
 IsTableOf-grow problem table table' is grows = record {
   states = ap length grows.predecessors ∙ is.states;
   edges = rw grows.predecessors is.edges;
-  last = let (triple, found, last) = is.last in let (more, e) = grows.triples in (triple, (rw e (slice_get-grow table.triples more 0 triple found)), last);
+  last = let (triple, found, last) = is.last in let (more, e) = grows.triples in (triple, (rw e (get-left table.triples more 0 triple found)), last);
 }
 
 pub IsPlaceAt-grow : (problem : Problem) (bound : Bound) (table table' : TableValue) (kinds kinds' : Kinds) (items : List Item) (position : ℕ) (place : Place)
@@ -116,7 +116,7 @@ pub ArePlaces-grow : (problem : Problem) (bound : Bound) (table table' : TableVa
     → ArePlaces problem bound table kinds places end items → Grows table table' → KindsGrow kinds kinds' → Extends places places' → ArePlaces problem bound table' kinds' places' end items
 ArePlaces-grow problem bound table table' kinds kinds' places places' end items are grows grow (more, e) position inside =
     let (below, (place, found, is)) = are position inside in
-    (below, (place, (rw e (slice_get-grow places more (end - 1 - position) place found)), IsPlaceAt-grow problem bound table table' kinds kinds' items position place is grows grow))
+    (below, (place, (rw e (get-left places more (end - 1 - position) place found)), IsPlaceAt-grow problem bound table table' kinds kinds' items position place is grows grow))
 
 -- ---- the places from a position on
 
@@ -168,7 +168,7 @@ AreFilled-more problem bound table table' kinds kinds' places from items positio
         | inr other ↦
             let (old, found, is) = so_far.filled p (omega arith) most in (
               old,
-              slice_get-grow places (place ∷ []) (from + length items - p) old found,
+              get-left places (place ∷ []) (from + length items - p) old found,
               IsPlaceAt-grow problem bound table table' kinds kinds' items p old is grows grow,
             )
       ];

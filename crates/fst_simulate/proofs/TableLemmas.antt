@@ -8,6 +8,7 @@ use Rattle.std.proofs.lemmas.Option.{slice_get_within, get_or_from_slice_get, sl
 use Rattle.std.proofs.lemmas.Bool.{cases_Bool, cases_lt, and_parts, eqb-true}
 use Rattle.indexmap.specs.IndexSet.{insert_key}
 use Rattle.mine_model.proofs.ListLemmas.{Contains-cases, Contains-none}
+use Rattle.mine_model.proofs.ElementLemmas.{get-left}
 use Rattle.std.specs.Int.{bit_at}
 use Rattle.std.proofs.lemmas.Nat.Bits.{bit_at_cat_low, bit_at_cat_high}
 use Rattle.state_bits.specs.Members.{Has, words_of}
@@ -16,11 +17,6 @@ use Rattle.fst_simulate.specs.Grids.{HasBit}
 use Rattle.fst_simulate.specs.declared.table.Class.{Class}
 use Rattle.fst_simulate.specs.declared.table.Triple.{Triple}
 use Rattle.fst_simulate.specs.Tables.{ClassSets, TripleSets, TableValue, class_sets, triple_sets, IsClassOf, Grows, IsLast, IsStepAt, AreBelow, AddsTo, IsTable, row, unknown}
-
-pub slice_get-grow : {X : Type 0} (xs ys : List X) (i : ℕ) (x : X) → slice_get xs i ≡ Some x → slice_get (xs ++ ys) i ≡ Some x
-slice_get-grow xs ys i x found =
-    let inside : i < length xs = slice_get_within xs i x found in
-    slice_get_read (xs ++ ys) (length (xs ++ ys)) i x refl (omega (arith, length-append xs ys)) (sym (get_or_append_left xs ys x i inside ∙ get_or_from_slice_get xs i x x found))
 
 -- an element of a list where it is mapped
 pub slice_get-mapped : {X Y : Type 0} (f : X → Y) (xs : List X) (i : ℕ) (x : X) → i < length xs → x ≡ get_or xs i x → slice_get (map f xs) i ≡ Some (f x)
@@ -52,7 +48,7 @@ inserted f eq ks after k are = elim (cases_Bool (list_any (eq k) ks)) [
 pub IsStepAt-grow : (predecessors : List ℕ) (classes more_classes : List ClassSets) (triples more_triples : List TripleSets) (class after before : ℕ)
     → IsStepAt predecessors classes triples class after before → IsStepAt predecessors (classes ++ more_classes) (triples ++ more_triples) class after before
 IsStepAt-grow predecessors classes more_classes triples more_triples class after before (c, a, b, found_c, found_a, found_b, step) =
-    (c, a, b, slice_get-grow classes more_classes class c found_c, slice_get-grow triples more_triples after a found_a, slice_get-grow triples more_triples before b found_b, step)
+    (c, a, b, get-left classes more_classes class c found_c, get-left triples more_triples after a found_a, get-left triples more_triples before b found_b, step)
 
 pub IsTable-triples : (width : ℕ) (predecessors : List ℕ) (classes : List ClassSets) (triples after more : List TripleSets) (kept : List ℕ)
     → IsTable width predecessors classes triples kept → after ≡ triples ++ more → IsTable width predecessors classes after kept
@@ -61,7 +57,7 @@ IsTable-triples width predecessors classes triples after more kept table grown =
   below = table.below;
   steps = λ i inside some.
       let (c, a, b, found_c, found_a, found_b, step) = table.steps i inside some in
-      rw grown (c, a, b, found_c, slice_get-grow triples more (i / row) a found_a, slice_get-grow triples more (slice_index kept i) b found_b, step);
+      rw grown (c, a, b, found_c, get-left triples more (i / row) a found_a, get-left triples more (slice_index kept i) b found_b, step);
 }
 
 pub IsTable-classes : (width : ℕ) (predecessors : List ℕ) (classes after more : List ClassSets) (triples : List TripleSets) (kept : List ℕ)
@@ -83,7 +79,7 @@ IsTable-classes width predecessors classes after more triples kept table grown a
       ];
   steps = λ i inside some.
       let (c, a, b, found_c, found_a, found_b, step) = table.steps i inside some in
-      rw grown (c, a, b, slice_get-grow classes more (i % row) c found_c, found_a, found_b, step);
+      rw grown (c, a, b, get-left classes more (i % row) c found_c, found_a, found_b, step);
 }
 
 pub IsTable-keep : (width : ℕ) (predecessors : List ℕ) (classes : List ClassSets) (triples : List TripleSets) (kept after : List ℕ) (class triple number : ℕ)

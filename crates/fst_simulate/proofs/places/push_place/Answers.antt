@@ -6,7 +6,7 @@ use Rattle.fst_simulate.specs.Tables.{TripleSets}
 use Rattle.fst_simulate.specs.Kinds.{IsClassFor}
 use Rattle.fst_simulate.specs.Places.{IsTableOf, IsTripleOf}
 use Rattle.fst_simulate.proofs.KindLemmas.{AreKinds-grow, HasKind-grow, KindsGrow-nothing}
-use Rattle.fst_simulate.proofs.TableLemmas.{slice_get-grow}
+use Rattle.mine_model.proofs.ElementLemmas.{get-left}
 use Rattle.fst_simulate.proofs.PlaceLemmas.{IsTripleOf-step, IsTableOf-grow}
 use Rattle.fst_simulate.proofs.places.push_place.Goals as goal
 
@@ -59,8 +59,8 @@ returns-clause-triple c rest has =
     let (more1, e1) = c.kind_of.ensures.tables.triples in
     let (more2, e2) = c.step.ensures.grows.triples in
     let there : slice_get c.step.new.self.triples c.args.after ≡ Some triple =
-    subst (λ (ts : List TripleSets). slice_get ts c.args.after ≡ Some triple) (sym e2) (slice_get-grow c.kind_of.new.tables.triples more2 c.args.after triple
-    (subst (λ (ts : List TripleSets). slice_get ts c.args.after ≡ Some triple) (sym e1) (slice_get-grow c.args.tables.now.triples more1 c.args.after triple found))) in
+    subst (λ (ts : List TripleSets). slice_get ts c.args.after ≡ Some triple) (sym e2) (get-left c.kind_of.new.tables.triples more2 c.args.after triple
+    (subst (λ (ts : List TripleSets). slice_get ts c.args.after ≡ Some triple) (sym e1) (get-left c.args.tables.now.triples more1 c.args.after triple found))) in
     let same_after : after ≡ triple = same_Some after triple (sym found_after ∙ there) in (
       before,
       found_before,

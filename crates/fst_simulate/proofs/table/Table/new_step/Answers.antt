@@ -2,7 +2,8 @@ use Rattle.std.proofs.Common.{arith, rules, ◌<◌, ◌+◌, ◌*◌, ◌⊎◌
 use Rattle.std.specs.List.{slice_get, slice_index}
 use Rattle.state_bits.specs.Members.{Has}
 use Rattle.fst_simulate.specs.Tables.{TableValue, class_sets, triple_sets, AreBelow, IsTable, IsStep, IsStepAt, unknown}
-use Rattle.fst_simulate.proofs.TableLemmas.{map_at, slice_get-grow, IsTable-triples, IsTable-keep}
+use Rattle.mine_model.proofs.ElementLemmas.{get-left}
+use Rattle.fst_simulate.proofs.TableLemmas.{map_at, IsTable-triples, IsTable-keep}
 use Rattle.fst_simulate.proofs.table.Table.new_step.Given.{Over}
 use Rattle.fst_simulate.proofs.table.Table.new_step.Goals as goal
 use Rattle.fst_simulate.proofs.table.Table.new_step.Goals.{After-index-as_slice-after, In_ok-number}
@@ -48,7 +49,7 @@ module _ (g : Over) (c : In_ok-number g) where
         triple_sets {W = g.row.W} c.index-as_slice-after.result,
         triple_sets {W = g.row.W} c.before-before.result,
         class_is,
-        (rw grown (slice_get-grow _ more c.args.after _ triple_is)),
+        (rw grown (get-left _ more c.args.after _ triple_is)),
         c.in_ok-number.ensures.there,
         subst (λ (xs : List ℕ). IsStep xs (class_sets {W = g.row.W} c.index-as_slice-class.result) (triple_sets {W = g.row.W} c.index-as_slice-after.result)
             (triple_sets {W = g.row.W} c.before-before.result)) c.as_slice.ensures.value c.before-before.ensures,
