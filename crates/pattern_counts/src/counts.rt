@@ -15,6 +15,9 @@ use std::marker::Model;
 /// As many lists may be held: each has a number, counted from 1, in 32 bits.
 const MOST_LISTS: usize = 4_294_967_295;
 
+/// A table with more slots than so many for each list is dropped when it is cleared.
+const MOST_SPARSE: usize = 8;
+
 /// Lists by numbers from 0 on, by the same numbers their sums and their hashes, and a table that finds the
 /// number of a list.
 #[derive(Drop)]
@@ -55,11 +58,15 @@ impl Counts {
         }
     }
 
-    /// No lists. Keeps the memory.
+    /// No lists. Keeps the memory, but for a table of which little was used: a small one stays in the caches.
     pub(crate) fn clear(&mut self)
         ensures { self.new.tally ≡ no_lists }
     {
-        release_all(self.hashes.as_slice(), &mut self.slots);
+        if self.slots.len() / MOST_SPARSE > self.hashes.len() {
+            self.slots = Vec::new(*self.slots.allocator());
+        } else {
+            release_all(self.hashes.as_slice(), &mut self.slots);
+        }
         self.lists.clear();
         self.sums.clear();
         self.hashes.clear();
