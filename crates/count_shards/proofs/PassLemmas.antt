@@ -1,22 +1,22 @@
 -- The passes of the shards: when they are dealt out, when a block is merged, and when they come back.
-use Rattle.std.proofs.Common.{◌≡◌, ◌≢◌, ℕ, zero, suc, ◌+◌, ◌<◌, ◌≤◌, ◌⊎◌, inl, inr, List, [], ◌∷◌, ◌++◌, set, get_or, sym, refl, ap, subst, ◌∙◌, arith, length, length-append, length-set, map, sum_by, Some, slice_get}
-use Rattle.std.specs.List.{All, filter_map, flat_map, range_with_len}
+use Rattle.std.proofs.Common.{◌≡◌, ℕ, zero, suc, ◌+◌, ◌<◌, ◌≤◌, inl, inr, List, [], ◌∷◌, ◌++◌, set, sym, refl, ap, subst, ◌∙◌, arith, length, length-append, length-set, map, sum_by, Some, slice_get}
+use Rattle.std.specs.List.{All, range_with_len}
 use Rattle.std.specs.declared.alloc.Global.{Global}
 use Rattle.std.specs.declared.vec.Vec.{Vec}
 use Rattle.std.proofs.lemmas.Bool.{cases_eq, cases_lt}
-use Rattle.std.proofs.lemmas.Option.{slice_get-get_or, slice_get_within, get_or_from_slice_get}
+use Rattle.std.proofs.lemmas.Option.{slice_get_within, get_or_from_slice_get}
 use Rattle.mine_model.specs.Labels.{SameLabels}
 use Rattle.mine_model.proofs.CoverLemmas.{sum_by-flat_map}
 use Rattle.mine_model.proofs.ElementLemmas.{get-some}
 use Rattle.fst_simulate.specs.Problems.{Problem}
 use Rattle.turn_lock.specs.History.{Made}
-use Rattle.turn_lock.specs.Passes.{IsPassOf, AreAllPasses, AreFresh, number, made, opened_with, pass_count}
+use Rattle.turn_lock.specs.Passes.{IsPassOf, AreAllPasses, number, made, pass_count}
 use Rattle.count_shards.specs.Blocks.{block_count}
-use Rattle.count_shards.specs.Shard.{ShardSums, entry_of, history_of, blocks_of}
-use Rattle.count_shards.specs.Shards.{Lock, ShardPass, PassLists, IsLockOf, AreShardsOf, ArePassesOf, AreAllLists, AreNewLists, AddedEachOnce, column}
+use Rattle.count_shards.specs.Shard.{entry_of, history_of, blocks_of}
+use Rattle.count_shards.specs.Shards.{Lock, ShardPass, PassLists, AreShardsOf, ArePassesOf, AreAllLists, AreNewLists, AddedEachOnce, column}
 use Rattle.count_shards.specs.Merging.{IsOpened, AreOpened, HasMerged}
 use Rattle.count_shards.specs.declared.shards.Shards.{Shards}
-use Rattle.count_shards.proofs.Lists.{get_set_same, get_set_other, get_snoc, get_front, get_last, same_some, all_at}
+use Rattle.count_shards.proofs.Lists.{get_set_same, get_set_other, get_snoc, same_some, all_at}
 use Rattle.count_shards.proofs.ColumnLemmas.{Reach, column_length, column_at}
 use Rattle.count_shards.proofs.ShardLemmas.{history_weight}
 

@@ -1,13 +1,13 @@
 -- Blocks that workers merge one after another: what all passes of a shard added.
-use Rattle.std.proofs.Common.{◌≡◌, ◌≢◌, ℕ, zero, suc, ◌+◌, ◌<◌, ◌⊎◌, inl, inr, Option, None, Some, List, [], ◌∷◌, ◌++◌, set, sym, refl, ap, subst, ◌∙◌, arith, length, length-set, map, sum_by, slice_get}
-use Rattle.std.specs.List.{All, cons_option, flat_map}
+use Rattle.std.proofs.Common.{◌≡◌, ℕ, zero, suc, ◌+◌, ◌<◌, inl, inr, Option, None, Some, List, [], ◌∷◌, ◌++◌, set, sym, refl, ap, subst, ◌∙◌, arith, length, length-set, map, sum_by, slice_get}
+use Rattle.std.specs.List.{cons_option, flat_map}
 use Rattle.std.proofs.lemmas.Bool.{cases_eq}
 use Rattle.std.proofs.lemmas.List.Sums.{sum_by-append, sum_by-cons}
 use Rattle.std.proofs.lemmas.Option.{slice_get_within, get_or_from_slice_get}
 use Rattle.mine_model.proofs.ElementLemmas.{get-some}
-use Rattle.turn_lock.specs.Passes.{made, number, pass_count}
+use Rattle.turn_lock.specs.Passes.{made}
 use Rattle.count_shards.specs.Shard.{entry_of}
-use Rattle.count_shards.specs.Shards.{Lock, ShardPass, PassLists, ArePassesOf, AreAllLists, AreNewLists, column}
+use Rattle.count_shards.specs.Shards.{ShardPass, PassLists, ArePassesOf, AreAllLists, AreNewLists, column}
 use Rattle.count_shards.specs.declared.shards.Shards.{Shards}
 use Rattle.count_shards.proofs.Lists.{get_set_same, get_set_other, same_some, all_at}
 use Rattle.count_shards.proofs.PassLemmas.{PassList}

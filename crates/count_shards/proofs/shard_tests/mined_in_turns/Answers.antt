@@ -1,8 +1,8 @@
-use Rattle.std.proofs.Common.{◌≡◌, ◌+◌, ◌<◌, ℕ, List, length, map, sum_by, ap, sym, ◌∙◌, arith}
+use Rattle.std.proofs.Common.{◌≡◌, ◌+◌, ℕ, map, sum_by, ap, sym, ◌∙◌, arith}
 use Rattle.std.specs.List.{range_with_len}
 use Rattle.std.proofs.lemmas.List.FromFn.{sum_by-map-range_with_len_more}
 use Rattle.count_shards.specs.Shard.{entry_of}
-use Rattle.count_shards.proofs.TurnLemmas.{added_at, new_added}
+use Rattle.count_shards.proofs.TurnLemmas.{new_added}
 use Rattle.count_shards.proofs.shard_tests.mined_in_turns.Goals as goal
 
 pub loop-block-init : goal.loop-block-init

@@ -1,4 +1,4 @@
-use Rattle.std.proofs.Common.{◌≡◌, ℕ, List, [], ◌∷◌, ◌++◌, ap, sym, subst}
+use Rattle.std.proofs.Common.{◌≡◌, [], ◌∷◌, ◌++◌, ap, sym, subst}
 use Rattle.fst_simulate.specs.Problems.{Problem}
 use Rattle.pattern_counts.specs.Tally.{AddsAll}
 use Rattle.count_shards.specs.Blocks.{tally_of, AreCountsOf}

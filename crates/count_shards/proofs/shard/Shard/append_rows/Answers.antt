@@ -1,10 +1,7 @@
-use Rattle.std.proofs.Common.{◌≡◌, ◌≢◌, ◌≤◌, ℕ, List, ap, sym, subst}
+use Rattle.std.proofs.Common.{◌≡◌, ◌≤◌, ap, subst}
 use Rattle.std.proofs.lemmas.Result.{on_ok_weaker}
-use Rattle.mine_model.specs.Support.{Counts}
 use Rattle.pattern_counts.specs.Tally.{Tally, sum_of}
-use Rattle.count_shards.specs.Blocks.{home_of, HasCandidate}
 use Rattle.count_shards.specs.Shard.{ShardSums, IsShard}
-use Rattle.count_shards.specs.Rows.{AppendsRows}
 use Rattle.count_shards.proofs.ShardLemmas.{shard_counts}
 use Rattle.count_shards.proofs.HomeRows.{ranks_with_sum, rows_of_home}
 use Rattle.count_shards.proofs.shard.Shard.append_rows.Goals as goal

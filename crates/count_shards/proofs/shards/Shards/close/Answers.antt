@@ -1,11 +1,9 @@
-use Rattle.std.proofs.Common.{◌≡◌, ◌<◌, ◌≤◌, ◌+◌, ◌∷◌, [], ◌++◌, ℕ, List, Some, slice_get, get_or, length, length-append, ap, sym, refl, subst, ◌∙◌, arith}
+use Rattle.std.proofs.Common.{◌≡◌, ◌<◌, ◌+◌, ◌∷◌, [], ◌++◌, ℕ, Some, slice_get, get_or, length, length-append, ap, sym, subst, ◌∙◌, arith}
 use Rattle.fst_simulate.specs.Problems.{Problem}
-use Rattle.turn_lock.specs.Passes.{AreAllPasses}
-use Rattle.count_shards.specs.Shard.{history_of}
-use Rattle.count_shards.specs.Shards.{ShardPass, AppendsHome, AreRowsFrom, column}
+use Rattle.count_shards.specs.Shards.{AppendsHome, AreRowsFrom, column}
 use Rattle.count_shards.proofs.Lists.{get_popped, get_before}
-use Rattle.count_shards.proofs.PassLemmas.{PassList, back_passes, back_blocks, lists_width}
-use Rattle.count_shards.proofs.HomeRows.{rows_begin, rows_more, frequent_rows, rows_within}
+use Rattle.count_shards.proofs.PassLemmas.{back_passes, back_blocks, lists_width}
+use Rattle.count_shards.proofs.HomeRows.{rows_more, frequent_rows, rows_within}
 use Rattle.count_shards.proofs.shards.Shards.close.Goals as goal
 
 pub columns-requires : goal.columns-requires

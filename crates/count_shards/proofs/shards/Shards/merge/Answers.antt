@@ -1,4 +1,4 @@
-use Rattle.std.proofs.Common.{◌≡◌, ◌%◌, ℕ, length, arith}
+use Rattle.std.proofs.Common.{◌≡◌, ◌%◌, length, arith}
 use Rattle.std.proofs.lemmas.Result.{on_ok_weaker}
 use Rattle.count_shards.proofs.PassLemmas.{merged_all}
 use Rattle.count_shards.proofs.shards.Shards.merge.Goals as goal

@@ -1,10 +1,10 @@
-use Rattle.std.proofs.Common.{◌≡◌, ◌<◌, ◌≤◌, ℕ, Some, slice_get, get_or, length, ap, sym, refl, subst, ◌∙◌, arith}
+use Rattle.std.proofs.Common.{◌≡◌, ◌<◌, ℕ, Some, slice_get, get_or, length, ap, sym, refl, subst, ◌∙◌, arith}
 use Rattle.std.proofs.lemmas.Option.{slice_get-get_or}
 use Rattle.fst_simulate.specs.Problems.{Problem}
 use Rattle.count_shards.specs.Blocks.{AreCountsOf}
 use Rattle.count_shards.specs.Shards.{Lock, ShardPass}
 use Rattle.count_shards.specs.Merging.{HasMerged}
-use Rattle.count_shards.proofs.PassLemmas.{merged_begins, merged_more, passes_kept}
+use Rattle.count_shards.proofs.PassLemmas.{merged_more, passes_kept}
 use Rattle.count_shards.proofs.shards.Shards.merge_range.Goals as goal
 
 pub change-requires-clause-suits : goal.change-requires-clause-suits

@@ -1,4 +1,4 @@
-use Rattle.std.proofs.Common.{◌≡◌, ◌≤◌, ℕ, get_or, length, ap, sym, ◌∙◌, arith}
+use Rattle.std.proofs.Common.{◌≡◌, get_or, length, ap, ◌∙◌, arith}
 use Rattle.count_shards.specs.Shard.{ShardSums}
 use Rattle.count_shards.specs.Merging.{IsOpened}
 use Rattle.count_shards.proofs.PassLemmas.{opened_more, opened_width, opened_shards, opened_lists, opened_new}
