@@ -102,7 +102,8 @@ impl Counts {
 
     pub(crate) fn hash(&self, number: usize) -> u32
         requires { number < length self.now.tally.lists }
-        ensures { (list : List ℕ) → slice_get self.now.tally.lists number ≡ Some list → result ≡ hash_of list }
+        ensures { (list : List ℕ) → slice_get self.now.tally.lists number ≡ Some list
+            → result ≡ hash_of list }
     {
         self.hashes[number]
     }

@@ -117,3 +117,6 @@ impl PatternCounts {
         Ok(())
     }
 }
+
+#[cfg(test)]
+mod tests;
