@@ -9,18 +9,18 @@ returns-clause-within c =
     let v = chunk c.args.at 16 c.args.rest.now in
     let long = length-chunk c.args.at 16 c.args.rest.now c.requires in
     within_lanes c.args.rest.now c.args.at _ _ c.requires c.type_inv.rest c.first_set.ensures _
-    (zip2_of_maps _ _ _ v (zip2_splat _ v 16 33 long) (zip2_splat _ v 16 127 long)) refl
+    (zip2_of_maps _ _ _ v (zip2_splat _ v 16 _ long) (zip2_splat _ v 16 _ long)) refl
 
 pub returns-clause-names : goal.returns-clause-names
 returns-clause-names c =
     let v = chunk c.args.at 16 c.args.rest.now in
     let long = length-chunk c.args.at 16 c.args.rest.now c.requires in
     names_of_lanes c.args.rest.now c.args.at _ _ c.requires c.type_inv.rest c.first_set.ensures _
-    (zip2_of_maps _ _ _ v (zip2_splat _ v 16 33 long) (zip2_splat _ v 16 127 long)) refl
+    (zip2_of_maps _ _ _ v (zip2_splat _ v 16 _ long) (zip2_splat _ v 16 _ long)) refl
 
 pub returns-clause-stop : goal.returns-clause-stop
 returns-clause-stop c =
     let v = chunk c.args.at 16 c.args.rest.now in
     let long = length-chunk c.args.at 16 c.args.rest.now c.requires in
     stop_of_lanes c.args.rest.now c.args.at _ _ c.requires c.type_inv.rest c.first_set.ensures _
-    (zip2_of_maps _ _ _ v (zip2_splat _ v 16 33 long) (zip2_splat _ v 16 127 long)) refl
+    (zip2_of_maps _ _ _ v (zip2_splat _ v 16 _ long) (zip2_splat _ v 16 _ long)) refl
