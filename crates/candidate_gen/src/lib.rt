@@ -7,6 +7,8 @@ mod listing;
 mod patterns;
 mod place;
 mod rank_lists;
+#[cfg(test)]
+mod tests;
 mod view;
 mod walk;
 
