@@ -8,6 +8,8 @@ mod patterns;
 mod place;
 mod rank_lists;
 mod successors;
+#[cfg(test)]
+mod tests;
 mod view;
 mod walk;
 
