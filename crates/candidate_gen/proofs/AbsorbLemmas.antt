@@ -21,6 +21,10 @@ last-cases xs ys y x same inside = elim (Contains-append_cases ys (y ∷ []) x (
 pub last-held : {X : Type 0} (xs ys : List X) (y : X) → xs ≡ ys ++ y ∷ [] → Contains xs y
 last-held xs ys y same = subst (λ l. Contains l y) (sym same) (Contains-append_right ys (y ∷ []) y (Contains-first y []))
 
+-- the front of a front is a front
+pub front-of-front : {X : Type 0} (xs ys zs taken more : List X) → xs ≡ ys ++ taken → ys ≡ zs ++ more → xs ≡ zs ++ (more ++ taken)
+front-of-front xs ys zs taken more first second = first ∙ ap (λ l. l ++ taken) second ∙ append_assoc zs more taken
+
 pub front-held : {X : Type 0} (xs ys zs : List X) (x : X) → xs ≡ ys ++ zs → Contains ys x → Contains xs x
 front-held xs ys zs x same inside = subst (λ l. Contains l x) (sym same) (Contains-append_left ys zs x inside)
 
@@ -51,7 +55,7 @@ module _ (space : Space) (depth rank position : ℕ) where
     cut-more : (taken : List Place) × (before ≡ rest ++ taken)
     cut-more = let (taken, same) = so_far.cut in (
       (record { depth = depth; rank = rank; position = position; state = state }) ∷ taken,
-      same ∙ ap (λ l. l ++ taken) next_is ∙ append_assoc rest ((record { depth = depth; rank = rank; position = position; state = state }) ∷ []) taken,
+      front-of-front before waiting rest taken ((record { depth = depth; rank = rank; position = position; state = state }) ∷ []) same next_is,
     )
 
     parts-more : (p : Place) → Contains before p → Contains rest p ⊎ IsOf depth rank p

@@ -1,5 +1,5 @@
 -- One item of the sequence, read from all live states.
-use Rattle.std.proofs.Common.{◌≡◌, ◌↔◌, ℕ, ◌+◌, ◌-◌, ◌<◌, ◌≤◌, ◌⊎◌, inl, inr, Bool, true, false, Some, List, [], ◌∷◌, ◌++◌, length, drop, get_or, refl, sym, ap, ◌∙◌, subst, arith, append_assoc}
+use Rattle.std.proofs.Common.{◌≡◌, ◌↔◌, ℕ, ◌+◌, ◌-◌, ◌<◌, ◌≤◌, ◌⊎◌, inl, inr, Bool, true, false, Some, List, [], ◌∷◌, ◌++◌, length, drop, get_or, refl, sym, ap, ◌∙◌, subst, append_assoc}
 use Rattle.std.specs.List.{Contains, slice_get}
 use Rattle.std.proofs.lemmas.List.{append-nil, drop_more, drop_all}
 use Rattle.std.proofs.lemmas.List.Elements.{Contains-append_left, Contains-append_right, Contains-append_cases}
@@ -16,20 +16,13 @@ use Rattle.fst_compile.specs.declared.edge.Label.{Label}
 use Rattle.fst_compile.specs.Transducer.{Enters, edges_from}
 use Rattle.fst_compile.proofs.RowLemmas.{Has-none}
 use Rattle.fst_simulate.specs.Grids.{Reads}
+use Rattle.fst_simulate.proofs.PathLemmas.{label_at_edge, writes-cases}
 use Rattle.candidate_gen.specs.declared.place.Place.{Place}
 use Rattle.candidate_gen.specs.Paths.{Space, Writes}
 use Rattle.candidate_gen.specs.Places.{FollowsFound, FollowsLive}
 use Rattle.candidate_gen.specs.Views.{WritesMore, WritesAs, LeadsFrom}
 use Rattle.candidate_gen.specs.Steps.{IsAhead, FollowsInto, AreStates, AddsPlaces}
-use Rattle.candidate_gen.proofs.PathLemmas.{writes-cases, writes-end, writes-step}
-
--- the label of the state that the edge leads to is the edge's own
-label-at : (labels : List Label) (edge : Edge) → Enters labels edge → slice_get labels (edge.to.0 - 1) ≡ Some (record { leaf = edge.leaf; captured = edge.captured })
-label-at labels edge enters =
-    let number : edge.to.0 - 1 ≡ enters.number = let to = enters.to in omega (arith, to) in
-    ap (λ k. slice_get labels k) number
-    ∙ slice_get-get_or labels enters.number (record { leaf = edge.leaf; captured = edge.captured }) enters.within
-    ∙ ap (λ (l : Label). Some l) (enters.label (record { leaf = edge.leaf; captured = edge.captured }))
+use Rattle.candidate_gen.proofs.PathLemmas.{writes-end, writes-step}
 
 silent-captured : (links : List (Link Item)) (leaf : Leaf Item) (captured : Bool) (t : Item) → WritesAt links leaf captured t [] → captured ≡ false
 silent-captured links leaf captured t writes = elim (writes-cases links leaf captured t [] writes) [
@@ -57,13 +50,13 @@ module _ (space : Space) (position : ℕ) (inside : position < length space.sequ
       → Matches space.problem.hierarchy.links (leaf_of edge.leaf) t → WritesAt space.problem.hierarchy.links (leaf_of edge.leaf) edge.captured t output
       → Reads space.problem t edge.to.0 output
   reads-edge state edge output t leaves matches writes =
-      (record { leaf = edge.leaf; captured = edge.captured }, label-at space.problem.machine.labels edge (labelled state edge leaves), matches, writes)
+      (record { leaf = edge.leaf; captured = edge.captured }, label_at_edge space.problem.machine.labels edge (labelled state edge leaves), matches, writes)
 
   edge-reads : (state : ℕ) (edge : Edge) (output : List Item) (t : Item) → Contains (edges_from space.problem.machine state) edge
       → Reads space.problem t edge.to.0 output
       → Matches space.problem.hierarchy.links (leaf_of edge.leaf) t × WritesAt space.problem.hierarchy.links (leaf_of edge.leaf) edge.captured t output
   edge-reads state edge output t leaves (label, at, matches, writes) =
-      let own = label-at space.problem.machine.labels edge (labelled state edge leaves) in
+      let own = label_at_edge space.problem.machine.labels edge (labelled state edge leaves) in
       let same : label ≡ record { leaf = edge.leaf; captured = edge.captured } = cc in
       let leaf_is : label.leaf ≡ edge.leaf = ap (λ (l : Label). l.leaf) same in
       let captured_is : label.captured ≡ edge.captured = ap (λ (l : Label). l.captured) same in (

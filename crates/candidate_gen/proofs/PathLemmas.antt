@@ -1,20 +1,14 @@
 -- What a path writes, step by step.
-use Rattle.std.proofs.Common.{◌≡◌, ◌↔◌, ℕ, ◌⊎◌, inl, inr, Bool, true, false, List, [], ◌∷◌, ◌++◌, refl, sym, ap, ◌∙◌, subst}
+use Rattle.std.proofs.Common.{◌≡◌, ◌↔◌, ℕ, inl, inr, true, false, List, [], ◌∷◌, ◌++◌, refl, sym, ap, ◌∙◌, subst}
 use Rattle.state_bits.specs.Members.{Has}
 use Rattle.mine_model.specs.declared.item.Item.{Item}
-use Rattle.mine_model.specs.Hierarchy.{Link}
-use Rattle.mine_model.specs.Expression.{Leaf}
 use Rattle.mine_model.specs.Numbered.{leaf_of}
 use Rattle.mine_model.specs.Generation.{MayWrite, WritesAt}
 use Rattle.mine_model.specs.Ranks.{HasRank}
 use Rattle.fst_compile.specs.declared.edge.Edge.{Edge}
+use Rattle.fst_simulate.proofs.PathLemmas.{writes-cases}
 use Rattle.candidate_gen.specs.Candidates.{AreRanked}
 use Rattle.candidate_gen.specs.Paths.{Space, Writes, IsRead, WritesBehind}
-
-pub writes-cases : (links : List (Link Item)) (leaf : Leaf Item) (captured : Bool) (t : Item) (output : List Item) → WritesAt links leaf captured t output
-    → ((captured ≡ false) × (output ≡ [])) ⊎ ((captured ≡ true) × ((v : Item) × MayWrite links leaf t v × (output ≡ v ∷ [])))
-writes-cases links leaf true t output writes = inr (refl, writes)
-writes-cases links leaf false t output writes = inl (refl, writes)
 
 pub ranked-none : (order : List Item) (ranks : List ℕ) → AreRanked order [] ranks → ranks ≡ []
 ranked-none order [] ranked = refl

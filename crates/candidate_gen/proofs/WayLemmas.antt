@@ -1,5 +1,5 @@
 -- The way of one prefix through the sequence.
-use Rattle.std.proofs.Common.{◌≡◌, ◌↔◌, ℕ, ◌+◌, ◌<◌, ◌≤◌, ◌⊎◌, inl, inr, Bool, true, false, IsTrue, List, [], ◌∷◌, ◌++◌, length, refl, sym, ap, ◌∙◌, subst, arith, append_assoc}
+use Rattle.std.proofs.Common.{◌≡◌, ◌↔◌, ℕ, ◌+◌, ◌<◌, ◌≤◌, ◌⊎◌, inl, inr, Bool, true, false, IsTrue, List, [], ◌∷◌, ◌++◌, length, refl, sym, ap, ◌∙◌, subst, arith}
 use Rattle.std.specs.List.{Contains, AllPairs}
 use Rattle.std.proofs.lemmas.List.{append-nil, same_from_push}
 use Rattle.std.proofs.lemmas.Bool.{cases_lt}
@@ -12,7 +12,7 @@ use Rattle.candidate_gen.specs.Places.{FollowsOf, FollowsLive, IsOf, IsPlace, Is
 use Rattle.candidate_gen.specs.Steps.{IsAhead, AreStates, AddsPlaces, Absorbs, TopIsNot, IsOnWay}
 use Rattle.candidate_gen.specs.Walk.{Takes}
 use Rattle.candidate_gen.proofs.PairLemmas.{pairs-front, pairs-across}
-use Rattle.candidate_gen.proofs.AbsorbLemmas.{last-cases, last-held, front-held}
+use Rattle.candidate_gen.proofs.AbsorbLemmas.{front-of-front, last-cases, last-held, front-held}
 
 pub snoc-view : {X : Type 0} (xs : List X) → (xs ≡ []) ⊎ ((front : List X) × (last : X) × (xs ≡ front ++ last ∷ []))
 snoc-view [] = inl refl
@@ -158,7 +158,7 @@ module _ (space : Space) (depth rank start : ℕ) (before : List Place) where
       rest-cut =
           let (taken1, cut1) = so_far.cut in
           let (taken2, cut2) = absorbs.cut in
-          (taken2 ++ taken1, cut1 ∙ ap (λ l. l ++ taken1) cut2 ∙ append_assoc rest taken2 taken1)
+          (taken2 ++ taken1, front-of-front before waiting rest taken1 taken2 cut1 cut2)
 
       rest-later : (place : Place) → Contains rest place → IsOf depth rank place → at + 1 ≤ place.position
       rest-later =

@@ -3,7 +3,7 @@ ghost use Rattle.candidate_gen.specs.Candidates.{AreRanked, AreAllRanked, AreCan
 
 use super::listing::CandidateList;
 use fst_simulate::Job;
-use mine_model::{NoMemory, Pattern};
+use mine_model::{NoMemory, Pattern, Ranks};
 use std::alloc::Global;
 
 /// The candidates of a sequence, rising by their ranks.
@@ -38,22 +38,23 @@ fn patterns_of(alloc: Global, job: &Job, list: &CandidateList) -> Result<Vec<Pat
     ensures { IfOk result (λ patterns.
         AreAllRanked job.now.ranking.order patterns.items list.now.listed) }
 {
+    let ranks = job.ranks();
     let mut patterns = Vec::new(alloc);
     for i in 0..list.len() {
-        let pattern = pattern_of(alloc, job, list.get(i))?;
+        let pattern = pattern_of(alloc, ranks, list.get(i))?;
         patterns.push(pattern)?;
     }
     Ok(patterns)
 }
 
-// The pattern with these ranks.
-fn pattern_of(alloc: Global, job: &Job, ranks: &[u32]) -> Result<Pattern, NoMemory>
-    requires { All (λ rank. (1 ≤ rank) × (rank ≤ length job.now.ranking.order)) ranks.now }
-    ensures { IfOk result (λ pattern. AreRanked job.now.ranking.order pattern ranks.now) }
+/// The pattern of the items with these ranks.
+pub fn pattern_of(alloc: Global, ranks: &Ranks, list: &[u32]) -> Result<Pattern, NoMemory>
+    requires { All (λ rank. (1 ≤ rank) × (rank ≤ length ranks.now.order)) list.now }
+    ensures { IfOk result (λ pattern. AreRanked ranks.now.order pattern list.now) }
 {
-    let mut items = Vec::new(alloc);
-    for rank in ranks {
-        items.push(job.ranks().item(*rank))?;
+    let mut items = Vec::with_capacity(alloc, list.len())?;
+    for rank in list {
+        items.push(ranks.item(*rank))?;
     }
     Ok(Pattern::new(items))
 }

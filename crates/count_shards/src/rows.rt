@@ -1,9 +1,9 @@
-ghost use Rattle.std.specs.Prelude.{◌≡◌, ◌≢◌, ℕ, ◌≤◌, List, length, All, AllPairs, IfOk, OnOk};
-ghost use Rattle.candidate_gen.specs.Candidates.{AreRanked};
+ghost use Rattle.std.specs.Prelude.{◌≡◌, ◌≢◌, ℕ, ◌≤◌, List, length, All, AllPairs, OnOk};
 ghost use Rattle.pattern_counts.specs.Tally.{sum_of};
 ghost use Rattle.count_shards.specs.Rows.{AppendsRows};
 
-use mine_model::{NoMemory, Pattern, Ranks, Row};
+use candidate_gen::pattern_of;
+use mine_model::{NoMemory, Ranks, Row};
 use pattern_counts::PatternCounts;
 use std::alloc::Global;
 
@@ -33,16 +33,4 @@ pub(crate) fn append_rows(
         })?;
     }
     Ok(())
-}
-
-// The pattern of the items with these ranks.
-fn pattern_of(alloc: Global, ranks: &Ranks, list: &[u32]) -> Result<Pattern, NoMemory>
-    requires { All (λ rank. (1 ≤ rank) × (rank ≤ length ranks.now.order)) list.now }
-    ensures { IfOk result (λ pattern. AreRanked ranks.now.order pattern list.now) }
-{
-    let mut items = Vec::with_capacity(alloc, list.len())?;
-    for rank in list {
-        items.push(ranks.item(*rank))?;
-    }
-    Ok(Pattern::new(items))
 }

@@ -3,4 +3,4 @@ use Rattle.candidate_gen.specs.Candidates.{AreRanked}
 use Rattle.candidate_gen.proofs.patterns.pattern_of.Given as goal
 
 abbrev pub invariant-loop-rank : goal.invariant-loop-rank
-invariant-loop-rank l = AreRanked l.job.ranking.order l.items.items (take l.rank-index l.ranks)
+invariant-loop-rank l = AreRanked l.ranks.order l.items.items (take l.rank-index l.list)
