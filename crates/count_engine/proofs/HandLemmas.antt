@@ -17,7 +17,7 @@ at_push : {X : Type 0} (xs : List X) (x y : X) (k : ℕ) → slice_get (xs ++ x 
 at_push [] x y zero at = inr (refl, same_Some x y at)
 at_push [] x y (suc k) at = absurd (cc)
 at_push (z ∷ xs) x y zero at = inl at
-at_push (z ∷ xs) x y (suc k) at = elim (at_push xs x y k at) [ | inl there ↦ inl there | inr last ↦ inr (ap suc last.0, last.1) ]
+at_push (z ∷ xs) x y (suc k) at = elim (at_push xs x y k at) [ inl there ↦ inl there | inr last ↦ inr (ap suc last.0, last.1) ]
 
 at_old : {X : Type 0} (xs : List X) (x y : X) (k : ℕ) → slice_get xs k ≡ Some y → slice_get (xs ++ x ∷ []) k ≡ Some y
 at_old [] x y k at = absurd (cc)
@@ -37,9 +37,10 @@ hands_more lists hands passes worker are last =
       each = λ k hand at. elim (at_push hands new hand k at) [
         | inl old ↦ let was = are.each k hand old in (was.0, at_old lists passes hand.passes k was.1)
         | inr end ↦
-            let place : k ≡ length lists = end.0 ∙ are.all in
-            (sym (ap (λ (h : Hand). h.worker) end.1) ∙ last ∙ sym end.0,
-            ap (slice_get (lists ++ passes ∷ [])) place ∙ at_last lists passes ∙ ap (λ (h : Hand). Some h.passes) end.1)
+            let place : k ≡ length lists = end.0 ∙ are.all in (
+              sym (ap (λ (h : Hand). h.worker) end.1) ∙ last ∙ sym end.0,
+              ap (slice_get (lists ++ passes ∷ [])) place ∙ at_last lists passes ∙ ap (λ (h : Hand). Some h.passes) end.1,
+            )
       ];
     }
 

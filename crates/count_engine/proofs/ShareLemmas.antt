@@ -28,9 +28,9 @@ module _ (weight : List ℕ → ℕ) (workers : ℕ) where
   unfolding weighs leaving adds
   leaving_more block blocks worker = elim (block % workers == worker) as (λ b. sum_by weight (map entry_of (cond b (block ∷ leaving workers blocks worker) (leaving workers blocks worker)))
       ≡ cond b (weight (entry_of block)) 0 + sum_by weight (map entry_of (leaving workers blocks worker))) [
-    | true ↦ sum_by-cons weight (entry_of block) (map entry_of (leaving workers blocks worker))
-    | false ↦ omega arith
-  ]
+        | true ↦ sum_by-cons weight (entry_of block) (map entry_of (leaving workers blocks worker))
+        | false ↦ omega arith
+      ]
 
   all_shares : List ℕ → ℕ → ℕ → ℕ
   all_shares blocks from count = sum_by (λ worker. weighs (leaving workers blocks worker)) (range_with_len from count)
@@ -39,12 +39,14 @@ module _ (weight : List ℕ → ℕ) (workers : ℕ) where
       → all_shares (block ∷ blocks) from count ≡ sum_by (adds block) (range_with_len from count) + all_shares blocks from count
   unfolding all_shares
   shares_more block blocks from zero = refl
-  shares_more block blocks from (suc count) = omega (arith,
-      sum_by-cons (λ worker. weighs (leaving workers (block ∷ blocks) worker)) from (range_with_len (from + 1) count),
-      sum_by-cons (adds block) from (range_with_len (from + 1) count),
-      sum_by-cons (λ worker. weighs (leaving workers blocks worker)) from (range_with_len (from + 1) count),
-      leaving_more block blocks from,
-      shares_more block blocks (from + 1) count)
+  shares_more block blocks from (suc count) = omega (
+    arith,
+    sum_by-cons (λ worker. weighs (leaving workers (block ∷ blocks) worker)) from (range_with_len (from + 1) count),
+    sum_by-cons (adds block) from (range_with_len (from + 1) count),
+    sum_by-cons (λ worker. weighs (leaving workers blocks worker)) from (range_with_len (from + 1) count),
+    leaving_more block blocks from,
+    shares_more block blocks (from + 1) count,
+  )
 
   adds_here : (block worker : ℕ) → block % workers ≡ worker → adds block worker ≡ weight (entry_of block)
   unfolding adds
@@ -56,13 +58,17 @@ module _ (weight : List ℕ → ℕ) (workers : ℕ) where
 
   adds_elsewhere : (block from count : ℕ) → (block % workers < from) ⊎ (from + count ≤ block % workers) → sum_by (adds block) (range_with_len from count) ≡ 0
   adds_elsewhere block from zero other = refl
-  adds_elsewhere block from (suc count) other = omega (arith,
-      sum_by-cons (adds block) from (range_with_len (from + 1) count), adds_not block from (apart other),
-      adds_elsewhere block (from + 1) count (still other))
+  adds_elsewhere block from (suc count) other = omega (
+    arith,
+    sum_by-cons (adds block) from (range_with_len (from + 1) count),
+    adds_not block from (apart other),
+    adds_elsewhere block (from + 1) count (still other),
+  )
     where
       apart : (block % workers < from) ⊎ (from + suc count ≤ block % workers) → block % workers ≢ from
       apart (inl h) same = omega (arith, h, same)
       apart (inr h) same = omega (arith, h, same)
+
       still : (block % workers < from) ⊎ (from + suc count ≤ block % workers) → (block % workers < from + 1) ⊎ (from + 1 + count ≤ block % workers)
       still (inl h) = inl (omega (arith, h))
       still (inr h) = inr (omega (arith, h))
@@ -89,11 +95,13 @@ module _ (weight : List ℕ → ℕ) (workers : ℕ) where
 -- the entries of lists, one list behind the other
 entries_weigh : (f : ℕ → List ℕ) (ws : List ℕ) (weight : List ℕ → ℕ) → sum_by weight (map entry_of (flat_map f ws)) ≡ sum_by (λ w. sum_by weight (map entry_of (f w))) ws
 entries_weigh f [] weight = refl
-entries_weigh f (w ∷ ws) weight = omega (arith,
-    ap (sum_by weight) (map-append entry_of (f w) (flat_map f ws)),
-    sum_by-append weight (map entry_of (f w)) (map entry_of (flat_map f ws)),
-    entries_weigh f ws weight,
-    sum_by-cons (λ w. sum_by weight (map entry_of (f w))) w ws)
+entries_weigh f (w ∷ ws) weight = omega (
+  arith,
+  ap (sum_by weight) (map-append entry_of (f w) (flat_map f ws)),
+  sum_by-append weight (map entry_of (f w)) (map entry_of (flat_map f ws)),
+  entries_weigh f ws weight,
+  sum_by-cons (λ w. sum_by weight (map entry_of (f w))) w ws,
+)
 
 -- the shares of all workers, one behind the other
 abbrev pub all_shares_of : ℕ → ℕ → List ℕ

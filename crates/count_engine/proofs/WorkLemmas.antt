@@ -56,10 +56,12 @@ module _ (problem : Problem) (shards : Shards) (workers : ℕ) where
       at [] k h = absurd (omega (arith, h))
       at (x ∷ xs) zero h = x
       at (x ∷ xs) (suc k) h = at xs k (omega (arith, h))
+
       at_is : (xs : List ShardPass) (k : ℕ) (h : k < length xs) → slice_get xs k ≡ Some (at xs k h)
       at_is [] k h = absurd (omega (arith, h))
       at_is (x ∷ xs) zero h = refl
       at_is (x ∷ xs) (suc k) h = at_is xs k (omega (arith, h))
+
       holds : (P : ShardPass → Type 0) (xs : List ShardPass) (k : ℕ) (x : ShardPass) → slice_get xs k ≡ Some x → All P xs → P x
       holds P [] k x got all = absurd (cc)
       holds P (y ∷ xs) zero x got all = subst P (same_Some y x got) (All-head P y xs all)
@@ -68,11 +70,13 @@ module _ (problem : Problem) (shards : Shards) (workers : ℕ) where
   entries_flat : (ws : List ℕ) (weight : List ℕ → ℕ) → sum_by weight (flat_map (λ w. map entry_of (share_of w workers (block_count problem))) ws)
       ≡ sum_by weight (map entry_of (flat_map (λ w. share_of w workers (block_count problem)) ws))
   entries_flat [] weight = refl
-  entries_flat (w ∷ ws) weight = omega (arith,
-      sum_by-append weight (map entry_of (share_of w workers (block_count problem))) (flat_map (λ w. map entry_of (share_of w workers (block_count problem))) ws),
-      entries_flat ws weight,
-      ap (sum_by weight) (map-append entry_of (share_of w workers (block_count problem)) (flat_map (λ w. share_of w workers (block_count problem)) ws)),
-      sum_by-append weight (map entry_of (share_of w workers (block_count problem))) (map entry_of (flat_map (λ w. share_of w workers (block_count problem)) ws)))
+  entries_flat (w ∷ ws) weight = omega (
+    arith,
+    sum_by-append weight (map entry_of (share_of w workers (block_count problem))) (flat_map (λ w. map entry_of (share_of w workers (block_count problem))) ws),
+    entries_flat ws weight,
+    ap (sum_by weight) (map-append entry_of (share_of w workers (block_count problem)) (flat_map (λ w. share_of w workers (block_count problem)) ws)),
+    sum_by-append weight (map entry_of (share_of w workers (block_count problem))) (map entry_of (flat_map (λ w. share_of w workers (block_count problem)) ws)),
+  )
 
   plain : (k : ℕ) → 0 + k ≡ k
   plain k = omega arith
@@ -83,9 +87,10 @@ module _ (problem : Problem) (shards : Shards) (workers : ℕ) where
         → ArePassesOf shards list.items × All (λ pass. made pass ≡ map entry_of (share_of k workers (block_count problem))) list.items
     done_at k list at =
         let (d, got, same) = given.each k list at in
-        let is = subst (λ w. IsDone problem shards workers w d) (plain k) (done k d got) in
-        (subst (λ (l : Vec ShardPass Global). ArePassesOf shards l.items) same is.passes,
-        subst (λ (l : Vec ShardPass Global). All (λ pass. made pass ≡ map entry_of (share_of k workers (block_count problem))) l.items) same is.made)
+        let is = subst (λ w. IsDone problem shards workers w d) (plain k) (done k d got) in (
+          subst (λ (l : Vec ShardPass Global). ArePassesOf shards l.items) same is.passes,
+          subst (λ (l : Vec ShardPass Global). All (λ pass. made pass ≡ map entry_of (share_of k workers (block_count problem))) l.items) same is.made,
+        )
 
     pub each_once : AreShardsOf problem shards → 1 ≤ workers → length results ≡ workers → AddedEachOnce problem lists
     each_once are some all = λ home within weight.
@@ -120,8 +125,10 @@ module _ (problem : Problem) (shards : Shards) (workers : ℕ) where
     where
       first_is : (from : ℕ) → from + 0 ≡ from
       first_is from = omega arith
+
       next_is : (from k : ℕ) → from + suc k ≡ from + 1 + k
       next_is from k = omega arith
+
       told_sum : (p m q n : ℕ) → p ≡ told_of m → told_of q ≡ told_of n → told_of (p + q) ≡ told_of (m + n)
       told_sum p m q n one other = omega (arith, one, other)
 

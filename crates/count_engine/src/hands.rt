@@ -24,10 +24,7 @@ pub(crate) struct Done {
 }
 
 /// The passes of each worker, with its number.
-pub(crate) fn hands_of(
-    alloc: Global,
-    lists: Vec<Vec<Pass<Shard>>>,
-) -> Result<Vec<Hand>, NoMemory>
+pub(crate) fn hands_of(alloc: Global, lists: Vec<Vec<Pass<Shard>>>) -> Result<Vec<Hand>, NoMemory>
     requires few { length lists.items < 2 ^ 32 }
     ensures { IfOk result (λ hands. AreHandsOf lists.items hands.items) }
 {
@@ -50,7 +47,10 @@ pub(crate) fn gathered(
     let mut lists = Vec::with_capacity(alloc, results.len())?;
     let mut pairs: u64 = 0;
     'results: for result in results {
-        let Done { passes, pairs: more } = result?;
+        let Done {
+            passes,
+            pairs: more,
+        } = result?;
         lists.push(passes)?;
         pairs = pairs.saturating_add(more);
     }

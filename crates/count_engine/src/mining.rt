@@ -32,7 +32,16 @@ fn done_by<R: Wait, G: Gate>(
     ensures { IfOk result (IsDone job.now shards.now workers hand.worker) }
 {
     let Hand { worker, mut passes } = hand;
-    let pairs = work(rt, alloc, job, shards, passes.as_mut_slice(), worker, workers, gate)?;
+    let pairs = work(
+        rt,
+        alloc,
+        job,
+        shards,
+        passes.as_mut_slice(),
+        worker,
+        workers,
+        gate,
+    )?;
     Ok(Done { passes, pairs })
 }
 
