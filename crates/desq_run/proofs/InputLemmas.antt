@@ -76,7 +76,7 @@ work-answer input tree known added h db e Count work distinct read within is_db 
       pairs = (
         is.pairs.0,
         subst (λ (s : List (Sequence (List ℕ))). HasPairs (record { links = links_of input.hierarchy; sequences = s; expression = tree_by (λ (u : Use). u.name) tree; threshold = input.command.threshold }) s is.pairs.0) is_db.sequences
-        (subst (λ (t : Tree (List ℕ)). HasPairs (record { links = links_of input.hierarchy; sequences = map (sequence_by (name_of names)) db; expression = t; threshold = input.command.threshold }) (map (sequence_by (name_of names)) db) is.pairs.0) same_tree pairs),
+            (subst (λ (t : Tree (List ℕ)). HasPairs (record { links = links_of input.hierarchy; sequences = map (sequence_by (name_of names)) db; expression = t; threshold = input.command.threshold }) (map (sequence_by (name_of names)) db) is.pairs.0) same_tree pairs),
         is.pairs.2,
       );
     }

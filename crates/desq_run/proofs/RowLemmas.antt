@@ -85,7 +85,7 @@ module _ (words : List (List ℕ)) (holds : List ℕ → Option (List ℕ)) (c :
           tree,
           reads_at words holds c has known before read (known ++ added) db found tree reads input is,
           subst (λ (engine : Engine). IsWorkOf engine (data_of input tree) work) (ap (λ (d : Command). d.engine) same)
-          (work-answer input tree known added before db are.expression c.engine work distinct
+              (work-answer input tree known added before db are.expression c.engine work distinct
               (read_at words holds c has known before read input is) within
               (found_at words holds c has known before read (known ++ added) db found input is) numbered are.same are.named
               (subst (λ (d : Command). IsWorkOf c.engine (record { links = before.links; sequences = db; expression = are.expression; threshold = d.threshold }) work) same are.work)),

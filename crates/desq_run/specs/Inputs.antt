@@ -66,7 +66,7 @@ pub data FailsBy (told : Option (List ℕ)) (Refused : List ℕ → Fault → Ty
 -- engine; the tree is over names.
 pub record AreRows (names : List (List ℕ)) (h : Ancestry) (db : List (Sequence Item)) (tree : Tree (List ℕ))
     (threshold : ℕ) (engine : Engine)
-    (rows : List Row) (work : Work) : Type 0 where
+    (rows : List Row) (counted : Work) : Type 0 where
   pub expression : Tree Item
   pub same : tree_by (name_of names) expression ≡ tree
   pub named : AllByRecursion (HasName names) (named_in expression)
@@ -76,19 +76,19 @@ pub record AreRows (names : List (List ℕ)) (h : Ancestry) (db : List (Sequence
       row.pattern row.support
   pub rises : Rises (map (named_row names) rows)
   pub work : IsWorkOf engine
-      (record { links = h.links; sequences = db; expression = expression; threshold = threshold }) work
+      (record { links = h.links; sequences = db; expression = expression; threshold = threshold }) counted
 
 -- The rows are in the order of their names, the words name an expression that is not refused, and where the
 -- files tell their bytes nothing is refused, the rows are the answer and the work is that of the command.
 pub record IsMined (words : List (List ℕ)) (holds : List ℕ → Option (List ℕ)) (command : Command)
     (names : List (List ℕ))
-    (rows : List Row) (work : Work) : Type 0 where
+    (rows : List Row) (counted : Work) : Type 0 where
   pub expression : HasExpression words command
   pub accepted : (input : Input) → IsInput words holds input → IsAccepted input
   pub answer : (input : Input) → IsInput words holds input
       → (tree : Tree Use) × ReadsAs input.command.expression tree
       × IsAnswer (data_of input tree) (map (named_row names) rows)
-  pub work : (input : Input) → IsInput words holds input → IsWork input work
+  pub work : (input : Input) → IsInput words holds input → IsWork input counted
 
 -- the rows are the frequent patterns by numbers, in the order of their names
 pub record AreOrdered (names : List (List ℕ)) (h : Ancestry) (db : List (Sequence Item))
