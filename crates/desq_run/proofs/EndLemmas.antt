@@ -258,7 +258,7 @@ module _ (words : List (List ℕ)) (holds : List ℕ → Option (List ℕ)) wher
     ended-refusal _ (refused_file c other has refused_c malformed) fault refused =
         inl (ap fault_status (first-unique input other fault (refused_c input is) refused))
     ended-refusal _ (read_fault c file has names) fault refused = inr (inr refl)
-    ended-refusal _ (write_fault c has accepted) fault refused = absurd ((ends input is).0 fault refused)
+    ended-refusal _ (write_fault c has accepted) fault refused = absurd (accepted input is fault refused)
     ended-refusal _ no_memory fault refused = inr (inl refl)
 
     -- where nothing is refused the run is done, or a fault of reading or writing came, or memory ran out

@@ -120,6 +120,6 @@ module _ (words : List (List ℕ)) (holds : List ℕ → Option (List ℕ)) (c :
       subst Mines (sym behind) (mined-at inputs.added (subst AreLinksWithin before_is inputs.within) read reads some) distinct found numbered known_all are_before
 
 -- what is told is the work
-pub is-work : {P : Work → Type 0} (told : Option Work) (work : Work) → IfSome told (λ t. t ≡ work) → P work → IfSome told P
-is-work None work same p = tt
-is-work {P} (Some t) work same p = subst P (sym same) p
+pub is-work : (P : Work → Type 0) (told : Option Work) (work : Work) → IfSome told (λ t. t ≡ work) → P work → IfSome told P
+is-work P None work same p = tt
+is-work P (Some t) work same p = subst P (sym same) p

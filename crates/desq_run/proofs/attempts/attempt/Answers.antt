@@ -3,7 +3,7 @@ use Rattle.mine_model.specs.declared.fault.Fault.TheVariants.{NoMemory}
 use Rattle.mine_model.specs.Names.{named_row}
 use Rattle.mine_model.specs.AnswerText.{text_of}
 use Rattle.command_line.specs.Commands.{command_said}
-use Rattle.desq_run.specs.Ends.{Ends, done, no_command, write_fault, no_memory}
+use Rattle.desq_run.specs.Ends.{IsWork, Ends, done, no_command, write_fault, no_memory}
 use Rattle.desq_run.proofs.RowLemmas.{is-work}
 use Rattle.desq_run.proofs.attempts.attempt.Goals as goal
 
@@ -27,7 +27,7 @@ returns-in-Ok-clause-ends g c =
     let is = rw c.in-Some.is at c.in_ok-command.ensures in
     let mined = c.in_ok-mined.ensures.mined (map string_bytes c.args.words.now) is in
     done (command_said c.in-Some.command) c.told.result mined.expression c.told.ensures.asked
-    (λ input is_input. (mined.accepted input is_input, is-work c.told.result c.in_ok-mined.mined.work c.told.ensures.work (mined.work input is_input)))
+    (λ input is_input. (mined.accepted input is_input, is-work (IsWork input) c.told.result c.in_ok-mined.mined.work c.told.ensures.work (mined.work input is_input)))
 
 pub returns-in-Ok-clause-written : goal.returns-in-Ok-clause-written
 returns-in-Ok-clause-written g c = λ input is_input.

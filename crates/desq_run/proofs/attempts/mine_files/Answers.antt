@@ -71,6 +71,6 @@ returns-clause-mined g c = λ words is.
     let known_all : (fault : Fault) → IsUnknown c.in_ok-inputs.inputs.names (named_in tree) fault → ⊥ = λ fault unknown.
     c.in_ok-rows.ensures.known fault (subst (λ us. IsUnknown c.in_ok-inputs.inputs.names us fault) parsed.named unknown) in
     mined words (g.F.Files.holds c.args.files.now) (command_said c.args.command.now) (is, accepted)
-    inputs.known inputs.before c.in_ok-inputs.inputs.db tree c.in_ok-rows.rows.items c.in_ok-rows.work
+    inputs.known inputs.before c.in_ok-inputs.inputs.db tree c.in_ok-rows.field-0.rows.items c.in_ok-rows.field-0.work
     c.in_ok-inputs.inputs.names c.in_ok-inputs.inputs.hierarchy inputs refl refl parsed.reads c.requires.support
     c.in_ok-inputs.ensures.distinct c.in_ok-inputs.ensures.named known_all c.in_ok-rows.ensures.rows

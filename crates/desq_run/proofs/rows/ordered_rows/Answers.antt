@@ -11,28 +11,28 @@ use Rattle.desq_run.proofs.rows.ordered_rows.Goals as goal
 pub order-requires-clause-named : goal.order-requires-clause-named
 order-requires-clause-named g c =
     let items = rw c.new-job.ensures at c.in_ok-rows.ensures.items in
-    rw c.as_mut_slice.ensures.value (rows-named c.args.names.now c.args.hierarchy.items c.in_ok-rows.rows.items c.requires.items items)
+    rw c.as_mut_slice.ensures.value (rows-named c.args.names.now c.args.hierarchy.items c.in_ok-rows.field-0.rows.items c.requires.items items)
 
 pub returns-clause-rows : goal.returns-clause-rows
 returns-clause-rows g c =
-    let back = written_back c.order.new.rows c.in_ok-rows.rows.items c.in_ok-rows.rows.len c.in_ok-rows.rows.ok.0
+    let back = written_back c.order.new.rows c.in_ok-rows.field-0.rows.items c.in_ok-rows.field-0.rows.len c.in_ok-rows.field-0.rows.ok.0
     (c.order.auto.rows ∙ ap length c.as_mut_slice.ensures.value) in
     let same = rw c.as_mut_slice.ensures.value at c.order.ensures.same_rows in
     let compiled = rw c.new-job.ensures at c.in_ok-rows.ensures.frequent in
-    let frequent : AreFrequent (record { links = c.args.hierarchy.links; sequences = c.args.db; expression = tree_of c.args.expression.now; threshold = c.args.support })
-    c.in_ok-rows.rows.items =
-    subst (λ tree. AreFrequent (record { links = c.args.hierarchy.links; sequences = c.args.db; expression = tree; threshold = c.args.support }) c.in_ok-rows.rows.items)
+    let frequent : AreFrequent (record { links = c.args.hierarchy.links; sequences = c.args.db; expression = tree_of c.args.expression.now; threshold = c.args.command.now.support })
+    c.in_ok-rows.field-0.rows.items =
+    subst (λ tree. AreFrequent (record { links = c.args.hierarchy.links; sequences = c.args.db; expression = tree; threshold = c.args.command.now.support }) c.in_ok-rows.field-0.rows.items)
     c.in_ok-fst.ensures.expression compiled in
     rw back
-    (rows-ordered c.args.names.now c.args.hierarchy c.args.db (tree_of c.args.expression.now) c.args.support
-    c.in_ok-rows.rows.items c.order.new.rows frequent same c.order.ensures.rises)
+    (rows-ordered c.args.names.now c.args.hierarchy c.args.db (tree_of c.args.expression.now) c.args.command.now.support
+    c.in_ok-rows.field-0.rows.items c.order.new.rows frequent same c.order.ensures.rises)
 
 pub returns-clause-named : goal.returns-clause-named
 returns-clause-named g c =
-    let back = written_back c.order.new.rows c.in_ok-rows.rows.items c.in_ok-rows.rows.len c.in_ok-rows.rows.ok.0
+    let back = written_back c.order.new.rows c.in_ok-rows.field-0.rows.items c.in_ok-rows.field-0.rows.len c.in_ok-rows.field-0.rows.ok.0
     (c.order.auto.rows ∙ ap length c.as_mut_slice.ensures.value) in
     let same = rw c.as_mut_slice.ensures.value at c.order.ensures.same_rows in
     let items = rw c.new-job.ensures at c.in_ok-rows.ensures.items in
     rw back
-    (All-permutation (λ (row : Row). All (HasName c.args.names.now) row.pattern) c.in_ok-rows.rows.items c.order.new.rows same
-    (rows-named c.args.names.now c.args.hierarchy.items c.in_ok-rows.rows.items c.requires.items items))
+    (All-permutation (λ (row : Row). All (HasName c.args.names.now) row.pattern) c.in_ok-rows.field-0.rows.items c.order.new.rows same
+    (rows-named c.args.names.now c.args.hierarchy.items c.in_ok-rows.field-0.rows.items c.requires.items items))
