@@ -1,6 +1,7 @@
 use super::*;
 use std::alloc::{AllocError, Global};
 use std::test::Fail;
+use text_ports::Span;
 
 #[test]
 fn a_name_keeps_its_number(rt: HostRuntime) -> Result<(), Fail> {
@@ -75,5 +76,27 @@ fn each_name_is_accepted_at_every_size(rt: HostRuntime) -> Result<(), Fail> {
     }
     assert_eq!(rt; names.intern(b"")?, Item(3_000));
     assert_eq!(rt; names.text(Item(3_000)), b"".as_slice());
+    Ok(())
+}
+
+// Fields of 16 bytes, of one, of 17, and the first again.
+#[test]
+fn fields_get_numbers_in_their_order(rt: HostRuntime) -> Result<(), Fail> {
+    let mut names = Names::new(rt.alloc())?;
+    let mut items = Vec::new(rt.alloc());
+    let text = b"0123456789abcdef x 0123456789abcdefg 0123456789abcdef";
+    let fields = [
+        Span { from: 0, to: 16 },
+        Span { from: 17, to: 18 },
+        Span { from: 19, to: 36 },
+        Span { from: 37, to: 53 },
+    ];
+    names.intern_fields(text, &fields, &mut items)?;
+    assert_eq!(rt;
+        items.as_slice(),
+        [Item(0), Item(1), Item(2), Item(0)].as_slice()
+    );
+    assert_eq!(rt; names.count(), 3);
+    assert_eq!(rt; names.text(Item(2)), b"0123456789abcdefg".as_slice());
     Ok(())
 }
