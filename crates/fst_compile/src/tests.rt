@@ -12,6 +12,10 @@ const A: Item = Item(0);
 
 const B: Item = Item(1);
 
+const R: Item = Item(2);
+
+const A1: Item = Item(3);
+
 fn leaf(leaf: Leaf) -> Expr
     ensures { unfolded_leaves (tree_of result) ≡ 1 }
 {
@@ -195,6 +199,59 @@ fn gives_outputs_of_items_without_parents(rt: HostRuntime) -> Result<(), Fail> {
             assert_eq!(rt; outputs(&hierarchy, &leaf, t, &mut out)?, matches);
             assert_eq!(rt; out.len(), usize::from(matches));
             assert_eq!(rt; out.first().copied(), matches.then_some(t));
+        }
+    }
+    Ok(())
+}
+
+/// What is written, where the leaf matches.
+type Written = Option<&'static [Item]>;
+
+// a1 stands under A, and A under R.
+fn two_levels(alloc: Global) -> Result<Hierarchy, NoMemory>
+    ensures { IfOk result (λ h. h.items ≡ 4) }
+{
+    let ends = vec![in alloc; 2, 3, 4, 7]?;
+    let lists = vec![in alloc; A, R, B, R, A, R, A1]?;
+    Ok(Hierarchy::new(ends, lists))
+}
+
+#[test]
+fn gives_outputs_of_items_with_parents(rt: HostRuntime) -> Result<(), Fail> {
+    let alloc = rt.alloc();
+    let hierarchy = two_levels(alloc)?;
+    let mut out = Vec::new(alloc);
+    // What each leaf writes on a1, A, R and b, where it matches.
+    let table: [(Leaf, Written, Written, Written, Written); 12] = [
+        (Leaf::Under(A), Some(&[A1]), Some(&[A]), None, None),
+        (Leaf::Under(R), Some(&[A1]), Some(&[A]), Some(&[R]), None),
+        (Leaf::Exact(A), None, Some(&[A]), None, None),
+        (Leaf::Climb(A), Some(&[A, A1]), Some(&[A]), None, None),
+        (
+            Leaf::Climb(R),
+            Some(&[A, R, A1]),
+            Some(&[A, R]),
+            Some(&[R]),
+            None,
+        ),
+        (Leaf::Forced(A), Some(&[A]), Some(&[A]), None, None),
+        (Leaf::Forced(R), Some(&[R]), Some(&[R]), Some(&[R]), None),
+        (Leaf::Any, Some(&[A1]), Some(&[A]), Some(&[R]), Some(&[B])),
+        (
+            Leaf::AnyClimb,
+            Some(&[A, R, A1]),
+            Some(&[A, R]),
+            Some(&[R]),
+            Some(&[B]),
+        ),
+        (Leaf::Not(A), None, None, Some(&[R]), Some(&[B])),
+        (Leaf::Not(R), None, None, None, Some(&[B])),
+        (Leaf::NotExact(A), Some(&[A1]), None, Some(&[R]), Some(&[B])),
+    ];
+    for (leaf, on_a1, on_a, on_r, on_b) in table {
+        for (t, written) in [(A1, on_a1), (A, on_a), (R, on_r), (B, on_b)] {
+            assert_eq!(rt; outputs(&hierarchy, &leaf, t, &mut out)?, written.is_some());
+            assert_eq!(rt; out.as_slice(), written.unwrap_or(&[]));
         }
     }
     Ok(())
