@@ -8,8 +8,10 @@ use frequency_list::count;
 use fst_compile::compile;
 use fst_simulate::Job;
 use item_names::Names;
-use mine_model::{Db, Expr, Hierarchy, Item, Leaf, NoMemory, Row};
+use mine_model::{Db, Expr, Gate, Hierarchy, Item, Leaf, Mined, NoMemory, OpenGate, Row, Work};
 use std::alloc::{AllocError, Global};
+use std::sync::Wait;
+use std::sync::atomic::{AtomicU64, Ordering};
 use std::test::Fail;
 use std::thread::Threads;
 
@@ -95,7 +97,7 @@ fn cap(alloc: Global, inner: Expr) -> Result<Expr, AllocError>
 
 /// The expressions of the tests.
 #[derive(Clone, Copy)]
-enum Mined {
+enum Asked {
     /// `.*(A)[(.^)|.]*(b).*`
     Climbing,
     /// `.*(.).*`
@@ -104,16 +106,16 @@ enum Mined {
     Subsequence,
 }
 
-fn expression(alloc: Global, mined: Mined) -> Result<Expr, AllocError>
+fn expression(alloc: Global, asked: Asked) -> Result<Expr, AllocError>
     ensures leaves { IfOk result (λ e. unfolded_leaves (tree_of e) ≤ 9) }
     ensures named { IfOk result (λ e. AllByRecursion (λ w. w.0 < 11) (named_in (tree_of e))) }
 {
     let front = star(alloc, leaf(Leaf::Any))?;
     let back = star(alloc, leaf(Leaf::Any))?;
-    let middle = match mined {
-        Mined::Climbing => climbing(alloc)?,
-        Mined::One => cap(alloc, leaf(Leaf::Any))?,
-        Mined::Subsequence => subsequence(alloc)?,
+    let middle = match asked {
+        Asked::Climbing => climbing(alloc)?,
+        Asked::One => cap(alloc, leaf(Leaf::Any))?,
+        Asked::Subsequence => subsequence(alloc)?,
     };
     cat(alloc, cat(alloc, front, middle)?, back)
 }
@@ -167,17 +169,19 @@ fn database(alloc: Global, lines: Lines, times: u32) -> Result<Db, NoMemory>
     Ok(db)
 }
 
-/// The rows that the expression has on these lines, each so many times.
-fn rows<T: Threads + Sync>(
-    rt: &T,
+/// What is found of the expression on these lines, each so many times.
+fn find<R: Threads + Wait + Sync, G: Gate>(
+    rt: &R,
     alloc: Global,
-    mined: Mined,
-    lines: Lines,
-    times: u32,
+    of: (Asked, Lines, u32),
     support: u64,
-) -> Result<Vec<Row>, Fail>
-    requires { 1 ≤ support }
+    workers: u32,
+    gate: &G,
+) -> Result<Mined, Fail>
+    requires support { 1 ≤ support }
+    requires workers { 1 ≤ workers }
 {
+    let (asked, lines, times) = of;
     let mut names = Names::new(alloc)?;
     for word in &WORDS {
         let _item = names.intern(word.as_bytes())?;
@@ -187,10 +191,19 @@ fn rows<T: Threads + Sync>(
         return Err(NoMemory)?;
     }
     let db = database(alloc, lines, times)?;
-    let fst = compile(alloc, &expression(alloc, mined)?)?;
+    let fst = compile(alloc, &expression(alloc, asked)?)?;
     let ranks = count(rt, alloc, &hierarchy, &db, support, &names)?;
     let job = Job::new(hierarchy, db, fst, ranks, support);
-    Ok(mine(alloc, &job)?)
+    Ok(mine(rt, alloc, &job, workers, gate)?)
+}
+
+/// The work of so many pairs, which has no nodes and no parts.
+fn counted(pairs: u64) -> Work {
+    Work {
+        nodes: 0,
+        parts: 0,
+        candidates: pairs,
+    }
 }
 
 fn holds(rows: &[Row], pattern: &[Item], support: u64) -> bool {
@@ -214,31 +227,38 @@ const SHARED: [(u64, &[Item]); 4] = [
     (8, &[B, B, C]),
 ];
 
+const PAIR: [(u64, &[Item]); 1] = [(1, &[A1, B])];
+
+/// The expression, the lines and how often they stand, the support, the pairs, the rows.
+type Case = ((Asked, Lines, u32), u64, u64, Lines);
+
 #[test]
 fn finds_the_frequent_patterns(rt: HostRuntime) -> Result<(), Fail> {
-    let table: [(Mined, Lines, u32, u64, Lines); 8] = [
+    let table: [Case; 10] = [
         (
-            Mined::Climbing,
-            &RUNNING,
-            1,
+            (Asked::Climbing, &RUNNING, 1),
             2,
+            13,
             &[(3, &[A1, B]), (2, &[A1, A, B]), (2, &[A1, A1, B])],
         ),
-        (Mined::Climbing, &RUNNING, 1, 3, &[(3, &[A1, B])]),
-        (Mined::Climbing, &RUNNING, 1, 6, &[]),
-        (Mined::Climbing, &RUNNING, 300, 601, &[(900, &[A1, B])]),
+        ((Asked::Climbing, &RUNNING, 1), 3, 8, &[(3, &[A1, B])]),
+        ((Asked::Climbing, &RUNNING, 1), 6, 0, &[]),
         (
-            Mined::One,
-            &WEIGHTS,
-            1,
+            (Asked::Climbing, &RUNNING, 300),
+            601,
+            2400,
+            &[(900, &[A1, B])],
+        ),
+        (
+            (Asked::One, &WEIGHTS, 1),
             5,
+            4,
             &[(7, &[B]), (1_000_000_004, &[C])],
         ),
         (
-            Mined::Subsequence,
-            &SHARED,
-            1,
+            (Asked::Subsequence, &SHARED, 1),
             8,
+            12,
             &[
                 (11, &[B]),
                 (15, &[C]),
@@ -247,15 +267,71 @@ fn finds_the_frequent_patterns(rt: HostRuntime) -> Result<(), Fail> {
                 (8, &[B, B, C]),
             ],
         ),
-        (Mined::Subsequence, &[], 1, 1, &[]),
-        (Mined::Subsequence, &[(1, &[])], 1, 1, &[]),
+        ((Asked::Subsequence, &[], 1), 1, 0, &[]),
+        ((Asked::Subsequence, &[(1, &[])], 1), 1, 0, &[]),
+        (
+            (Asked::Subsequence, &PAIR, 300),
+            300,
+            900,
+            &[(300, &[A1]), (300, &[B]), (300, &[A1, B])],
+        ),
+        ((Asked::Subsequence, &PAIR, 300), 301, 0, &[]),
     ];
-    for (mined, lines, times, support, want) in table {
-        let found = rows(&rt, rt.alloc(), mined, lines, times, support.max(1))?;
-        assert_eq!(rt; found.len(), want.len());
-        for (support, pattern) in want {
-            assert!(rt; holds(&found, pattern, *support));
+    for (of, support, pairs, want) in table {
+        for workers in [1, 2, 4, 64] {
+            let found = find(
+                &rt,
+                rt.alloc(),
+                of,
+                support.max(1),
+                workers.max(1),
+                &OpenGate,
+            )?;
+            assert_eq!(rt; found.work, counted(pairs));
+            assert_eq!(rt; found.rows.len(), want.len());
+            for (support, pattern) in want {
+                assert!(rt; holds(&found.rows, pattern, *support));
+            }
         }
     }
+    Ok(())
+}
+
+/// How often each of four workers passed for each of its first two rounds, and how often anybody else did.
+#[derive(Drop)]
+struct Passed {
+    rounds: [[AtomicU64; 2]; 4],
+    others: AtomicU64,
+}
+
+impl Gate for Passed {
+    fn pass(&self, worker: u32, round: u64) {
+        let rounds = self.rounds.get(worker as usize);
+        let count = rounds.and_then(|rounds| rounds.get(round as usize));
+        count.unwrap_or(&self.others).fetch_add(1, Ordering::SeqCst);
+    }
+}
+
+fn no_rounds() -> [AtomicU64; 2] {
+    [AtomicU64::new(0), AtomicU64::new(0)]
+}
+
+// 1,500 sequences make six blocks.
+#[test]
+fn each_block_passes_the_gate_once(rt: HostRuntime) -> Result<(), Fail> {
+    let gate = Passed {
+        rounds: [no_rounds(), no_rounds(), no_rounds(), no_rounds()],
+        others: AtomicU64::new(0),
+    };
+    let of: (Asked, Lines, u32) = (Asked::Climbing, &RUNNING, 300);
+    let found = find(&rt, rt.alloc(), of, 601, 4, &gate)?;
+    assert_eq!(rt; found.work, counted(2400));
+    let want: [[u64; 2]; 4] = [[1, 1], [1, 1], [1, 0], [1, 0]];
+    for (rounds, want) in gate.rounds.iter().zip(&want) {
+        for (count, want) in rounds.iter().zip(want) {
+            assert_eq!(rt; count.load(Ordering::SeqCst), *want);
+        }
+    }
+    assert_eq!(rt; gate.others.load(Ordering::SeqCst), 0);
     Ok(())
 }
