@@ -1,8 +1,9 @@
 //! What a run leaves behind, asked of the whole command over files and sinks in memory.
 
 use super::run;
-use mine_model::OpenGate;
+use mine_model::{Gate, OpenGate};
 use std::alloc::Global;
+use std::sync::Wait;
 use std::test::Fail;
 use std::thread::Threads;
 use text_ports::{MemFile, MemFiles, MemSink};
@@ -10,6 +11,7 @@ use text_ports::{MemFile, MemFiles, MemSink};
 mod limits;
 mod outside_faults;
 mod rows;
+mod workers;
 
 /// What a run left behind.
 #[derive(Drop)]
@@ -54,13 +56,15 @@ fn file(alloc: Global, name: &str, bytes: &[u8]) -> Result<MemFile, Fail> {
     })
 }
 
-fn run_on<R: Threads + Sync>(
+/// Runs the words on these files, through this gate.
+fn run_gated<R: Threads + Wait + Sync, G: Gate>(
     rt: &R,
     alloc: Global,
     words: &[&str],
     hierarchy: &[u8],
     sequences: &[u8],
     faults: Faults<'_>,
+    gate: &G,
 ) -> Result<Ran, Fail> {
     let mut owned = Vec::new(alloc);
     for word in words {
@@ -81,7 +85,7 @@ fn run_on<R: Threads + Sync>(
         &mut files,
         &mut out,
         &mut err,
-        &OpenGate,
+        gate,
     );
     Ok(Ran {
         status,
@@ -90,8 +94,19 @@ fn run_on<R: Threads + Sync>(
     })
 }
 
+fn run_on<R: Threads + Wait + Sync>(
+    rt: &R,
+    alloc: Global,
+    words: &[&str],
+    hierarchy: &[u8],
+    sequences: &[u8],
+    faults: Faults<'_>,
+) -> Result<Ran, Fail> {
+    run_gated(rt, alloc, words, hierarchy, sequences, faults, &OpenGate)
+}
+
 /// How many of the cases leave what they should.
-fn count_right<R: Threads + Sync>(
+fn count_right<R: Threads + Wait + Sync>(
     rt: &R,
     alloc: Global,
     cases: &[Case<'_>],

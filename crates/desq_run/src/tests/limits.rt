@@ -2,6 +2,7 @@ ghost use Rattle.std.specs.Prelude.{◌<◌};
 
 use super::{Faults, NO_FAULTS, run_on};
 use std::alloc::Global;
+use std::sync::Wait;
 use std::test::Fail;
 use std::thread::Threads;
 
@@ -28,7 +29,7 @@ fn a_long_answer_is_one_write_and_a_longer_one_is_whole(rt: HostRuntime) -> Resu
 }
 
 /// Whether the expression writes the whole line, which is of one item many times with a blank behind each.
-fn writes_all<R: Threads + Sync>(
+fn writes_all<R: Threads + Wait + Sync>(
     rt: &R,
     alloc: Global,
     expression: &str,
@@ -83,7 +84,7 @@ fn the_deepest_expression_is_walked(rt: HostRuntime) -> Result<(), Fail> {
 }
 
 /// Whether the words leave this on these files.
-fn leaves<R: Threads + Sync>(
+fn leaves<R: Threads + Wait + Sync>(
     rt: &R,
     alloc: Global,
     words: &[&str],

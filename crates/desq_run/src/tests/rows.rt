@@ -679,7 +679,7 @@ fn reads_words_in_any_order(rt: HostRuntime) -> Result<(), Fail> {
             err: "desq: usage: desq --support N [options] EXPR [FILE]\n",
         },
         Case {
-            words: &["--engine", "count", "--support", "1", "(a)", "f"],
+            words: &["--engine", "--support", "1", "(a)", "f"],
             hierarchy: "",
             sequences: "a\n",
             status: 2,
