@@ -1,6 +1,6 @@
 //! Runs by the counting engine with one worker and with several, and the counted work that they tell.
 
-use super::{Case, NO_FAULTS, count_right, run_gated};
+use super::{Case, NO_FAULTS, count_right, run_gated, run_on};
 use mine_model::Gate;
 use std::alloc::Global;
 use std::sync::Wait;
@@ -17,69 +17,90 @@ const RUNNING: &str = ".*(A)[(.^)|.]*(b).*";
 
 const ANSWER: &str = "3\ta1 b\n2\ta1 A b\n2\ta1 a1 b\n";
 
-/// What a run of these words on the running example leaves.
-fn running_case<'a>(words: &'a [&'a str], out: &'a str, err: &'a str) -> Case<'a> {
-    Case {
-        words,
-        hierarchy: HIERARCHY,
-        sequences: SEQUENCES,
-        status: 0,
-        out,
-        err,
-    }
-}
-
-/// The words of the running example.
-fn running_words<'a>(support: &'a str, workers: &'a str) -> [&'a str; 10] {
-    [
-        "--support",
-        support,
-        "--engine",
-        "count",
-        "--workers",
-        workers,
-        "--hierarchy",
-        "h",
-        RUNNING,
-        "f",
-    ]
-}
-
-/// Whether so many workers give the answers of the running example, and tell its pairs.
-fn answers_by<R: Threads + Wait + Sync>(
-    rt: &R,
-    alloc: Global,
-    workers: &str,
-) -> Result<bool, Fail> {
-    let two = running_words("2", workers);
-    let three = running_words("3", workers);
-    let six = running_words("6", workers);
-    let told = [
-        "--stats",
-        "--engine=count",
-        "--workers",
-        workers,
-        "--hierarchy",
-        "h",
-        "--support=2",
-        RUNNING,
-        "f",
-    ];
-    let pairs = "desq: nodes 0 parts 0 candidates 13\n";
-    let cases = [
-        running_case(&two, ANSWER, ""),
-        running_case(&three, "3\ta1 b\n", ""),
-        running_case(&six, "", ""),
-        running_case(&told, ANSWER, pairs),
-    ];
-    Ok(count_right(rt, alloc, &cases)? == cases.len())
+/// What so many workers leave on the running example, by four commands.
+macro_rules! by_workers {
+    ($workers:literal) => {
+        [
+            Case {
+                words: &[
+                    "--support",
+                    "2",
+                    "--engine",
+                    "count",
+                    "--workers",
+                    $workers,
+                    "--hierarchy",
+                    "h",
+                    RUNNING,
+                    "f",
+                ],
+                hierarchy: HIERARCHY,
+                sequences: SEQUENCES,
+                status: 0,
+                out: ANSWER,
+                err: "",
+            },
+            Case {
+                words: &[
+                    "--support",
+                    "3",
+                    "--workers",
+                    $workers,
+                    "--hierarchy",
+                    "h",
+                    RUNNING,
+                    "f",
+                ],
+                hierarchy: HIERARCHY,
+                sequences: SEQUENCES,
+                status: 0,
+                out: "3\ta1 b\n",
+                err: "",
+            },
+            Case {
+                words: &[
+                    "--support",
+                    "6",
+                    "--workers",
+                    $workers,
+                    "--hierarchy",
+                    "h",
+                    RUNNING,
+                    "f",
+                ],
+                hierarchy: HIERARCHY,
+                sequences: SEQUENCES,
+                status: 0,
+                out: "",
+                err: "",
+            },
+            Case {
+                words: &[
+                    "--stats",
+                    "--engine=count",
+                    "--workers",
+                    $workers,
+                    "--hierarchy",
+                    "h",
+                    "--support=2",
+                    RUNNING,
+                    "f",
+                ],
+                hierarchy: HIERARCHY,
+                sequences: SEQUENCES,
+                status: 0,
+                out: ANSWER,
+                err: "desq: nodes 0 parts 0 candidates 13\n",
+            },
+        ]
+    };
 }
 
 #[test]
 fn any_number_of_workers_gives_the_same_answer(rt: HostRuntime) -> Result<(), Fail> {
-    for workers in ["1", "4", "64"] {
-        assert!(rt; answers_by(&rt, rt.alloc(), workers)?, "{workers}");
-    }
+    assert_eq!(rt; count_right(&rt, rt.alloc(), &by_workers!("1"))?, 4);
+    assert_eq!(rt; count_right(&rt, rt.alloc(), &by_workers!("4"))?, 4);
+    assert_eq!(rt; count_right(&rt, rt.alloc(), &by_workers!("64"))?, 4);
     Ok(())
 }
 
@@ -92,43 +113,48 @@ fn pairs_of_items(alloc: Global, count: u32) -> Result<String, Fail> {
     Ok(lines)
 }
 
-// The second block has fewer sequences than the first.
+/// Whether the words leave this answer and this line on 300 lines of an `a` and a `b`: two blocks, of which the
+/// second has fewer sequences.
+fn is_left<R: Threads + Wait + Sync>(
+    rt: &R,
+    alloc: Global,
+    words: &[&str],
+    out: &str,
+    err: &str,
+) -> Result<bool, Fail> {
+    let lines = pairs_of_items(alloc, 300)?;
+    let ran = run_on(rt, alloc, words, b"", lines.as_str().as_bytes(), NO_FAULTS)?;
+    Ok(
+        ran.status == 0
+            && ran.out.as_slice() == out.as_bytes()
+            && ran.err.as_slice() == err.as_bytes(),
+    )
+}
+
+/// The words for so many workers and this support.
+macro_rules! words_for {
+    ($workers:literal, $support:literal) => {
+        &[
+            "--stats",
+            "--support",
+            $support,
+            "--workers",
+            $workers,
+            "(a)(b)",
+            "f",
+        ]
+    };
+}
+
 #[test]
 fn more_sequences_than_a_block_holds_are_all_counted(rt: HostRuntime) -> Result<(), Fail> {
-    let lines = pairs_of_items(rt.alloc(), 300)?;
-    for workers in ["1", "2", "64"] {
-        let cases = [
-            Case {
-                words: &["--support", "300", "--workers", workers, "(a)(b)", "f"],
-                hierarchy: "",
-                sequences: lines.as_str(),
-                status: 0,
-                out: "300\ta b\n",
-                err: "",
-            },
-            Case {
-                words: &[
-                    "--stats",
-                    "--support",
-                    "301",
-                    "--workers",
-                    workers,
-                    "(a)(b)",
-                    "f",
-                ],
-                hierarchy: "",
-                sequences: lines.as_str(),
-                status: 0,
-                out: "",
-                err: "desq: nodes 0 parts 0 candidates 0\n",
-            },
-        ];
-        assert_eq!(rt;
-            count_right(&rt, rt.alloc(), &cases)?,
-            cases.len(),
-            "{workers}"
-        );
-    }
+    let out = "300\ta b\n";
+    let err = "desq: nodes 0 parts 0 candidates 300\n";
+    assert!(rt; is_left(&rt, rt.alloc(), words_for!("1", "300"), out, err)?);
+    assert!(rt; is_left(&rt, rt.alloc(), words_for!("2", "300"), out, err)?);
+    assert!(rt; is_left(&rt, rt.alloc(), words_for!("64", "300"), out, err)?);
+    let none = "desq: nodes 0 parts 0 candidates 0\n";
+    assert!(rt; is_left(&rt, rt.alloc(), words_for!("2", "301"), "", none)?);
     Ok(())
 }
 
