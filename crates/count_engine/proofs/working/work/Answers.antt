@@ -1,11 +1,11 @@
-use Rattle.std.proofs.Common.{◌≡◌, ◌++◌, ◌∷◌, [], ℕ, map, ap, sym, subst, ◌∙◌, arith}
+use Rattle.std.proofs.Common.{◌≡◌, ◌++◌, ◌∷◌, [], ℕ, map, refl, sym, subst, ◌∙◌, arith}
 use Rattle.mine_model.specs.Counted.{HasPairs}
 use Rattle.fst_simulate.specs.Problems.{Problem}
 use Rattle.count_shards.specs.Blocks.{data_of, sequences_in}
 use Rattle.count_shards.specs.Shard.{entry_of}
 use Rattle.count_engine.specs.Shares.{share_of, HasBlockPairs, IsTold}
 use Rattle.count_engine.proofs.ShareLemmas.{share_with, share_without}
-use Rattle.count_engine.proofs.MadeLemmas.{MadeMore, made_with}
+use Rattle.count_engine.proofs.MadeLemmas.{MadeMore, made_none, made_with}
 use Rattle.count_engine.proofs.WorkLemmas.{pairs_with}
 use Rattle.count_engine.proofs.working.work.Goals as goal
 
@@ -35,3 +35,23 @@ loop-block-preserved g c =
       pairs = pairs_with c.args.job.now c.args.worker c.args.workers c.loop-block.block c.loop-block.pairs c.fill.new.self.pairs c.saturating_add-pairs.result
           c.if-block-workers.false c.loop-block.invariant.pairs here (rw c.pairs.ensures at c.saturating_add-pairs.ensures);
     }
+
+pub loop-block-init : goal.loop-block-init
+loop-block-init g c = record {
+  passes = c.requires.passes;
+  made = made_none c.args.passes.now;
+  problem = c.in_ok-counts.ensures.problem;
+  pairs = (0, refl, refl);
+}
+
+pub returns-clause-made : goal.returns-clause-made
+returns-clause-made g c =
+    let last : c.loop-block.block ≡ c.block_count-block-end.result = omega (arith, c.loop-block-test.false, c.loop-block.auto.block-end) in
+    subst (λ (n : ℕ). MadeMore (map entry_of (share_of c.args.worker c.args.workers n)) c.args.passes.now c.loop-block.passes)
+    (last ∙ c.block_count-block-end.ensures) c.loop-block.invariant.made
+
+pub returns-clause-pairs : goal.returns-clause-pairs
+returns-clause-pairs g c =
+    let last : c.loop-block.block ≡ c.block_count-block-end.result = omega (arith, c.loop-block-test.false, c.loop-block.auto.block-end) in
+    subst (λ (n : ℕ). IsTold (HasBlockPairs c.args.job.now (share_of c.args.worker c.args.workers n)) c.loop-block.pairs)
+    (last ∙ c.block_count-block-end.ensures) c.loop-block.invariant.pairs
