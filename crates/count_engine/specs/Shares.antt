@@ -14,10 +14,13 @@ use Rattle.count_shards.specs.Shards.{ShardPass, PassLists, ArePassesOf}
 use Rattle.count_engine.specs.declared.hands.Hand.{Hand}
 use Rattle.count_engine.specs.declared.hands.Done.{Done}
 
--- the blocks of a worker, of so many: those whose numbers leave its own when they are divided by the number of
--- workers, rising
+-- the blocks of a worker, of so many, rising: divided by the number of workers, their numbers leave its own
 abbrev pub share_of : ℕ → ℕ → ℕ → List ℕ
 share_of worker workers count = filter (λ block. block % workers == worker) (range_with_len 0 count)
+
+-- what a pass of a worker makes, of so many: the blocks of its share, in order
+abbrev pub made_by : Problem → ℕ → ℕ → List (List ℕ)
+made_by problem worker workers = map entry_of (share_of worker workers (block_count problem))
 
 -- n is the number of pairs of a sequence of these blocks and one of its candidates
 abbrev pub HasBlockPairs : Problem → List ℕ → ℕ → Type 0
@@ -37,7 +40,7 @@ pub record IsHandOf (shards : Shards) (workers : ℕ) (hand : Hand) : Type 0 whe
 -- the worker gives its passes back, which added the blocks of its share in order, and the pairs of its share
 pub record IsDone (problem : Problem) (shards : Shards) (workers worker : ℕ) (done : Done) : Type 0 where
   pub passes : ArePassesOf shards done.passes.items
-  pub made : All (λ pass. made pass ≡ map entry_of (share_of worker workers (block_count problem))) done.passes.items
+  pub made : All (λ pass. made pass ≡ made_by problem worker workers) done.passes.items
   pub pairs : IsTold (HasBlockPairs problem (share_of worker workers (block_count problem))) done.pairs
 
 -- what the proofs keep

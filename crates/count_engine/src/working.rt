@@ -1,9 +1,8 @@
 ghost use Rattle.std.specs.Prelude.{◌≡◌, ◌≤◌, ◌<◌, ◌++◌, map, IfOk, OnOk};
 ghost use Rattle.turn_lock.specs.Passes.{made};
 ghost use Rattle.count_shards.specs.Blocks.{block_count};
-ghost use Rattle.count_shards.specs.Shard.{entry_of};
 ghost use Rattle.count_shards.specs.Shards.{AreShardsOf, ArePassesOf};
-ghost use Rattle.count_engine.specs.Shares.{share_of, HasBlockPairs, IsTold};
+ghost use Rattle.count_engine.specs.Shares.{share_of, made_by, HasBlockPairs, IsTold};
 
 use count_shards::{BlockCounts, Shard, Shards};
 use fst_simulate::Job;
@@ -22,9 +21,9 @@ fn block_count(job: &Job) -> u32
     job.db().sequences().div_ceil(BLOCK)
 }
 
-/// One worker's whole run. It takes the blocks whose numbers leave its own when they are divided by the number
-/// of workers, in order, and passes the gate before each. Answers how many pairs there are of a sequence of
-/// these blocks and one of its candidates, 2⁶⁴ - 1 where there are more.
+/// One worker's whole run. Its blocks are those whose numbers, divided by the number of workers, leave its
+/// own. It takes them in order, and passes the gate before each. Answers how many pairs there are of a
+/// sequence of these blocks and one of its candidates, 2⁶⁴ - 1 where there are more.
 pub fn work<R: Wait, G: Gate>(
     rt: &R,
     alloc: Global,
@@ -40,7 +39,7 @@ pub fn work<R: Wait, G: Gate>(
     requires worker { worker < workers }
     ensures passes { ArePassesOf shards.now passes.new }
     ensures made { OnOk result (map made passes.new
-        ≡ map (λ pass. made pass ++ map entry_of (share_of worker workers (block_count job.now))) passes.old) }
+        ≡ map (λ pass. made pass ++ made_by job.now worker workers) passes.old) }
     ensures pairs { IfOk result
         (IsTold (HasBlockPairs job.now (share_of worker workers (block_count job.now)))) }
 {

@@ -8,11 +8,8 @@ use Rattle.std.proofs.lemmas.List.Elements.{filter_map-append}
 use Rattle.std.proofs.lemmas.Option.{none-some, slice_get_within}
 use Rattle.mine_model.proofs.ElementLemmas.{get-some}
 use Rattle.count_shards.specs.Shards.{column}
-use Rattle.count_shards.specs.Columns.{IsDealt}
+use Rattle.count_shards.specs.Columns.{Rows, IsDealt}
 use Rattle.count_shards.proofs.Lists.{get_set_same, get_set_other, same_some}
-
-abbrev pub Rows : Type 0 → Type 0
-Rows T = List (Vec T Global)
 
 module _ {T : Type 0} where
   -- each row reaches past the place

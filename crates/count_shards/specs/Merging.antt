@@ -8,14 +8,16 @@ use Rattle.count_shards.specs.Shard.{entry_of}
 use Rattle.count_shards.specs.Shards.{Lock, ShardPass, PassLists, IsLockOf}
 
 -- the lock of a home, and all its passes, which made nothing
-pub record IsOpened (problem : Problem) (workers home : ℕ) (lock : Lock) (passes : List ShardPass) : Type 0 where
+pub record IsOpened (problem : Problem) (workers home : ℕ) (lock : Lock)
+    (passes : List ShardPass) : Type 0 where
   pub ground : IsLockOf problem home lock
   pub count : pass_count lock ≡ workers
   pub all : AreAllPasses lock passes
   pub fresh : AreFresh passes
 
 -- the locks of the first homes, and by the same places their passes
-pub record AreOpened (problem : Problem) (workers homes : ℕ) (locks : List Lock) (lists : PassLists) : Type 0 where
+pub record AreOpened (problem : Problem) (workers homes : ℕ) (locks : List Lock)
+    (lists : PassLists) : Type 0 where
   pub lock_count : length locks ≡ homes
   pub list_count : length lists ≡ homes
   pub each : (home : ℕ) (lock : Lock) (list : Vec ShardPass Global) → slice_get locks home ≡ Some lock

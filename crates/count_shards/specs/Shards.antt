@@ -33,7 +33,8 @@ IsLockOf problem home lock =
 -- they are the shards of this problem, each at the place of its home
 pub record AreShardsOf (problem : Problem) (shards : Shards) : Type 0 where
   pub sixteen : length shards.locks.items ≡ 16
-  pub each : (home : ℕ) (lock : Lock) → slice_get shards.locks.items home ≡ Some lock → IsLockOf problem home lock
+  pub each : (home : ℕ) (lock : Lock) → slice_get shards.locks.items home ≡ Some lock
+      → IsLockOf problem home lock
 
 -- they are one pass of each shard, in order
 pub record ArePassesOf (shards : Shards) (passes : List ShardPass) : Type 0 where
@@ -62,7 +63,7 @@ AddedEachOnce problem lists = (home : ℕ) → home < 16
 
 -- ---- the rows of one shard
 
--- the row is a pattern whose ranks have this home, with its count of all sequences, which reaches the threshold
+-- the row is a pattern whose ranks have this home, with its count, which reaches the threshold
 pub record IsRowOf (problem : Problem) (home : ℕ) (row : Row) : Type 0 where
   pub list : List ℕ
   pub at : home_of list ≡ home

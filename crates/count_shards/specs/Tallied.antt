@@ -34,7 +34,8 @@ abbrev pub ArePairs : Problem → List (Sequence Item) → ℕ → Type 0
 ArePairs problem done told = (n : ℕ) × HasPairs (data_of problem) done n × (told ≡ told_of n)
 
 -- the sequences, those of a block, are counted
-pub record HasCounted (problem : Problem) (done : List (Sequence Item)) (tallies : List Tally) (told : ℕ) : Type 0 where
+pub record HasCounted (problem : Problem) (done : List (Sequence Item)) (tallies : List Tally)
+    (told : ℕ) : Type 0 where
   pub tallied : AreTallied problem done tallies
   pub most : (home : ℕ) (list : List ℕ) → sum_of (tally_at tallies home) list ≤ 256 * most_weight
   pub pairs : ArePairs problem done told

@@ -113,8 +113,8 @@ fn pairs_of_items(alloc: Global, count: u32) -> Result<String, Fail> {
     Ok(lines)
 }
 
-/// Whether the words leave this answer and this line on 300 lines of an `a` and a `b`: two blocks, of which the
-/// second has fewer sequences.
+/// Whether the words leave this answer and this line on 300 lines of an `a` and a `b`: two blocks, of which
+/// the second has fewer sequences.
 fn is_left<R: Threads + Wait + Sync>(
     rt: &R,
     alloc: Global,
@@ -248,8 +248,8 @@ fn tells_pairs_and_no_weights(rt: HostRuntime) -> Result<(), Fail> {
     Ok(())
 }
 
-/// A gate that counts its passes. In its first round worker 0 waits there until worker 1 has passed in its own,
-/// or until its turns run out.
+/// A gate that counts its passes. In its first round worker 0 waits there until worker 1 has passed in its
+/// own, or until its turns run out.
 #[derive(Drop)]
 struct SecondFirst {
     passes: AtomicU64,
