@@ -11,6 +11,7 @@ pub mod Support
 pub mod Answer
 pub mod AnswerText
 pub mod Counted
+pub mod Growth
 pub mod First
 pub mod Refusal
 pub mod Status
@@ -21,6 +22,7 @@ pub mod Ancestry
 pub mod Labels
 pub mod Database
 pub mod Ranks
+pub mod SearchTree
 pub mod Cover
 pub mod Faults
 -- what the proofs keep
