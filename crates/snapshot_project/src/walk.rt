@@ -19,7 +19,12 @@ pub fn start(alloc: Global, part: &Part) -> Result<Snapshots, NoMemory>
 }
 
 /// The snapshots of the prefix with this rank appended.
-pub fn advance(alloc: Global, part: &Part, snapshots: &Snapshots, rank: u32) -> Result<Snapshots, NoMemory>
+pub fn advance(
+    alloc: Global,
+    part: &Part,
+    snapshots: &Snapshots,
+    rank: u32,
+) -> Result<Snapshots, NoMemory>
     requires least { 1 ≤ rank }
     requires most { rank ≤ part.now.bound.top }
     ensures { IfOk result (λ longer. (ranks : List ℕ) → AreSnapshots part.now ranks snapshots.now
