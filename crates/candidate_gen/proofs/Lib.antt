@@ -13,4 +13,4 @@ pub mod SortLemmas
 pub mod WeightLemmas
 pub mod GrowLemmas
 pub mod EndLemmas
-pub mod RankedLemmas
+pub mod CandidateLemmas

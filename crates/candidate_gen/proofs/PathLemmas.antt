@@ -4,21 +4,11 @@ use Rattle.state_bits.specs.Members.{Has}
 use Rattle.mine_model.specs.declared.item.Item.{Item}
 use Rattle.mine_model.specs.Numbered.{leaf_of}
 use Rattle.mine_model.specs.Generation.{MayWrite, WritesAt}
-use Rattle.mine_model.specs.Ranks.{HasRank}
+use Rattle.mine_model.specs.Ranks.{HasRank, AreRanked}
+use Rattle.mine_model.proofs.RankedLemmas.{ranked-none, ranked-first}
 use Rattle.fst_compile.specs.declared.edge.Edge.{Edge}
 use Rattle.fst_simulate.proofs.PathLemmas.{writes-cases}
-use Rattle.candidate_gen.specs.Candidates.{AreRanked}
 use Rattle.candidate_gen.specs.Paths.{Space, Writes, IsRead, WritesBehind}
-
-pub ranked-none : (order : List Item) (ranks : List ℕ) → AreRanked order [] ranks → ranks ≡ []
-ranked-none order [] ranked = refl
-ranked-none order (rank ∷ ranks) ranked = absurd ranked
-
--- the ranks of an item and of those behind it
-pub ranked-first : (order : List Item) (v : Item) (items : List Item) (ranks : List ℕ) → AreRanked order (v ∷ items) ranks
-    → (rank : ℕ) × (others : List ℕ) × (ranks ≡ rank ∷ others) × HasRank order v rank × AreRanked order items others
-ranked-first order v items [] ranked = absurd ranked
-ranked-first order v items (rank ∷ others) ranked = (rank, others, refl, ranked.0, ranked.1)
 
 module _ (space : Space) where
   -- at the end of the sequence a path writes nothing more

@@ -1,22 +1,16 @@
 -- What grids say, as ranks.
 use Rattle.std.proofs.Common.{◌≡◌, ◌↔◌, ℕ, ◌-◌, ◌<◌, ◌≤◌, inl, inr, IsTrue, Bool, true, false, None, Some, List, [], ◌∷◌, length, drop, refl, subst, arith}
 use Rattle.std.specs.List.{AllByRecursion, Contains, slice_get}
-use Rattle.std.proofs.lemmas.Option.{slice_get_within}
 use Rattle.mine_model.specs.declared.item.Item.{Item}
-use Rattle.mine_model.specs.Ranks.{HasRank, Ranking}
+use Rattle.mine_model.specs.Ranks.{Ranking, AreRanked}
+use Rattle.mine_model.proofs.RankLemmas.{HasRank-most}
 use Rattle.mine_model.proofs.ListLemmas.{Contains-first, Contains-none}
 use Rattle.fst_compile.specs.Transducer.{IsPath}
 use Rattle.fst_simulate.specs.declared.bound.Bound.{Bound}
 use Rattle.fst_simulate.specs.Problems.{Problem}
 use Rattle.fst_simulate.specs.Grids.{IsAllowed, HoldsNeeded, Completes, Ends, WritesRank, GridList, items_at, rest_at}
-use Rattle.candidate_gen.specs.Candidates.{AreRanked}
 use Rattle.candidate_gen.specs.Paths.{Space, Writes}
 use Rattle.candidate_gen.specs.Views.{IsGridOf, WritesMore, WritesAs}
-
--- a rank is that of a place of the order
-pub rank-within : (order : List Item) (v : Item) (rank : ℕ) → HasRank order v rank → (1 ≤ rank) × (rank ≤ length order)
-rank-within order v rank has = let inside : rank - 1 < length order = slice_get_within order (rank - 1) v has.place in
-    let least = has.least in (least, omega (arith, inside, least))
 
 -- the bound under which any frequent item may be written
 abbrev pub whole_bound : Ranking → Bound
@@ -35,7 +29,7 @@ ranked-allowed : (ranking : Ranking) (output : List Item) (ranks : List ℕ) →
 ranked-allowed ranking [] ranks ranked = tt
 ranked-allowed ranking (v ∷ output) [] ranked = absurd ranked
 ranked-allowed ranking (v ∷ output) (rank ∷ ranks) ranked =
-    ((rank, ranked.0, (rank-within ranking.order v rank ranked.0).1), ranked-allowed ranking output ranks ranked.1)
+    ((rank, ranked.0, HasRank-most ranking.order v rank ranked.0), ranked-allowed ranking output ranks ranked.1)
 
 module _ (space : Space) (rest : List Item) (state : ℕ) where
   more-from : Completes space.problem (whole_bound space.problem.ranking) rest state false
@@ -98,7 +92,7 @@ module _ (space : Space) (rest : List Item) (state : ℕ) where
 pub writes-as : (problem : Problem) (t : Item) (state rank : ℕ) → WritesRank problem (whole_bound problem.ranking) t state rank ↔ WritesAs problem t state rank
 writes-as problem t state rank = (
   (λ h. let (v, has, few, reads) = h in (v, has, reads)),
-  (λ h. let (v, has, reads) = h in (v, has, (rank-within problem.ranking.order v rank has).1, reads)),
+  (λ h. let (v, has, reads) = h in (v, has, HasRank-most problem.ranking.order v rank has, reads)),
 )
 
 -- the space that the first grid shows

@@ -1,11 +1,11 @@
 -- The candidates of a sequence: its patterns of frequent items. From the DESQ article; their order is own.
-use Rattle.std.specs.Prelude.{◌≡◌, ℕ, ◌↔◌, List, [], ◌∷◌, AllPairs, Contains}
+use Rattle.std.specs.Prelude.{◌≡◌, ℕ, ◌↔◌, List, AllPairs, Contains}
 use Rattle.std.specs.Ordering.{nat_cmp}
 use Rattle.std.specs.Cmp.Lexicographic.{slice_cmp}
 use Rattle.std.specs.declared.cmp.Ordering.TheVariants.{Less}
 use Rattle.mine_model.specs.declared.item.Item.{Item}
 use Rattle.mine_model.specs.Numbered.{tree_of}
-use Rattle.mine_model.specs.Ranks.{HasRank, IsFrequentItem, IsCandidateOf}
+use Rattle.mine_model.specs.Ranks.{AreRanked, IsFrequentItem, IsCandidateOf}
 use Rattle.fst_simulate.specs.Problems.{Problem, items_of}
 
 -- a pattern of frequent items that the expression generates from the sequence with this number
@@ -14,21 +14,6 @@ IsCandidate problem seq pattern =
     IsCandidateOf problem.hierarchy.links (tree_of problem.machine.expression)
     (IsFrequentItem problem.hierarchy.links problem.sequences problem.threshold)
     (items_of problem seq) pattern
-
--- the items have these ranks, one by one
-abbrev pub AreRanked : List Item → List Item → List ℕ → Type 0
-AreRanked order [] [] = Unit {0}
-AreRanked order [] (rank ∷ ranks) = ⊥
-AreRanked order (v ∷ items) [] = ⊥
-AreRanked order (v ∷ items) (rank ∷ ranks) = HasRank order v rank × AreRanked order items ranks
-
--- each list of items has the ranks of the list at its place
-abbrev pub AreAllRanked : List Item → List (List Item) → List (List ℕ) → Type 0
-AreAllRanked order [] [] = Unit {0}
-AreAllRanked order [] (ranks ∷ lists) = ⊥
-AreAllRanked order (items ∷ patterns) [] = ⊥
-AreAllRanked order (items ∷ patterns) (ranks ∷ lists) = AreRanked order items ranks
-    × AreAllRanked order patterns lists
 
 -- the first list of ranks comes earlier: rank by rank, a proper prefix first
 abbrev pub IsEarlier : List ℕ → List ℕ → Type 0

@@ -3,11 +3,10 @@ use Rattle.std.specs.Prelude.{◌≡◌, ℕ, ◌⊎◌, true, false, List, ◌�
 use Rattle.mine_model.specs.declared.item.Item.{Item}
 use Rattle.mine_model.specs.Numbered.{leaf_of}
 use Rattle.mine_model.specs.Generation.{Matches, MayWrite}
-use Rattle.mine_model.specs.Ranks.{HasRank}
+use Rattle.mine_model.specs.Ranks.{HasRank, AreRanked}
 use Rattle.fst_compile.specs.declared.edge.Edge.{Edge}
 use Rattle.fst_compile.specs.Transducer.{IsPath, edges_from}
 use Rattle.fst_simulate.specs.Problems.{Problem}
-use Rattle.candidate_gen.specs.Candidates.{AreRanked}
 
 -- what a walk goes over
 pub record Space : Type 0 where

@@ -1,5 +1,6 @@
 ghost use Rattle.std.specs.Prelude.{◌≡◌, ◌≤◌, ◌<◌, length, All, IfOk};
-ghost use Rattle.candidate_gen.specs.Candidates.{AreRanked, AreAllRanked, AreCandidates};
+ghost use Rattle.mine_model.specs.Ranks.{AreRanked, AreAllRanked};
+ghost use Rattle.candidate_gen.specs.Candidates.{AreCandidates};
 
 use super::listing::CandidateList;
 use fst_simulate::Job;

@@ -7,19 +7,17 @@ use Rattle.mine_model.specs.declared.item.Item.{Item}
 use Rattle.mine_model.specs.declared.row.Row.{Row}
 use Rattle.mine_model.specs.Numbered.{tree_of, AreFrequent}
 use Rattle.mine_model.specs.Support.{Sequence, Counts, HasSupport}
-use Rattle.mine_model.specs.Ranks.{IsFrequentItem, IsCandidateOf}
+use Rattle.mine_model.specs.Ranks.{IsFrequentItem, IsCandidateOf, AreRanked}
+use Rattle.mine_model.proofs.RankedLemmas.{ranked-same, ranked-all, ranked-bounds, same_ranks}
 use Rattle.mine_model.specs.Answer.{IsFrequent}
 use Rattle.mine_model.proofs.ListLemmas.{AllPairs-append, Contains-none}
 use Rattle.mine_model.proofs.SupportLemmas.{Counts-unique, Counts-some}
 use Rattle.mine_model.proofs.FrequencyLemmas.{Counts-by, frequencies-known, support-by_candidates, HasFrequency-within}
 use Rattle.fst_simulate.specs.Problems.{Problem, IsWhole}
-use Rattle.candidate_gen.specs.Candidates.{AreRanked}
-use Rattle.candidate_gen.proofs.RankedLemmas.{ranked-same, ranked-all, ranked-bounds}
 use Rattle.pattern_counts.specs.Tally.{Tally, sum_of}
 use Rattle.count_shards.specs.Blocks.{home_of, data_of, HasCandidate}
 use Rattle.count_shards.specs.Rows.{IsCountedRow, AppendsRows}
 use Rattle.count_shards.specs.Shards.{IsRowOf, AppendsHome, AreRowsFrom}
-use Rattle.count_shards.proofs.RankedLemmas.{same_ranks}
 
 each_sequence : (xs : List (Sequence Item)) → AllByRecursion (λ s. Unit {0}) xs
 each_sequence [] = tt

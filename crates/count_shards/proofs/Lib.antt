@@ -1,6 +1,5 @@
 pub mod HomeLemmas
 pub mod AddLemmas
-pub mod RankedLemmas
 pub mod PairLemmas
 pub mod TalliedLemmas
 pub mod RowLemmas

@@ -9,14 +9,15 @@ use Rattle.std.proofs.lemmas.Cmp.{nat_list_cmp_total}
 use Rattle.mine_model.specs.declared.item.Item.{Item}
 use Rattle.mine_model.specs.Answer.{Data}
 use Rattle.mine_model.specs.Counted.{HasCandidates, HasPairs, told_of}
+use Rattle.mine_model.specs.Ranks.{AreRanked, AreAllRanked}
 use Rattle.mine_model.specs.Support.{Sequence}
+use Rattle.mine_model.proofs.RankedLemmas.{same_ranks}
 use Rattle.mine_model.proofs.ListLemmas.{Contains-first, Contains-other}
 use Rattle.fst_simulate.specs.Problems.{Problem, IsWhole, items_of}
-use Rattle.candidate_gen.specs.Candidates.{AreRanked, AreAllRanked, AreCandidateRanks, AreCandidates, IsEarlier, ComesEarlier}
-use Rattle.candidate_gen.proofs.RankedLemmas.{patterns-all}
+use Rattle.candidate_gen.specs.Candidates.{AreCandidateRanks, AreCandidates, IsEarlier, ComesEarlier}
+use Rattle.candidate_gen.proofs.CandidateLemmas.{patterns-all}
 use Rattle.count_shards.specs.Blocks.{data_of}
 use Rattle.count_shards.specs.Tallied.{ArePairs}
-use Rattle.count_shards.proofs.RankedLemmas.{same_ranks}
 
 -- a list does not come before itself
 not_earlier : (list : List ℕ) → IsEarlier list list → ⊥

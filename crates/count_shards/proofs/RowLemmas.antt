@@ -8,11 +8,10 @@ use Rattle.std.proofs.lemmas.Option.{same_Some, slice_get-get_or, slice_get_with
 use Rattle.mine_model.specs.Names.{AreDistinct}
 use Rattle.mine_model.specs.declared.item.Item.{Item}
 use Rattle.mine_model.specs.declared.row.Row.{Row}
-use Rattle.candidate_gen.specs.Candidates.{AreRanked}
-use Rattle.candidate_gen.proofs.RankedLemmas.{ranked-same}
+use Rattle.mine_model.specs.Ranks.{AreRanked}
+use Rattle.mine_model.proofs.RankedLemmas.{ranked-same, same_ranks}
 use Rattle.pattern_counts.specs.Tally.{Tally, sum_of}
 use Rattle.count_shards.specs.Rows.{AppendsRows}
-use Rattle.count_shards.proofs.RankedLemmas.{same_ranks}
 
 -- the row is that of the list with this number
 pub record IsRowOf (tally : Tally) (order : List Item) (support number : ℕ) (row : Row) : Type 0 where

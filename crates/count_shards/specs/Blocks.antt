@@ -5,10 +5,9 @@ use Rattle.mine_model.specs.Answer.{Data}
 use Rattle.mine_model.specs.Counted.{HasPairs, told_of}
 use Rattle.mine_model.specs.Limits.{most_weight}
 use Rattle.mine_model.specs.Numbered.{tree_of}
-use Rattle.mine_model.specs.Ranks.{IsFrequentItem, IsCandidateOf}
+use Rattle.mine_model.specs.Ranks.{IsFrequentItem, IsCandidateOf, AreRanked}
 use Rattle.mine_model.specs.Support.{Sequence, Counts}
 use Rattle.fst_simulate.specs.Problems.{Problem}
-use Rattle.candidate_gen.specs.Candidates.{AreRanked}
 use Rattle.pattern_counts.specs.Tally.{Tally, no_lists, sum_of}
 
 -- ---- blocks and homes

@@ -2,7 +2,7 @@
 use Rattle.std.specs.Prelude.{◌≡◌, ◌≢◌, ℕ, ◌≤◌, ◌↔◌, List, ◌++◌, AllPairs, Contains}
 use Rattle.mine_model.specs.declared.item.Item.{Item}
 use Rattle.mine_model.specs.declared.row.Row.{Row}
-use Rattle.candidate_gen.specs.Candidates.{AreRanked}
+use Rattle.mine_model.specs.Ranks.{AreRanked}
 use Rattle.pattern_counts.specs.Tally.{Tally, sum_of}
 
 -- the row is the pattern with the ranks of a list and the sum of that list, which reaches the support

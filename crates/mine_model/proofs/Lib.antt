@@ -27,6 +27,7 @@ pub mod ShiftLemmas
 pub mod NameLemmas
 pub mod RenamingLemmas
 pub mod RankLemmas
+pub mod RankedLemmas
 pub mod AboveLemmas
 pub mod FrequencyLemmas
 pub mod TestedLists

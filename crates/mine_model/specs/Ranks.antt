@@ -1,5 +1,5 @@
 -- Frequent items and their ranks, the f-list of the DESQ article. The order of items of one frequency is own.
-use Rattle.std.specs.Prelude.{◌≡◌, ◌≢◌, ℕ, ◌-◌, ◌^◌, ◌≤◌, ◌<◌, ◌↔◌, List, length, All, AllPairs, Contains}
+use Rattle.std.specs.Prelude.{◌≡◌, ◌≢◌, ℕ, ◌-◌, ◌^◌, ◌≤◌, ◌<◌, ◌↔◌, List, [], ◌∷◌, length, All, AllPairs, Contains}
 use Rattle.std.specs.List.{AllByRecursion, slice_get, slice_index}
 use Rattle.std.specs.Ordering.{nat_cmp}
 use Rattle.std.specs.Cmp.Lexicographic.{slice_cmp}
@@ -36,6 +36,21 @@ pub record Ranking : Type 0 where
 pub record HasRank (order : List Item) (item : Item) (rank : ℕ) : Type 0 where
   pub least : 1 ≤ rank
   pub place : slice_get order (rank - 1) ≡ Some item
+
+-- the items have these ranks, one by one
+abbrev pub AreRanked : List Item → List Item → List ℕ → Type 0
+AreRanked order [] [] = Unit {0}
+AreRanked order [] (rank ∷ ranks) = ⊥
+AreRanked order (v ∷ items) [] = ⊥
+AreRanked order (v ∷ items) (rank ∷ ranks) = HasRank order v rank × AreRanked order items ranks
+
+-- each list of items has the ranks of the list at its place
+abbrev pub AreAllRanked : List Item → List (List Item) → List (List ℕ) → Type 0
+AreAllRanked order [] [] = Unit {0}
+AreAllRanked order [] (ranks ∷ lists) = ⊥
+AreAllRanked order (items ∷ patterns) [] = ⊥
+AreAllRanked order (items ∷ patterns) (ranks ∷ lists) =
+    AreRanked order items ranks × AreAllRanked order patterns lists
 
 -- the list has the frequency of each item, by its number
 abbrev pub AreFrequencies : List (Link Item) → List (Sequence Item) → List ℕ → Type 0

@@ -1,5 +1,5 @@
 use Rattle.std.proofs.Common.{take}
-use Rattle.candidate_gen.specs.Candidates.{AreRanked}
+use Rattle.mine_model.specs.Ranks.{AreRanked}
 use Rattle.candidate_gen.proofs.patterns.pattern_of.Given as goal
 
 abbrev pub invariant-loop-rank : goal.invariant-loop-rank

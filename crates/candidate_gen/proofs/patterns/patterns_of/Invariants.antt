@@ -1,5 +1,5 @@
 use Rattle.std.proofs.Common.{take}
-use Rattle.candidate_gen.specs.Candidates.{AreAllRanked}
+use Rattle.mine_model.specs.Ranks.{AreAllRanked}
 use Rattle.candidate_gen.proofs.patterns.patterns_of.Given as goal
 
 abbrev pub invariant-loop-i : goal.invariant-loop-i

@@ -3,7 +3,7 @@ use Rattle.std.specs.List.{All}
 use Rattle.candidate_gen.specs.Candidates.{AreCandidateRanks, Listing}
 use Rattle.candidate_gen.specs.Paths.{Space}
 use Rattle.candidate_gen.specs.Walk.{AreWritten}
-use Rattle.candidate_gen.proofs.RankedLemmas.{written-listed, listed-within}
+use Rattle.candidate_gen.proofs.CandidateLemmas.{written-listed, listed-within}
 use Rattle.candidate_gen.proofs.listing.CandidateList.fill.Goals as goal
 
 pub returns-clause-candidates : goal.returns-clause-candidates
