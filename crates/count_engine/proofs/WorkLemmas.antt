@@ -16,7 +16,8 @@ use Rattle.mine_model.specs.Support.{Sequence}
 use Rattle.fst_simulate.specs.Problems.{Problem}
 use Rattle.turn_lock.specs.Passes.{made, pass_count}
 use Rattle.count_shards.specs.declared.shards.Shards.{Shards}
-use Rattle.count_shards.specs.Blocks.{sequences_in, block_count, data_of, SumsBy}
+use Rattle.count_shards.specs.Blocks.{sequences_in, block_count, SumsBy}
+use Rattle.fst_simulate.specs.Problems.{data_of}
 use Rattle.count_shards.specs.Shard.{entry_of}
 use Rattle.count_shards.specs.Shards.{Lock, ShardPass, PassLists, ArePassesOf, AreShardsOf, AreAllLists, column, AddedEachOnce}
 use Rattle.count_engine.specs.declared.hands.Done.{Done}

@@ -8,7 +8,8 @@ use Rattle.mine_model.specs.Counted.{HasPairs, told_of}
 use Rattle.fst_simulate.specs.Problems.{Problem}
 use Rattle.turn_lock.specs.Passes.{made}
 use Rattle.count_shards.specs.declared.shards.Shards.{Shards}
-use Rattle.count_shards.specs.Blocks.{sequences_in, block_count, data_of, SumsBy}
+use Rattle.count_shards.specs.Blocks.{sequences_in, block_count, SumsBy}
+use Rattle.fst_simulate.specs.Problems.{data_of}
 use Rattle.count_shards.specs.Shard.{entry_of}
 use Rattle.count_shards.specs.Shards.{ShardPass, PassLists, ArePassesOf}
 use Rattle.count_engine.specs.declared.hands.Hand.{Hand}

@@ -15,7 +15,8 @@ use Rattle.mine_model.proofs.SupportLemmas.{Counts-unique, Counts-some}
 use Rattle.mine_model.proofs.FrequencyLemmas.{Counts-by, frequencies-known, support-by_candidates, HasFrequency-within}
 use Rattle.fst_simulate.specs.Problems.{Problem, IsWhole}
 use Rattle.pattern_counts.specs.Tally.{Tally, sum_of}
-use Rattle.count_shards.specs.Blocks.{home_of, data_of, HasCandidate}
+use Rattle.count_shards.specs.Blocks.{home_of, HasCandidate}
+use Rattle.fst_simulate.specs.Problems.{data_of}
 use Rattle.count_shards.specs.Rows.{IsCountedRow, AppendsRows}
 use Rattle.count_shards.specs.Shards.{IsRowOf, AppendsHome, AreRowsFrom}
 

@@ -7,7 +7,7 @@ use Rattle.mine_model.specs.Limits.{most_weight}
 use Rattle.mine_model.specs.Numbered.{tree_of}
 use Rattle.mine_model.specs.Ranks.{IsFrequentItem, IsCandidateOf, AreRanked}
 use Rattle.mine_model.specs.Support.{Sequence, Counts}
-use Rattle.fst_simulate.specs.Problems.{Problem}
+use Rattle.fst_simulate.specs.Problems.{data_of, Problem}
 use Rattle.pattern_counts.specs.Tally.{Tally, no_lists, sum_of}
 
 -- ---- blocks and homes
@@ -25,15 +25,6 @@ abbrev pub home_of : List ℕ → ℕ
 home_of ranks = sum ranks % 16
 
 -- ---- what is counted
-
--- what the expression is matched with, and the threshold
-abbrev pub data_of : Problem → Data Item
-data_of problem = record {
-  links = problem.hierarchy.links;
-  sequences = problem.sequences;
-  expression = tree_of problem.machine.expression;
-  threshold = problem.threshold;
-}
 
 -- the items generate a candidate with these ranks
 abbrev pub HasCandidate : Problem → List ℕ → List Item → Type 0

@@ -6,7 +6,8 @@ use Rattle.mine_model.specs.Limits.{most_weight}
 use Rattle.mine_model.specs.Support.{Sequence, Counts}
 use Rattle.fst_simulate.specs.Problems.{Problem}
 use Rattle.pattern_counts.specs.Tally.{Tally, no_lists, sum_of}
-use Rattle.count_shards.specs.Blocks.{home_of, data_of, HasCandidate}
+use Rattle.count_shards.specs.Blocks.{home_of, HasCandidate}
+use Rattle.fst_simulate.specs.Problems.{data_of}
 
 -- the tally of a home
 abbrev pub tally_at : List Tally → ℕ → Tally

@@ -55,19 +55,23 @@ abbrev pub IsRowOf : Data Item → List Item → ℕ → List ℕ → Option Row
 IsRowOf d order pivot ranks None = (row : Row) → IsRowAt d order pivot ranks row → ⊥
 IsRowOf d order pivot ranks (Some row) = IsRowAt d order pivot ranks row
 
--- roots of a tree, the kids of each label, and its row, where it has one
+-- the roots of these pivots, one for each whose empty prefix is alive, in their order
+abbrev pub AreRootsOf : Data Item → List Item → List ℕ → List (List ℕ) → Type 0
+AreRootsOf d order [] roots = roots ≡ []
+AreRootsOf d order (pivot ∷ pivots) roots =
+    (IsAliveLabel d order pivot []
+    × ((others : List (List ℕ)) × (roots ≡ label_of pivot [] ∷ others) × AreRootsOf d order pivots others))
+    ⊎ ((IsAliveLabel d order pivot [] → ⊥) × AreRootsOf d order pivots roots)
+
+-- roots, the kids of each label, and its row, where it has one
 pub record SearchTree : Type 0 where
   pub roots : List (List ℕ)
   pub kids : List ℕ → List (List ℕ)
   pub row : List ℕ → Option Row
 
--- without pivots there is one root, that of the empty prefix, where it is alive
-abbrev pub AreRoots : Data Item → List Item → List (List ℕ) → Type 0
-AreRoots d order roots = ((roots ≡ label_of 0 [] ∷ []) × IsAliveLabel d order 0 [])
-    ⊎ ((roots ≡ []) × (IsAliveLabel d order 0 [] → ⊥))
-
--- the tree of the search without pivots
-pub record IsSearchTree (d : Data Item) (order : List Item) (tree : SearchTree) : Type 0 where
-  pub roots : AreRoots d order tree.roots
-  pub kids : (ranks : List ℕ) → AreKids d order 0 ranks (tree.kids (label_of 0 ranks))
-  pub row : (ranks : List ℕ) → IsRowOf d order 0 ranks (tree.row (label_of 0 ranks))
+-- the tree of the search by these pivots, where 0 alone stands for a search without pivots
+pub record IsSearchTree (d : Data Item) (order : List Item) (pivots : List ℕ) (tree : SearchTree)
+    : Type 0 where
+  pub roots : AreRootsOf d order pivots tree.roots
+  pub kids : (pivot : ℕ) (ranks : List ℕ) → AreKids d order pivot ranks (tree.kids (label_of pivot ranks))
+  pub row : (pivot : ℕ) (ranks : List ℕ) → IsRowOf d order pivot ranks (tree.row (label_of pivot ranks))

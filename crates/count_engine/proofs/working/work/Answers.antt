@@ -1,7 +1,8 @@
 use Rattle.std.proofs.Common.{◌≡◌, ◌++◌, ◌∷◌, [], ℕ, map, refl, sym, subst, ◌∙◌, arith}
 use Rattle.mine_model.specs.Counted.{HasPairs}
 use Rattle.fst_simulate.specs.Problems.{Problem}
-use Rattle.count_shards.specs.Blocks.{data_of, sequences_in}
+use Rattle.count_shards.specs.Blocks.{sequences_in}
+use Rattle.fst_simulate.specs.Problems.{data_of}
 use Rattle.count_shards.specs.Shard.{entry_of}
 use Rattle.count_engine.specs.Shares.{share_of, HasBlockPairs, IsTold}
 use Rattle.count_engine.proofs.ShareLemmas.{share_with, share_without}
