@@ -33,3 +33,4 @@ pub mod FrequencyLemmas
 pub mod TestedLists
 pub mod ApartLemmas
 pub mod SumLemmas
+pub mod AliveLemmas
