@@ -34,3 +34,4 @@ pub mod TestedLists
 pub mod ApartLemmas
 pub mod SumLemmas
 pub mod AliveLemmas
+pub mod SearchTreeLemmas

@@ -1,5 +1,5 @@
 -- Lemmas on lists, what is contained in them and what holds of each element.
-use Rattle.std.proofs.Common.{◌≡◌, ◌≢◌, ◌⊎◌, inl, inr, Bool, true, false, cond, List, [], ◌∷◌, ◌++◌, map, filter, length, get_or, take, drop, length-drop, refl, sym, ap, ◌∙◌, subst, arith, suc, zero, true≢false, ℕ, ◌-◌, ◌≤◌}
+use Rattle.std.proofs.Common.{◌≡◌, ◌≢◌, ◌⊎◌, inl, inr, Bool, true, false, cond, List, [], ◌∷◌, ◌++◌, map, filter, length, get_or, take, drop, length-drop, refl, sym, ap, ◌∙◌, subst, arith, suc, zero, true≢false, ℕ, ◌-◌, ◌≤◌, ◌<◌}
 use Rattle.std.specs.List.{AllByRecursion, AllPairs, Contains, slice_range}
 use Rattle.std.proofs.Math.Seq.{take-append_seam}
 use Rattle.std.proofs.lemmas.List.{get_or_default, take-append-le, drop-append-le}
@@ -28,6 +28,10 @@ AllByRecursion-contained P (x ∷ xs) y all inside =
       | inl same ↦ subst P (sym same) all.0
       | inr other ↦ AllByRecursion-contained P xs y all.1 other
     ]
+
+pub AllByRecursion-weaker : {X : Type 0} (P Q : X → Type 0) → ((x : X) → P x → Q x) → (xs : List X) → AllByRecursion P xs → AllByRecursion Q xs
+AllByRecursion-weaker P Q follows [] all = tt
+AllByRecursion-weaker P Q follows (x ∷ xs) all = (follows x all.0, AllByRecursion-weaker P Q follows xs all.1)
 
 -- P holds of both parts of a list of which it holds
 pub front_of_both : {X : Type 0} (P : X → Type 0) (xs ys : List X) → AllByRecursion P (xs ++ ys) → AllByRecursion P xs
@@ -124,3 +128,37 @@ slice_range-append xs ys from end rises within =
 -- what a slice of all elements wrote back is the whole
 pub written_back : {X : Type 0} (new old : List X) (n : ℕ) → n ≡ length new → take n (new ++ drop (length new) old) ≡ new
 written_back new old n whole = ap (λ m. take m (new ++ drop (length new) old)) whole ∙ take-append_seam new (drop (length new) old)
+
+-- the first of a rising list is the least
+least_first : (v : ℕ) (vs : List ℕ) → AllPairs (λ low high. low < high) (v ∷ vs) → (n : ℕ) → Contains (v ∷ vs) n → v ≤ n
+least_first v vs rising n held = elim (Contains-cases v vs n held) [
+  | inl same ↦ omega (arith, same)
+  | inr later ↦ (let less : v < n = AllPairs-head (λ low high. low < high) v vs rising n later in omega (arith, less))
+]
+
+among_later : (v w : ℕ) (vs ws : List ℕ) → v ≡ w → AllPairs (λ low high. low < high) (v ∷ vs) → ((n : ℕ) → Contains (v ∷ vs) n → Contains (w ∷ ws) n)
+    → (n : ℕ) → Contains vs n → Contains ws n
+among_later v w vs ws same rising all n held = elim (Contains-cases w ws n (all n (Contains-other v vs n held))) [
+  | inl is ↦ (let less : v < n = AllPairs-head (λ low high. low < high) v vs rising n held in absurd (omega (arith, less, is, same)))
+  | inr later ↦ later
+]
+
+-- two rising lists of the same numbers are one
+pub rising_same : (xs ys : List ℕ) → AllPairs (λ low high. low < high) xs → AllPairs (λ low high. low < high) ys
+    → ((n : ℕ) → Contains xs n → Contains ys n) → ((n : ℕ) → Contains ys n → Contains xs n) → xs ≡ ys
+rising_same [] [] left right there back = refl
+rising_same [] (y ∷ ys) left right there back = absurd (Contains-none y (back y (Contains-first y ys)))
+rising_same (x ∷ xs) [] left right there back = absurd (Contains-none x (there x (Contains-first x xs)))
+rising_same (x ∷ xs) (y ∷ ys) left right there back =
+    let first : x ≡ y = omega (arith, least_first x xs left y (back y (Contains-first y ys)), least_first y ys right x (there x (Contains-first x xs))) in
+    let rest : xs ≡ ys = rising_same xs ys (AllPairs-tail (λ low high. low < high) x xs left) (AllPairs-tail (λ low high. low < high) y ys right)
+    (among_later x y xs ys first left there) (among_later y x ys xs (sym first) right back) in
+    λ i. first i ∷ rest i
+
+-- a list is empty or has a last element
+pub last-cases : {X : Type 0} (xs : List X) → (xs ≡ []) ⊎ ((front : List X) × (last : X) × (xs ≡ front ++ last ∷ []))
+last-cases [] = inl refl
+last-cases (x ∷ xs) = elim (last-cases xs) [
+  | inl none ↦ inr ([], x, ap (λ l. x ∷ l) none)
+  | inr some ↦ (let (front, last, same) = some in inr (x ∷ front, last, ap (λ l. x ∷ l) same))
+]

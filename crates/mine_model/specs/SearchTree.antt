@@ -69,9 +69,12 @@ pub record SearchTree : Type 0 where
   pub kids : List ℕ → List (List ℕ)
   pub row : List ℕ → Option Row
 
--- the tree of the search by these pivots, where 0 alone stands for a search without pivots
+-- the tree of the search by these pivots, where 0 alone stands for a search without pivots; a list with no
+-- pivot is no label
 pub record IsSearchTree (d : Data Item) (order : List Item) (pivots : List ℕ) (tree : SearchTree)
     : Type 0 where
   pub roots : AreRootsOf d order pivots tree.roots
   pub kids : (pivot : ℕ) (ranks : List ℕ) → AreKids d order pivot ranks (tree.kids (label_of pivot ranks))
   pub row : (pivot : ℕ) (ranks : List ℕ) → IsRowOf d order pivot ranks (tree.row (label_of pivot ranks))
+  pub no_kids : tree.kids [] ≡ []
+  pub no_row : tree.row [] ≡ None
