@@ -35,3 +35,4 @@ pub mod ApartLemmas
 pub mod SumLemmas
 pub mod AliveLemmas
 pub mod SearchTreeLemmas
+pub mod SearchAnswerLemmas

@@ -1,6 +1,6 @@
 -- Lemmas on lists, what is contained in them and what holds of each element.
-use Rattle.std.proofs.Common.{◌≡◌, ◌≢◌, ◌⊎◌, inl, inr, Bool, true, false, cond, List, [], ◌∷◌, ◌++◌, map, filter, length, get_or, take, drop, length-drop, refl, sym, ap, ◌∙◌, subst, arith, suc, zero, true≢false, ℕ, ◌-◌, ◌≤◌, ◌<◌}
-use Rattle.std.specs.List.{AllByRecursion, AllPairs, Contains, slice_range}
+use Rattle.std.proofs.Common.{◌≡◌, ◌≢◌, ◌⊎◌, inl, inr, Bool, true, false, cond, Option, Some, None, List, [], ◌∷◌, ◌++◌, map, filter, length, get_or, take, drop, length-drop, refl, sym, ap, ◌∙◌, subst, arith, suc, zero, true≢false, ℕ, ◌-◌, ◌≤◌, ◌<◌}
+use Rattle.std.specs.List.{AllByRecursion, AllPairs, Contains, slice_range, filter_map, cons_option}
 use Rattle.std.proofs.Math.Seq.{take-append_seam}
 use Rattle.std.proofs.lemmas.List.{get_or_default, take-append-le, drop-append-le}
 use Rattle.std.proofs.lemmas.List.Elements.{Contains-append_cases}
@@ -117,6 +117,60 @@ apart_by_image f one (x ∷ xs) pairs =
     let (y, held, is) = Contains-from f xs (get_or (map f xs) k d) (k, below, get_or_default (map f xs) k (get_or (map f xs) k d) d below) in
     AllPairs-head (λ x y. x ≢ y) x xs pairs y held (one x y (same ∙ is)))
     (apart_by_image f one xs (AllPairs-tail (λ x y. x ≢ y) x xs pairs))
+
+-- the same of elements of the list alone
+pub apart_within : {X Y : Type 0} (f : X → Y) (xs : List X) → ((x y : X) → Contains xs x → Contains xs y → f x ≡ f y → x ≡ y)
+    → AllPairs (λ x y. x ≢ y) xs → AllPairs (λ x y. x ≢ y) (map f xs)
+apart_within f [] one pairs = λ i j d less within. absurd (omega arith)
+apart_within f (x ∷ xs) one pairs =
+    AllPairs-cons (λ x y. x ≢ y) (f x) (map f xs)
+    (λ k d below. λ same.
+    let (y, held, is) = Contains-from f xs (get_or (map f xs) k d) (k, below, get_or_default (map f xs) k (get_or (map f xs) k d) d below) in
+    AllPairs-head (λ x y. x ≢ y) x xs pairs y held (one x y (Contains-first x xs) (Contains-other x xs y held) (same ∙ is)))
+    (apart_within f xs (λ y z here there same. one y z (Contains-other x xs y here) (Contains-other x xs z there) same) (AllPairs-tail (λ x y. x ≢ y) x xs pairs))
+
+-- What a function gives of the elements, without those where it gives nothing
+
+pub filter_map-forth : {X Y : Type 0} (f : X → Option Y) (xs : List X) (y : Y) → Contains (filter_map f xs) y → (x : X) × Contains xs x × (f x ≡ Some y)
+filter_map-forth f [] y held = absurd (Contains-none y held)
+filter_map-forth {X} {Y} f (x ∷ xs) y held = go (f x) refl (filter_map-forth f xs y) held
+  where
+    go : (o : Option Y) → f x ≡ o → (Contains (filter_map f xs) y → (z : X) × Contains xs z × (f z ≡ Some y))
+        → Contains (cons_option o (filter_map f xs)) y → (z : X) × Contains (x ∷ xs) z × (f z ≡ Some y)
+    go None gives rest held = let (z, inside, same) = rest held in (z, Contains-other x xs z inside, same)
+    go (Some v) gives rest held = elim (Contains-cases v (filter_map f xs) y held) [
+      | inl here ↦ (x, Contains-first x xs, gives ∙ ap Some (sym here))
+      | inr there ↦ (let (z, inside, same) = rest there in (z, Contains-other x xs z inside, same))
+    ]
+
+pub filter_map-back : {X Y : Type 0} (f : X → Option Y) (xs : List X) (x : X) (y : Y) → Contains xs x → f x ≡ Some y → Contains (filter_map f xs) y
+filter_map-back f [] x y held gives = absurd (Contains-none x held)
+filter_map-back {X} {Y} f (z ∷ xs) x y held gives = elim (Contains-cases z xs x held) [
+  | inl here ↦ subst (λ o. Contains (cons_option o (filter_map f xs)) y) (sym (ap f (sym here) ∙ gives)) (Contains-first y (filter_map f xs))
+  | inr there ↦ behind (f z) (filter_map-back f xs x y there gives)
+]
+  where
+    behind : (o : Option Y) → Contains (filter_map f xs) y → Contains (cons_option o (filter_map f xs)) y
+    behind None inside = inside
+    behind (Some v) inside = Contains-other v (filter_map f xs) y inside
+
+-- what holds of each two of them, where something holds of each two elements
+pub filter_map-pairs : {X Y : Type 0} (R : X → X → Type 0) (S : Y → Y → Type 0) (f : X → Option Y) (xs : List X)
+    → ((x z : X) (u v : Y) → Contains xs x → Contains xs z → f x ≡ Some u → f z ≡ Some v → R x z → S u v)
+    → AllPairs R xs → AllPairs S (filter_map f xs)
+filter_map-pairs R S f [] follows pairs = λ i j d less within. absurd (omega (arith, within))
+filter_map-pairs {X} {Y} R S f (x ∷ xs) follows pairs =
+    go (f x) refl (filter_map-pairs R S f xs (λ y z u v here there. follows y z u v (Contains-other x xs y here) (Contains-other x xs z there)) (AllPairs-tail R x xs pairs))
+  where
+    go : (o : Option Y) → f x ≡ o → AllPairs S (filter_map f xs) → AllPairs S (cons_option o (filter_map f xs))
+    go None gives rest = rest
+    go (Some u) gives rest =
+        AllPairs-cons S u (filter_map f xs)
+        (λ k d below.
+        let v : Y = get_or (filter_map f xs) k d in
+        let (z, inside, same) = filter_map-forth f xs v (k, below, get_or_default (filter_map f xs) k v d below) in
+        follows x z u v (Contains-first x xs) (Contains-other x xs z inside) gives same (AllPairs-head R x xs pairs z inside))
+        rest
 
 -- elements behind the end of a range don't alter it
 pub slice_range-append : {X : Type 0} (xs ys : List X) (from end : ℕ) → from ≤ end → end ≤ length xs → slice_range (xs ++ ys) from end ≡ slice_range xs from end

@@ -1,5 +1,5 @@
 -- The search tree: it is determined, its labels are those of the alive prefixes, and it has a cover.
-use Rattle.std.proofs.Common.{◌≡◌, ◌≢◌, ◌⊎◌, ◌↔◌, ℕ, zero, suc, ◌+◌, ◌≤◌, ◌<◌, max, inl, inr, Option, Some, None, List, [], ◌∷◌, ◌++◌, map, get_or, length, length-append, refl, sym, ap, ◌∙◌, subst, arith}
+use Rattle.std.proofs.Common.{◌≡◌, ◌≢◌, ◌↔◌, ℕ, suc, ◌≤◌, max, inl, inr, Option, Some, None, List, [], ◌∷◌, ◌++◌, map, get_or, length, length-append, refl, sym, ap, ◌∙◌, subst, arith}
 use Rattle.std.proofs.Math.Path.{fun_ext}
 use Rattle.std.specs.List.{AllByRecursion, AllPairs, Contains, IsDistinct}
 use Rattle.std.proofs.Math.Dec.{eqb}
@@ -13,7 +13,6 @@ use Rattle.mine_model.specs.Support.{Sequence, HasSupport}
 use Rattle.mine_model.specs.Generation.{IsPatternOf}
 use Rattle.mine_model.specs.Answer.{Data}
 use Rattle.mine_model.specs.Growth.{IsAlive}
-use Rattle.mine_model.specs.Ranks.{AreRanked}
 use Rattle.mine_model.specs.Cover.{GrowByOne, Covers, AreApart, IsOnce, IsTree, down_to}
 use Rattle.mine_model.specs.SearchTree.{IsWithinPivot, label_of, IsAliveLabel, AreKids, IsRowAt, IsRowOf, AreRootsOf, SearchTree, IsSearchTree}
 use Rattle.mine_model.proofs.ListLemmas.{Contains-cases, Contains-first, Contains-other, Contains-none, Contains-by, Contains-from, AllByRecursion-contained, AllByRecursion-weaker, AllPairs-head, AllPairs-tail, rising_same, last-cases}
