@@ -131,3 +131,12 @@ ranked-append order [] more [] others first rest = rest
 ranked-append order [] more (r ∷ ranks) others first rest = absurd first
 ranked-append order (v ∷ items) more [] others first rest = absurd first
 ranked-append order (v ∷ items) more (r ∷ ranks) others first rest = (first.0, ranked-append order items more ranks others first.1 rest)
+
+-- the ranks of the first items, and those of the others
+pub ranked-cut : (order items more : List Item) (ranks : List ℕ) → AreRanked order (items ++ more) ranks
+    → (front : List ℕ) × (back : List ℕ) × (ranks ≡ front ++ back) × AreRanked order items front × AreRanked order more back
+ranked-cut order [] more ranks ranked = ([], ranks, refl, tt, ranked)
+ranked-cut order (v ∷ items) more [] ranked = absurd ranked
+ranked-cut order (v ∷ items) more (r ∷ ranks) ranked =
+    let (front, back, same, first, rest) = ranked-cut order items more ranks ranked.1 in
+    (r ∷ front, back, ap (λ l. r ∷ l) same, (ranked.0, first), rest)

@@ -11,7 +11,7 @@ use Rattle.mine_model.specs.Ranks.{IsFrequentItem, Ranking, AreRanked, AreRanks}
 use Rattle.mine_model.specs.Growth.{IsAlive, AreFrequentItems, IsSearchWork}
 use Rattle.mine_model.specs.Numbered.{AreFrequent}
 use Rattle.mine_model.specs.Cover.{Covers}
-use Rattle.mine_model.specs.SearchTree.{IsRankedUpTo, IsWithinPivot, label_of, IsAliveLabel, IsRowAt, IsRowOf, AreRootsOf, SearchTree, IsSearchTree}
+use Rattle.mine_model.specs.SearchTree.{item_of_rank, IsRankedUpTo, IsWithinPivot, label_of, IsAliveLabel, IsRowAt, IsRowOf, AreRootsOf, SearchTree, IsSearchTree}
 use Rattle.mine_model.proofs.ListLemmas.{Contains-cases, Contains-none, Contains-first, Contains-by, Contains-from, AllByRecursion-weaker, front_of_both, apart_within, filter_map-forth, filter_map-back, filter_map-pairs}
 use Rattle.mine_model.proofs.RankLemmas.{HasRank-held, HasRank-most}
 use Rattle.mine_model.proofs.RankedLemmas.{ranked-all, ranked-same, same_ranks}
@@ -21,9 +21,6 @@ use Rattle.mine_model.proofs.OnceLemmas.{once-apart}
 use Rattle.mine_model.proofs.SearchTreeLemmas.{IsRowOf-same, search-members, search-once}
 
 -- Items by their ranks
-
-abbrev pub item_of_rank : List Item → ℕ → Item
-item_of_rank order rank = slice_index_or order (rank - 1) (record { 0 = 0 })
 
 -- the prefix of a label
 abbrev pub prefix_of : List Item → List ℕ → List Item
