@@ -3,7 +3,7 @@ ghost use Rattle.std.specs.List.{AllByRecursion};
 ghost use Rattle.mine_model.specs.declared.row.Row.{Row};
 ghost use Rattle.mine_model.specs.Numbered.{AreFrequent};
 ghost use Rattle.mine_model.specs.Counted.{IsCountingWork};
-ghost use Rattle.count_shards.specs.Blocks.{data_of};
+ghost use Rattle.fst_simulate.specs.Problems.{data_of};
 ghost use Rattle.count_shards.specs.Shards.{AreShardsOf};
 ghost use Rattle.count_engine.specs.Shares.{IsHandOf, IsDone};
 

@@ -5,23 +5,11 @@ use Rattle.std.proofs.lemmas.Bool.{cases_eq}
 use Rattle.std.proofs.lemmas.List.{get_or-take, length-take-le, take_more}
 use Rattle.std.proofs.lemmas.List.Elements.{Contains-append_left, Contains-push, Contains-push_cases}
 use Rattle.std.proofs.lemmas.Option.{slice_get_within, get_or_from_slice_get}
-use Rattle.std.proofs.lemmas.List.Sums.{get_or-le-sum_by}
 use Rattle.mine_model.proofs.ListLemmas.{Contains-cases, Contains-first, Contains-none}
-use Rattle.mine_model.proofs.OnceLemmas.{one, one-same, one-cases, one-found}
+use Rattle.mine_model.proofs.OnceLemmas.{same_list_or_not}
 use Rattle.pattern_counts.specs.Tally.{Tally, no_lists, sum_of, Adds}
 use Rattle.count_shards.specs.Blocks.{home_of}
 use Rattle.count_shards.specs.Tallied.{tally_at, sum_at, AddsEach}
-
--- ---- whether a list is there
-
-pub same_list_or_not : (xs ys : List ℕ) → (xs ≡ ys) ⊎ (xs ≢ ys)
-same_list_or_not xs ys = elim (one-cases xs ys) [ inl same ↦ inl same | inr none ↦ inr (λ same. omega (arith, one-same xs ys same, none)) ]
-
-pub list_or_not : (lists : List (List ℕ)) (list : List ℕ) → Contains lists list ⊎ (Contains lists list → ⊥)
-list_or_not lists list = elim (one-found list lists) [
-  | inl there ↦ inl there
-  | inr none ↦ inr (λ h. omega (arith, get_or-le-sum_by (one list) lists h.0 list h.1, one-same list (get_or lists h.0 list) (sym h.2), none))
-]
 
 -- an element of a list without repetitions is not among those before it
 pub not_before : {X : Type 0} (xs : List X) (i : ℕ) (x : X) → AllPairs (λ first second. first ≢ second) xs → slice_get xs i ≡ Some x → Contains (take i xs) x → ⊥

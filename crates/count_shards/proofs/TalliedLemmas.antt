@@ -15,7 +15,7 @@ use Rattle.candidate_gen.specs.Candidates.{AreCandidateRanks}
 use Rattle.pattern_counts.specs.Tally.{Tally, no_lists, sum_of}
 use Rattle.count_shards.specs.Blocks.{home_of, sequences_in, HasCandidate}
 use Rattle.count_shards.specs.Tallied.{tally_at, sum_at, AddsEach, AreTallied}
-use Rattle.count_shards.proofs.AddLemmas.{list_or_not}
+use Rattle.mine_model.proofs.OnceLemmas.{list_or_not}
 
 -- ---- sequences by their numbers
 

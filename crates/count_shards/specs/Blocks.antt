@@ -1,13 +1,12 @@
 -- The blocks of sequences that are counted one by one, and the shards in which their sums are added up.
 use Rattle.std.specs.Prelude.{◌≡◌, ◌≢◌, ℕ, ◌+◌, ◌*◌, ◌/◌, ◌%◌, ◌≤◌, sum, List, [], ◌∷◌, length, take, drop, slice_index_or}
 use Rattle.mine_model.specs.declared.item.Item.{Item}
-use Rattle.mine_model.specs.Answer.{Data}
-use Rattle.mine_model.specs.Counted.{HasPairs, told_of}
+use Rattle.mine_model.specs.Candidates.{IsCandidate}
+use Rattle.mine_model.specs.Counted.{HasPairs, IsTold}
 use Rattle.mine_model.specs.Limits.{most_weight}
-use Rattle.mine_model.specs.Numbered.{tree_of}
-use Rattle.mine_model.specs.Ranks.{IsFrequentItem, IsCandidateOf, AreRanked}
+use Rattle.mine_model.specs.Ranks.{AreRanked}
 use Rattle.mine_model.specs.Support.{Sequence, Counts}
-use Rattle.fst_simulate.specs.Problems.{Problem}
+use Rattle.fst_simulate.specs.Problems.{Problem, data_of}
 use Rattle.pattern_counts.specs.Tally.{Tally, no_lists, sum_of}
 
 -- ---- blocks and homes
@@ -26,21 +25,10 @@ home_of ranks = sum ranks % 16
 
 -- ---- what is counted
 
--- what the expression is matched with, and the threshold
-abbrev pub data_of : Problem → Data Item
-data_of problem = record {
-  links = problem.hierarchy.links;
-  sequences = problem.sequences;
-  expression = tree_of problem.machine.expression;
-  threshold = problem.threshold;
-}
-
 -- the items generate a candidate with these ranks
 abbrev pub HasCandidate : Problem → List ℕ → List Item → Type 0
 HasCandidate problem ranks items =
-    (pattern : List Item)
-    × IsCandidateOf problem.hierarchy.links (tree_of problem.machine.expression)
-    (IsFrequentItem problem.hierarchy.links problem.sequences problem.threshold) items pattern
+    (pattern : List Item) × IsCandidate (data_of problem) items pattern
     × AreRanked problem.ranking.order pattern ranks
 
 -- n is the sum of the weights of the sequences of the block that have the candidate with these ranks
@@ -76,5 +64,4 @@ pub record AreCountsOf (problem : Problem) (number : ℕ) (block : Block) : Type
   pub exact : (ranks : List ℕ) → InBlock problem number ranks (sum_of (tally_of block (home_of ranks)) ranks)
   pub homes : (home : ℕ) (ranks : List ℕ) → home_of ranks ≢ home → sum_of (tally_of block home) ranks ≡ 0
   pub most : (home : ℕ) (ranks : List ℕ) → sum_of (tally_of block home) ranks ≤ 256 * most_weight
-  pub pairs : (n : ℕ) × HasPairs (data_of problem) (sequences_in problem number) n
-      × (block.pairs ≡ told_of n)
+  pub pairs : IsTold (HasPairs (data_of problem) (sequences_in problem number)) block.pairs

@@ -5,6 +5,7 @@ use Rattle.std.specs.declared.alloc.Global.{Global}
 use Rattle.std.specs.declared.vec.Vec.{Vec}
 use Rattle.mine_model.specs.declared.row.Row.{Row}
 use Rattle.mine_model.specs.Labels.{SameLabels}
+use Rattle.mine_model.specs.Numbered.{PatternsDiffer}
 use Rattle.mine_model.specs.Ranks.{AreRanked}
 use Rattle.mine_model.specs.Support.{Counts}
 use Rattle.fst_simulate.specs.Problems.{Problem}
@@ -75,10 +76,10 @@ pub record IsRowOf (problem : Problem) (home : ℕ) (row : Row) : Type 0 where
 pub record AppendsHome (problem : Problem) (home : ℕ) (old new : List Row) : Type 0 where
   pub added : List Row
   pub is : new ≡ old ++ added
-  pub once : AllPairs (λ first second. first.pattern ≢ second.pattern) added
+  pub once : PatternsDiffer added
   pub exact : (row : Row) → Contains added row ↔ IsRowOf problem home row
 
 -- the rows of all homes from this one on, each once
 pub record AreRowsFrom (problem : Problem) (home : ℕ) (rows : List Row) : Type 0 where
-  pub once : AllPairs (λ first second. first.pattern ≢ second.pattern) rows
+  pub once : PatternsDiffer rows
   pub exact : (row : Row) → Contains rows row ↔ ((at : ℕ) × (home ≤ at) × (at < 16) × IsRowOf problem at row)

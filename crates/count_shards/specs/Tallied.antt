@@ -1,12 +1,12 @@
 -- The tallies of the homes while the sequences of a block are counted.
 use Rattle.std.specs.Prelude.{◌≡◌, ◌≢◌, ℕ, ◌+◌, ◌*◌, ◌≤◌, List, slice_index_or, Contains}
 use Rattle.mine_model.specs.declared.item.Item.{Item}
-use Rattle.mine_model.specs.Counted.{HasPairs, told_of}
+use Rattle.mine_model.specs.Counted.{HasPairs, IsTold}
 use Rattle.mine_model.specs.Limits.{most_weight}
 use Rattle.mine_model.specs.Support.{Sequence, Counts}
-use Rattle.fst_simulate.specs.Problems.{Problem}
+use Rattle.fst_simulate.specs.Problems.{Problem, data_of}
 use Rattle.pattern_counts.specs.Tally.{Tally, no_lists, sum_of}
-use Rattle.count_shards.specs.Blocks.{home_of, data_of, HasCandidate}
+use Rattle.count_shards.specs.Blocks.{home_of, HasCandidate}
 
 -- the tally of a home
 abbrev pub tally_at : List Tally → ℕ → Tally
@@ -31,7 +31,7 @@ pub record AreTallied (problem : Problem) (done : List (Sequence Item)) (tallies
 
 -- there are so many pairs, or more than the type of the number has
 abbrev pub ArePairs : Problem → List (Sequence Item) → ℕ → Type 0
-ArePairs problem done told = (n : ℕ) × HasPairs (data_of problem) done n × (told ≡ told_of n)
+ArePairs problem done told = IsTold (HasPairs (data_of problem) done) told
 
 -- the sequences, those of a block, are counted
 pub record HasCounted (problem : Problem) (done : List (Sequence Item)) (tallies : List Tally)

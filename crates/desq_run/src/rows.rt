@@ -11,7 +11,7 @@ ghost use Rattle.mine_model.specs.Numbered.{tree_of, AreFrequent};
 ghost use Rattle.mine_model.specs.Names.{HasName};
 ghost use Rattle.mine_model.specs.Refusal.{IsExpressionRefusal, IsUnknown};
 ghost use Rattle.patex_parser.specs.Parsing.{use_view, IsParsed, AreWithin, named_tree};
-ghost use Rattle.count_shards.specs.Blocks.{data_of};
+ghost use Rattle.fst_simulate.specs.Problems.{data_of};
 ghost use Rattle.desq_run.specs.Ends.{IsWorkOf};
 ghost use Rattle.desq_run.specs.Inputs.{AreOrdered, AreRows};
 

@@ -10,6 +10,7 @@ pub mod Generation
 pub mod Support
 pub mod Answer
 pub mod AnswerText
+pub mod Candidates
 pub mod Counted
 pub mod First
 pub mod Refusal
@@ -23,6 +24,7 @@ pub mod Database
 pub mod Ranks
 pub mod Cover
 pub mod Faults
+pub mod Slots
 -- what the proofs keep
 pub mod Machine
 pub mod Holding

@@ -5,30 +5,12 @@ use Rattle.std.proofs.lemmas.Bool.{cases_eq, cases_lt}
 use Rattle.std.proofs.lemmas.List.{length-map, length_push, get_or-map, get_or_default, get_or_push, get_or_append_left, get_or_past, get_or-replicate, length-replicate}
 use Rattle.std.proofs.lemmas.List.Sums.{sum_by-set, sum_by-cons}
 use Rattle.std.proofs.lemmas.Option.{slice_get_within, slice_get-get_or, get_or_from_slice_get}
+use Rattle.mine_model.specs.Slots.{IsMet}
+use Rattle.mine_model.proofs.SlotLemmas.{met_either, weigh, all_taken, stays_taken}
 use Rattle.pattern_counts.specs.declared.table.Slot.{Slot}
 use Rattle.pattern_counts.specs.Hashes.{hash_of}
-use Rattle.pattern_counts.specs.Table.{home_of, slot_at, IsMet, IsSlot, IsPlace, HoldOnce, IsTable, AreFrom}
+use Rattle.pattern_counts.specs.Table.{home_of, slot_at, IsSlot, IsPlace, HoldOnce, IsTable, AreFrom}
 use Rattle.pattern_counts.specs.Searching.{IsOther, AreOthers, IsFirstFree}
-
--- of two slots a search meets one before the other
-met_either : (home at other : ℕ) → at ≢ other → IsMet home at other ⊎ IsMet home other at
-met_either home at other apart =
-    elim (cases_lt at home) [
-      | inl low ↦ elim (cases_lt other home) [
-        | inl below ↦ elim (cases_lt other at) [
-          | inl before ↦ inl (inr (low, inr before))
-          | inr behind ↦ inr (inr (below, inr (omega arith)))
-        ]
-        | inr above ↦ inl (inr (low, inl above))
-      ]
-      | inr high ↦ elim (cases_lt other home) [
-        | inl below ↦ inr (inr (below, inl high))
-        | inr above ↦ elim (cases_lt other at) [
-          | inl before ↦ inl (inl (above, before))
-          | inr behind ↦ inr (inl (high, omega arith))
-        ]
-      ]
-    ]
 
 -- Where a list is sought
 
@@ -89,32 +71,12 @@ module _ (lists : List (List ℕ)) (slots : List Slot) (list : List ℕ) (hash :
           | inr above ↦ ahead place above found.within
         ])
 
--- a list that stands at a number is held
-pub is_held : (lists : List (List ℕ)) (list : List ℕ) (number : ℕ) → slice_get lists number ≡ Some list → Contains lists list
-is_held lists list number is = (number, slice_get_within lists number list is, get_or_from_slice_get lists number list list is)
-
--- the last list stands at the number of those before it
-pub stands_last : (lists : List (List ℕ)) (list : List ℕ) (number : ℕ) → number ≡ length lists → slice_get (lists ++ list ∷ []) number ≡ Some list
-stands_last lists list number is =
-    slice_get-get_or (lists ++ list ∷ []) number [] (omega (arith, is, length_push lists list)) ∙ ap Some (get_or_push lists list [] number (sym is))
-
 -- Tables that grow
-
-abbrev weigh : List Slot → ℕ
-weigh slots = sum_by (λ slot. min slot.held 1) slots
-
--- slots that are all taken are as many as lists
-all_taken : (slots : List Slot) → ((at : ℕ) → at < length slots → 0 < (slot_at slots at).held) → weigh slots ≡ length slots
-all_taken [] all = refl
-all_taken (slot ∷ slots) all =
-    let first = all 0 (omega arith) in
-    let others = all_taken slots (λ at within. all (suc at) (omega arith)) in
-    omega (arith, sum_by-cons (λ (s : Slot). min s.held 1) slot slots, first, others)
 
 -- a table whose slots are all taken has as many lists as slots
 pub no_room : (hashes : List ℕ) (slots : List Slot) → IsTable hashes slots → length hashes < length slots
     → ((at : ℕ) → at < length slots → 0 < (slot_at slots at).held) → ⊥
-no_room hashes slots table room all = omega (arith, all_taken slots all, table.taken, room)
+no_room hashes slots table room all = omega (arith, all_taken (λ (slot : Slot). slot.held) (record { hash = 0; held = 0 }) slots all, table.taken, room)
 
 IsSlot-more : (hashes : List ℕ) (hash : ℕ) (slot : Slot) → IsSlot hashes slot → IsSlot (hashes ++ hash ∷ []) slot
 IsSlot-more hashes hash slot is = record {
@@ -131,23 +93,11 @@ IsSlot-new hashes hash slot same held = record {
 -- one more list in the free slot that a search for its hash meets first
 module _ (hashes : List ℕ) (slots : List Slot) (hash : ℕ) (at : ℕ) (new : Slot) (table : IsTable hashes slots) (first : IsFirstFree slots hash at)
     (same : new.hash ≡ hash) (held : new.held ≡ length hashes + 1) where
-  length-placed : length (set slots at new) ≡ length slots
-  length-placed = length-set slots at new
-
   here : slot_at (set slots at new) at ≡ new
   here = get_or-set_same slots at new (record { hash = 0; held = 0 }) first.within
 
   elsewhere : (other : ℕ) → other ≢ at → slot_at (set slots at new) other ≡ slot_at slots other
   elsewhere other apart = get_or-set_other slots at other new (record { hash = 0; held = 0 }) apart
-
-  -- a slot that was taken, or the new one, is taken
-  stays_taken : (other : ℕ) → ((other ≢ at) → 0 < (slot_at slots other).held) → 0 < (slot_at (set slots at new) other).held
-  stays_taken other before =
-      let P : Slot → Type 0 = λ slot. 0 < slot.held in
-      elim (cases_eq other at) [
-        | inl is ↦ subst (λ n. P (slot_at (set slots at new) n)) (sym is) (subst P (sym here) (omega (arith, held)))
-        | inr apart ↦ subst P (sym (elsewhere other apart)) (before apart)
-      ]
 
   slots_after : (other : ℕ) → IsSlot (hashes ++ hash ∷ []) (slot_at (set slots at new) other)
   slots_after other =
@@ -161,18 +111,18 @@ module _ (hashes : List ℕ) (slots : List Slot) (hash : ℕ) (at : ℕ) (new : 
   place_kept k number place is =
       let apart : place ≢ at = λ e. let P : ℕ → Type 0 = λ n. (slot_at slots n).held ≡ number + 1 in omega (arith, subst P e is.holds, first.free) in
       record {
-        within = omega (arith, length-placed, is.within);
+        within = omega (arith, (length-set slots at new), is.within);
         holds = ap (λ (slot : Slot). slot.held) (elsewhere place apart) ∙ is.holds;
         reached = λ other within met.
-            stays_taken other (λ _. is.reached other (omega (arith, length-placed, within)) (subst (λ n. IsMet (home_of n k) place other) length-placed met));
+            stays_taken (λ (slot : Slot). slot.held) (record { hash = 0; held = 0 }) slots at new first.within (omega (arith, held)) other (λ _. is.reached other (omega (arith, (length-set slots at new), within)) (subst (λ n. IsMet (home_of n k) place other) (length-set slots at new) met));
       }
 
   place_made : IsPlace (set slots at new) hash (length hashes) at
   place_made = record {
-    within = omega (arith, length-placed, first.within);
+    within = omega (arith, (length-set slots at new), first.within);
     holds = ap (λ (slot : Slot). slot.held) here ∙ held;
     reached = λ other within met.
-        stays_taken other (λ _. first.first other (omega (arith, length-placed, within)) (subst (λ n. IsMet (home_of n hash) at other) length-placed met));
+        stays_taken (λ (slot : Slot). slot.held) (record { hash = 0; held = 0 }) slots at new first.within (omega (arith, held)) other (λ _. first.first other (omega (arith, (length-set slots at new), within)) (subst (λ n. IsMet (home_of n hash) at other) (length-set slots at new) met));
   }
 
   places_after : (number : ℕ) → number < length (hashes ++ hash ∷ []) → (place : ℕ) × IsPlace (set slots at new) (get_or (hashes ++ hash ∷ []) number 0) number place
@@ -220,7 +170,7 @@ module _ (hashes : List ℕ) (slots : List Slot) (hash : ℕ) (at : ℕ) (new : 
 
 -- Slots that are all free
 
-none_taken : (slots : List Slot) → ((at : ℕ) → (slot_at slots at).held ≡ 0) → weigh slots ≡ 0
+none_taken : (slots : List Slot) → ((at : ℕ) → (slot_at slots at).held ≡ 0) → weigh (λ (slot : Slot). slot.held) (record { hash = 0; held = 0 }) slots ≡ 0
 none_taken [] free = refl
 none_taken (slot ∷ slots) free =
     let first = free 0 in

@@ -1,6 +1,7 @@
 -- How a table finds the number of a list: from the home of its hash on, round all slots, up to a free one.
 use Rattle.std.specs.Prelude.{◌≡◌, ℕ, ◌+◌, ◌-◌, ◌<◌, ◌≤◌, ◌⊎◌, min, List, length, slice_index_or, bit_and}
 use Rattle.std.specs.List.{sum_by}
+use Rattle.mine_model.specs.Slots.{IsMet}
 use Rattle.pattern_counts.specs.declared.table.Slot.{Slot}
 
 -- where a search for a hash begins, among so many slots
@@ -10,10 +11,6 @@ home_of count hash = bit_and hash (count - 1)
 -- the slot, which is free past the last
 abbrev pub slot_at : List Slot → ℕ → Slot
 slot_at slots at = slice_index_or slots at (record { hash = 0; held = 0 })
-
--- a search that begins at home meets the slot before it meets the slot at the end
-abbrev pub IsMet : ℕ → ℕ → ℕ → Type 0
-IsMet home end at = ((home ≤ at) × (at < end)) ⊎ ((end < home) × ((home ≤ at) ⊎ (at < end)))
 
 -- the slot is free or has the number and the hash of a list
 pub record IsSlot (hashes : List ℕ) (slot : Slot) : Type 0 where
