@@ -1,10 +1,10 @@
 -- The pairs of a sequence and one of its candidates, under other names of the items.
-use Rattle.std.proofs.Common.{◌≡◌, ◌≢◌, ℕ, inl, inr, false, List, [], ◌∷◌, map, length, sym, ap, ◌∙◌, subst, Contains, get_or, zero, suc, arith}
+use Rattle.std.proofs.Common.{◌≡◌, ◌≢◌, ℕ, inl, inr, false, List, [], ◌∷◌, map, sym, ◌∙◌, subst, Contains, get_or, arith}
 use Rattle.std.specs.List.{AllByRecursion, AllPairs}
 use Rattle.std.proofs.lemmas.List.{length-map, get_or_default}
 use Rattle.std.proofs.lemmas.List.Kept.{AllPairs-cons}
 use Rattle.mine_model.specs.Hierarchy.{Link, IsAncestor}
-use Rattle.mine_model.specs.Expression.{Tree, tree_by, named_in}
+use Rattle.mine_model.specs.Expression.{tree_by, named_in}
 use Rattle.mine_model.specs.Support.{Sequence, HoldsUnder, HasFrequency}
 use Rattle.mine_model.specs.Answer.{Data}
 use Rattle.mine_model.specs.Candidates.{IsFrequentItem, IsCandidate}
