@@ -94,7 +94,7 @@ module _ (problem : Problem) (shards : Shards) (workers : ℕ) where
 
     pub each_once : AreShardsOf problem shards → 1 ≤ workers → length results ≡ workers → AddedEachOnce problem lists
     each_once are some all = λ home within weight.
-        ap (sum_by weight) (column_made home 0 lists within (λ k list at. let both = done_at k list at in (both.0.all ∙ are.sixteen, subst (λ w. All (λ pass. made pass ≡ map entry_of (share_of w workers (block_count problem))) list.items) (sym (plain k)) both.1)))
+        ap (sum_by weight) (column_made home 0 lists within (λ k list at. let both = done_at k list at in (both.0.all ∙ are.all, subst (λ w. All (λ pass. made pass ≡ map entry_of (share_of w workers (block_count problem))) list.items) (sym (plain k)) both.1)))
         ∙ ap (λ (n : ℕ). sum_by weight (flat_map (λ w. map entry_of (share_of w workers (block_count problem))) (range_with_len 0 n))) (given.all ∙ all)
         ∙ entries_flat (range_with_len 0 workers) weight
         ∙ shares_are_all workers (block_count problem) some weight

@@ -71,7 +71,7 @@ module _ (problem : Problem) (workers homes : ℕ) (shards : Shards) (lists : Pa
 
   pub opened_shards : homes ≡ 16 → AreShardsOf problem shards
   opened_shards e = record {
-    sixteen = opened.lock_count ∙ e;
+    all = opened.lock_count ∙ e;
     each = λ home lock at. (opened_at home lock at).2.ground;
   }
 

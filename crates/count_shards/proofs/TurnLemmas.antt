@@ -86,8 +86,8 @@ module _ (shards : Shards) (lists : PassLists) (worker : ℕ) (old new : PassLis
 
   pub turn_added : length shards.locks.items ≡ 16 → map made new.items ≡ map (λ (pass : ShardPass). made pass ++ entry_of block ∷ []) old.items → (home : ℕ) (weight : List ℕ → ℕ) → home < 16
       → added_at weight home (set lists worker new) ≡ added_at weight home lists + weight (entry_of block)
-  turn_added sixteen e home weight within =
+  turn_added whole e home weight within =
       let before : ArePassesOf shards old.items = subst (λ (l : PassList). ArePassesOf shards l.items) (get_or_from_slice_get lists worker old old at) (all.each worker old (slice_get_within lists worker old at)) in
-      let (was, at_was) = get-some old.items home (omega (arith, within, sixteen, before.all)) in
-      let (is, at_is) = get-some new.items home (omega (arith, within, sixteen, are.all)) in
+      let (was, at_was) = get-some old.items home (omega (arith, within, whole, before.all)) in
+      let (is, at_is) = get-some new.items home (omega (arith, within, whole, are.all)) in
       one_added weight home lists worker old new block was is at at_was at_is (map_at made (λ (pass : ShardPass). made pass ++ entry_of block ∷ []) old.items new.items home was is e at_was at_is)

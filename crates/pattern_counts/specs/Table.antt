@@ -29,21 +29,9 @@ pub record IsPlace (slots : List Slot) (hash : ℕ) (number at : ℕ) : Type 0 w
   pub holds : (slot_at slots at).held ≡ number + 1
   pub reached : IsReached slots hash at
 
--- no two slots have one number
-abbrev pub HoldOnce : List Slot → Type 0
-HoldOnce slots =
-    (at other : ℕ) → 0 < (slot_at slots at).held → (slot_at slots at).held ≡ (slot_at slots other).held
-    → at ≡ other
-
 -- each list with one of these hashes has a slot, and no other slot is taken
 pub record IsTable (hashes : List ℕ) (table : List Slot) : Type 0 where
   pub slots : (at : ℕ) → IsSlot hashes (slot_at table at)
   pub places : (number : ℕ) → number < length hashes
       → (at : ℕ) × IsPlace table (slice_index_or hashes number 0) number at
-  pub once : HoldOnce table
   pub taken : sum_by (λ slot. min slot.held 1) table ≡ length hashes
-
--- only slots with numbers from this one on are taken
-abbrev pub AreFrom : ℕ → List Slot → Type 0
-AreFrom number slots =
-    (at : ℕ) → ((slot_at slots at).held ≡ 0) ⊎ (number < (slot_at slots at).held)
