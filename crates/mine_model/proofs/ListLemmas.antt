@@ -29,6 +29,7 @@ AllByRecursion-contained P (x ∷ xs) y all inside =
       | inr other ↦ AllByRecursion-contained P xs y all.1 other
     ]
 
+-- what holds of each element where P does
 pub AllByRecursion-weaker : {X : Type 0} (P Q : X → Type 0) → ((x : X) → P x → Q x) → (xs : List X) → AllByRecursion P xs → AllByRecursion Q xs
 AllByRecursion-weaker P Q follows [] all = tt
 AllByRecursion-weaker P Q follows (x ∷ xs) all = (follows x all.0, AllByRecursion-weaker P Q follows xs all.1)

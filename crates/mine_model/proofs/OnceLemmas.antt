@@ -61,6 +61,16 @@ one-found label labels = elim (some-part (one label) labels) [
   ]
 ]
 
+-- a list of numbers is another or is not
+pub same_list_or_not : (xs ys : List ℕ) → (xs ≡ ys) ⊎ (xs ≢ ys)
+same_list_or_not xs ys = elim (one-cases xs ys) [ inl same ↦ inl same | inr none ↦ inr (λ same. omega (arith, one-same xs ys same, none)) ]
+
+pub list_or_not : (lists : List (List ℕ)) (list : List ℕ) → Contains lists list ⊎ (Contains lists list → ⊥)
+list_or_not lists list = elim (one-found list lists) [
+  | inl there ↦ inl there
+  | inr none ↦ inr (λ held. omega (arith, one-held list lists held, none))
+]
+
 cover-weight : (roots : List (List ℕ)) (kids : List ℕ → List (List ℕ)) (labels : List (List ℕ)) → Covers roots kids labels → (weight : List ℕ → ℕ)
     → sum_by weight labels ≡ sum_by weight roots + sum_by (kids_weight kids weight) labels
 cover-weight roots kids labels covers weight = omega (arith, covers weight, sum_by-append weight roots (flat_map kids labels), flat-weight kids weight labels)

@@ -91,7 +91,7 @@ below order different v x y first second less =
     (at_place order v x v first ∙ sym (at_place order v y v second))
 
 -- the rank of an item
-item_rank : (order : List Item) → AllPairs (λ v w. v ≢ w) order → (v : Item) (x y : ℕ) → HasRank order v x → HasRank order v y → x ≡ y
+pub item_rank : (order : List Item) → AllPairs (λ v w. v ≢ w) order → (v : Item) (x y : ℕ) → HasRank order v x → HasRank order v y → x ≡ y
 item_rank order different v x y first second = elim (cases_lt x y) [
   | inl less ↦ absurd (below order different v x y first second less)
   | inr more ↦ elim (cases_lt y x) [

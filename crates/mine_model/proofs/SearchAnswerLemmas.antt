@@ -7,7 +7,8 @@ use Rattle.mine_model.specs.declared.item.Item.{Item}
 use Rattle.mine_model.specs.declared.row.Row.{Row}
 use Rattle.mine_model.specs.Support.{HasFrequency}
 use Rattle.mine_model.specs.Answer.{Data, IsFrequent}
-use Rattle.mine_model.specs.Ranks.{IsFrequentItem, Ranking, AreRanked, AreRanks}
+use Rattle.mine_model.specs.Candidates.{IsFrequentItem}
+use Rattle.mine_model.specs.Ranks.{Ranking, AreRanked, AreRanks}
 use Rattle.mine_model.specs.Growth.{IsAlive, AreFrequentItems, IsSearchWork}
 use Rattle.mine_model.specs.Numbered.{AreFrequent}
 use Rattle.mine_model.specs.Cover.{Covers}
