@@ -12,6 +12,7 @@ pub mod Answer
 pub mod AnswerText
 pub mod Candidates
 pub mod Counted
+pub mod Growth
 pub mod First
 pub mod Refusal
 pub mod Status
@@ -22,6 +23,7 @@ pub mod Ancestry
 pub mod Labels
 pub mod Database
 pub mod Ranks
+pub mod SearchTree
 pub mod Cover
 pub mod Faults
 pub mod Slots

@@ -1,0 +1,78 @@
+-- Snapshots: where a path of the transducer can stand that has just written a prefix. From the DESQ article.
+use Rattle.std.specs.Prelude.{◌≡◌, ℕ, ◌≤◌, ◌<◌, Bool, ◌⊎◌, ◌↔◌, IsTrue, Option, Some, None, List, [], ◌∷◌, ◌++◌, length, take, drop, AllPairs, Contains}
+use Rattle.std.specs.List.{AllByRecursion}
+use Rattle.mine_model.specs.declared.item.Item.{Item}
+use Rattle.mine_model.specs.Ranks.{AreRanked}
+use Rattle.fst_simulate.specs.declared.bound.Bound.{Bound}
+use Rattle.fst_simulate.specs.Problems.{Problem, IsWhole, items_of}
+use Rattle.fst_simulate.specs.Grids.{GridList, Completes, HoldsNeeded}
+use Rattle.snapshot_project.specs.declared.snapshot.Snapshot.{Snapshot}
+use Rattle.snapshot_project.specs.Runs.{IsRun, IsStep}
+
+-- a path from the start over these items ends in the state and writes the prefix, and its last edge wrote the
+-- prefix's last item
+abbrev pub HasJustWritten : Problem → List Item → List Item → ℕ → Type 0
+HasJustWritten problem done prefix state =
+    (early : List Item) × (t : Item) × (before : List Item) × (w : Item) × (previous : ℕ)
+    × (done ≡ early ++ t ∷ []) × (prefix ≡ before ++ w ∷ [])
+    × IsRun problem 0 early before previous × IsStep problem previous t (w ∷ []) state
+
+-- the same, or all is empty
+abbrev pub IsReached : Problem → List Item → List Item → ℕ → Type 0
+IsReached problem done prefix state =
+    ((done ≡ []) × (prefix ≡ []) × (state ≡ 0)) ⊎ HasJustWritten problem done prefix state
+
+-- a path completes behind the prefix, which holds what is needed or not
+abbrev pub CompletesBehind : Problem → Bound → List Item → List Item → ℕ → Type 0
+CompletesBehind problem bound prefix rest state =
+    (seen : Bool) × (IsTrue seen ↔ HoldsNeeded problem.ranking bound.need prefix)
+    × Completes problem bound rest state seen
+
+-- between what is done of the items and the rest of them there is a snapshot of the prefix with the state
+abbrev pub IsSnapshotAt : Problem → Bound → List Item → List Item → List Item → ℕ → Type 0
+IsSnapshotAt problem bound done rest prefix state =
+    IsReached problem done prefix state × CompletesBehind problem bound prefix rest state
+
+-- the items have a snapshot of the prefix at the position, in the state
+abbrev pub HasSnapshot : Problem → Bound → List Item → List Item → ℕ → ℕ → Type 0
+HasSnapshot problem bound items prefix position state =
+    (position ≤ length items)
+    × IsSnapshotAt problem bound (take position items) (drop position items) prefix state
+
+-- a snapshot of the prefix in one of the sequences of the part
+abbrev pub IsSnapshotOf : GridList → List Item → Snapshot → Type 0
+IsSnapshotOf part prefix snapshot =
+    Contains part.sequences snapshot.sequence
+    × HasSnapshot part.problem part.bound (items_of part.problem snapshot.sequence) prefix snapshot.position
+    snapshot.state
+
+-- by sequence, by position and by state
+abbrev pub ComesBefore : Snapshot → Snapshot → Type 0
+ComesBefore first second = (first.sequence < second.sequence)
+    ⊎ ((first.sequence ≡ second.sequence) × ((first.position < second.position)
+    ⊎ ((first.position ≡ second.position) × (first.state < second.state))))
+
+-- snapshots of one prefix, and whether it holds what is needed
+pub record SnapshotList : Type 0 where
+  pub seen : Bool
+  pub snapshots : List Snapshot
+
+-- the snapshots are exactly those of the prefix with these ranks, which the bound allows, each once
+pub record AreSnapshots (part : GridList) (ranks : List ℕ) (list : SnapshotList) : Type 0 where
+  pub prefix : List Item
+  pub ranked : AreRanked part.problem.ranking.order prefix ranks
+  pub top : AllByRecursion (λ rank. rank ≤ part.bound.top) ranks
+  pub seen : IsTrue list.seen ↔ HoldsNeeded part.problem.ranking part.bound.need prefix
+  pub rising : AllPairs ComesBefore list.snapshots
+  pub exact : (snapshot : Snapshot) → Contains list.snapshots snapshot ↔ IsSnapshotOf part prefix snapshot
+
+-- a part's sequences rise, and are sequences of its problem
+pub record IsPart (part : GridList) : Type 0 where
+  pub whole : IsWhole part.problem
+  pub rising : AllPairs (λ low high. low < high) part.sequences
+  pub within : AllByRecursion (λ i. i < length part.problem.sequences) part.sequences
+
+-- the bound of a part: with a pivot, the ranks up to the pivot's, which is needed
+abbrev pub bound_of : ℕ → Option ℕ → Bound
+bound_of ranks None = record { top = ranks; need = None }
+bound_of ranks (Some pivot) = record { top = pivot; need = Some pivot }
