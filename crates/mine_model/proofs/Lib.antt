@@ -35,3 +35,4 @@ pub mod TestedLists
 pub mod ApartLemmas
 pub mod SumLemmas
 pub mod SlotLemmas
+pub mod AliveLemmas
