@@ -3,6 +3,7 @@ use Rattle.std.specs.Prelude.{◌≡◌, ℕ, ◌≤◌, ◌<◌, List, length}
 use Rattle.std.specs.List.{AllByRecursion}
 use Rattle.mine_model.specs.declared.item.Item.{Item}
 use Rattle.mine_model.specs.Ancestry.{Ancestry}
+use Rattle.mine_model.specs.Answer.{Data}
 use Rattle.mine_model.specs.Database.{sequence_at}
 use Rattle.mine_model.specs.Expression.{named_in}
 use Rattle.mine_model.specs.Numbered.{tree_of}
@@ -19,6 +20,15 @@ pub record Problem : Type 0 where
   pub machine : Transducer
   pub ranking : Ranking
   pub threshold : ℕ
+
+-- the data of the run: what the expression is matched with, and the threshold
+abbrev pub data_of : Problem → Data Item
+data_of problem = record {
+  links = problem.hierarchy.links;
+  sequences = problem.sequences;
+  expression = tree_of problem.machine.expression;
+  threshold = problem.threshold;
+}
 
 -- the items of the sequence with this number, counted from 0
 abbrev pub items_of : Problem → ℕ → List Item
