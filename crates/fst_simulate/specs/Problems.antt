@@ -9,7 +9,6 @@ use Rattle.mine_model.specs.Expression.{named_in}
 use Rattle.mine_model.specs.Numbered.{tree_of}
 use Rattle.mine_model.specs.Ranks.{Ranking, AreRanks}
 use Rattle.mine_model.specs.Support.{Sequence}
-use Rattle.mine_model.specs.Answer.{Data}
 use Rattle.fst_compile.specs.Transducer.{Transducer, IsPositionAutomaton, IsTransducerOf}
 
 -- the hierarchy, the sequences, the transducer of the expression, the ranks of the frequent items, the
@@ -33,15 +32,6 @@ data_of problem = record {
 -- the items of the sequence with this number, counted from 0
 abbrev pub items_of : Problem → ℕ → List Item
 items_of problem i = (sequence_at problem.sequences i).items
-
--- what the expression is matched with, and the threshold
-abbrev pub data_of : Problem → Data Item
-data_of problem = record {
-  links = problem.hierarchy.links;
-  sequences = problem.sequences;
-  expression = tree_of problem.machine.expression;
-  threshold = problem.threshold;
-}
 
 -- the parts fit: all items are items of the hierarchy, the transducer is that of its expression, and the
 -- ranks are those of the sequences
