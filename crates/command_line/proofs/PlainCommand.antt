@@ -106,7 +106,7 @@ module _ (digits : Text) (p : IsPlainWord digits) where
 
     end_mode : GivesMode found Count None
     unfolding clap_on_literals options desq
-    end_mode = record { engine = refl; seed = refl; suits = refl }
+    end_mode = record { named = refl; given = refl; suits = refl }
 
     end_rules : KeepsRules found
     unfolding clap_on_literals options desq

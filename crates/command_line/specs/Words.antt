@@ -1,5 +1,5 @@
 -- What the words of a command say: what clap finds in them, and the rules beyond clap's.
-use Rattle.std.specs.Prelude.{◌≡◌, ◌≢◌, ◌↔◌, ◌⊎◌, ℕ, ◌≤◌, Bool, true, List, [], codes, Option, Some, None, unwrap_or, IsSome, IsTrue}
+use Rattle.std.specs.Prelude.{◌≡◌, ◌≢◌, ◌↔◌, ◌⊎◌, ℕ, ◌≤◌, Bool, List, [], codes, Option, Some, None, unwrap_or, IsSome, IsTrue}
 use Rattle.mine_model.specs.Limits.{most_support, most_workers}
 use Rattle.mine_model.specs.Grammar.{IsDecimal}
 use Rattle.clap.specs.Words.{Row, Text, first_of}
@@ -62,8 +62,8 @@ Suits Dfs seed = IsSome seed
 
 -- this engine is that of the run, with this seed or none, and they suit each other
 pub record GivesMode (found : List Row) (engine : Engine) (seed : Option ℕ) : Type 0 where
-  pub engine : GivesEngine found engine
-  pub seed : GivesSeed found seed
+  pub named : GivesEngine found engine
+  pub given : GivesSeed found seed
   pub suits : Suits engine seed
 
 -- the rules beyond clap's, a line each: each number is in its range, the engine is one that there is, with a

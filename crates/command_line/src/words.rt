@@ -140,10 +140,7 @@ fn given_seed(matches: &ArgMatches<'_>) -> Option<Option<u64>>
         (λ seed. GivesSeed (rows_of (found_of matches.now)) seed) }
 {
     match given(matches, "simulate") {
-        Some(digits) => match read_number(digits.as_bytes(), 0, MOST_SEED) {
-            Some(seed) => Some(Some(seed)),
-            None => None,
-        },
+        Some(digits) => Some(Some(read_number(digits.as_bytes(), 0, MOST_SEED)?)),
         None => Some(None),
     }
 }
@@ -158,7 +155,8 @@ fn suits(engine: Engine, seed: Option<u64>) -> bool
     }
 }
 
-/// The engine of the run and its seed. None where the values that were given are none, or do not suit each other.
+/// The engine of the run and its seed. None where the values that were given are none, or do not suit each
+/// other.
 fn given_mode(matches: &ArgMatches<'_>) -> Option<(Engine, Option<u64>)>
     ensures { MatchOption result
         ((engine : Engine) (seed : Option ℕ) → GivesMode (rows_of (found_of matches.now)) engine seed → ⊥)
