@@ -1,16 +1,10 @@
 //! Laws over the definitions. Each is the contract of a function that does nothing.
 
-ghost use Rattle.std.specs.Prelude.{◌≡◌, ℕ, List, [], ◌∷◌, ◌++◌};
-ghost use Rattle.std.specs.List.{filter_map};
+ghost use Rattle.std.specs.Prelude.{◌≡◌, ℕ, List};
 ghost use Rattle.mine_model.specs.Answer.{Data, NamedRow, IsAnswer};
 ghost use Rattle.mine_model.specs.Counted.{IsCountingWork};
-ghost use Rattle.mine_model.specs.Support.{HasSupport, HasFrequency};
-ghost use Rattle.mine_model.specs.Growth.{IsAlive, AreFrequentItems, IsSearchWork};
-ghost use Rattle.mine_model.specs.SearchTree.{SearchTree, IsSearchTree};
-ghost use Rattle.mine_model.specs.Cover.{Covers};
-ghost use Rattle.mine_model.specs.Ranks.{Ranking, AreRanks};
-ghost use Rattle.mine_model.specs.Numbered.{AreFrequent};
-ghost use Rattle.mine_model.specs.declared.item.Item.{Item};
+ghost use Rattle.mine_model.specs.Support.{HasSupport};
+ghost use Rattle.mine_model.specs.Growth.{IsSearchWork};
 ghost use Rattle.mine_model.specs.Expression.{Tree};
 ghost use Rattle.mine_model.specs.Tokens.{Placed, AreTokens};
 ghost use Rattle.mine_model.specs.Grammar.{Part, Use, Reads, ReadsAs};
@@ -41,22 +35,6 @@ pub fn at_most_one_work()
 pub fn at_most_one_search_work()
     ensures { (data_of_run : Data (List ℕ)) (first second : Work)
         → IsSearchWork data_of_run first → IsSearchWork data_of_run second → first ≡ second }
-{}
-
-/// A prefix of an alive prefix is alive. That of a frequent pattern need not be frequent.
-pub fn prefixes_of_alive_prefixes_are_alive()
-    ensures { (data_of_run : Data (List ℕ)) (prefix more : List (List ℕ))
-        → IsAlive data_of_run (AreFrequentItems data_of_run) (prefix ++ more)
-        → IsAlive data_of_run (AreFrequentItems data_of_run) prefix }
-{}
-
-/// The rows of the search tree without pivots are the frequent patterns, each once.
-pub fn rows_of_the_search_tree_are_the_frequent_patterns()
-    ensures { (data_of_run : Data Item) (ranking : Ranking) (tree : SearchTree) (labels : List (List ℕ))
-        → AreRanks data_of_run.links data_of_run.sequences data_of_run.threshold ranking
-        → ((w : Item) → (m : ℕ) × HasFrequency data_of_run.links data_of_run.sequences w m)
-        → IsSearchTree data_of_run ranking.order (0 ∷ []) tree → Covers tree.roots tree.kids labels
-        → AreFrequent data_of_run (filter_map tree.row labels) }
 {}
 
 /// Tokens read as at most one tree.

@@ -38,8 +38,7 @@ pub use label::{Grown, Label};
 pub use laws::{
     at_most_one_answer, at_most_one_expression_refusal, at_most_one_list_of_tokens,
     at_most_one_reading, at_most_one_search_work, at_most_one_support, at_most_one_tree,
-    at_most_one_work, prefixes_of_alive_prefixes_are_alive,
-    rows_of_the_search_tree_are_the_frequent_patterns,
+    at_most_one_work,
 };
 pub use memory::NoMemory;
 pub use mined::{Mined, Work};
