@@ -3,20 +3,18 @@ use Rattle.std.proofs.Common.{◌≡◌, ◌↔◌, ℕ, ◌<◌, ◌≤◌, Lis
 use Rattle.std.specs.List.{AllByRecursion, All, Contains}
 use Rattle.std.proofs.lemmas.List.Elements.{Contains-get_or}
 use Rattle.mine_model.specs.declared.item.Item.{Item}
-use Rattle.mine_model.specs.Ranks.{IsFrequentItem, AreRanked, AreAllRanked}
+use Rattle.mine_model.specs.Candidates.{IsFrequentItem}
+use Rattle.mine_model.specs.Ranks.{AreRanked, AreAllRanked}
+use Rattle.mine_model.proofs.ListLemmas.{AllByRecursion-weaker}
 use Rattle.mine_model.proofs.RankedLemmas.{ranked-none, ranked-same, ranked-all, ranked-held, ranked-bounds, AreAllRanked-length, AreAllRanked-at}
 use Rattle.fst_simulate.specs.Problems.{Problem, IsWhole, items_of}
-use Rattle.candidate_gen.specs.Candidates.{IsCandidate, AreCandidateRanks, AreCandidates}
+use Rattle.candidate_gen.specs.Candidates.{IsCandidateAt, AreCandidateRanks, AreCandidates}
 use Rattle.candidate_gen.specs.Walk.{IsWritten, AreWritten}
-
-each-mapped : (P Q : Item → Type 0) → ((v : Item) → P v → Q v) → (items : List Item) → AllByRecursion P items → AllByRecursion Q items
-each-mapped P Q each [] p = tt
-each-mapped P Q each (v ∷ items) p = (each v p.0, each-mapped P Q each items p.1)
 
 module _ (problem : Problem) (seq : ℕ) (whole : IsWhole problem) where
   -- what paths write is the ranks of the candidates
   pub written-candidates : (ranks : List ℕ) → IsWritten (record { problem = problem; sequence = items_of problem seq }) ranks
-      ↔ ((pattern : List Item) × IsCandidate problem seq pattern × AreRanked problem.ranking.order pattern ranks)
+      ↔ ((pattern : List Item) × IsCandidateAt problem seq pattern × AreRanked problem.ranking.order pattern ranks)
   written-candidates ranks = (
     (λ h. let (some, (output, path, ranked)) = h in (
       output,
@@ -25,7 +23,7 @@ module _ (problem : Problem) (seq : ℕ) (whole : IsWhole problem) where
           (λ none. some (ranked-none problem.ranking.order ranks (subst (λ o. AreRanked problem.ranking.order o ranks) none ranked))),
           (whole.paths problem.hierarchy.links (items_of problem seq) output).0 path,
         );
-        allowed = each-mapped (Contains problem.ranking.order) (IsFrequentItem problem.hierarchy.links problem.sequences problem.threshold)
+        allowed = AllByRecursion-weaker (Contains problem.ranking.order) (IsFrequentItem problem.hierarchy.links problem.sequences problem.threshold)
             (λ v held. (whole.ranks.frequent v).0 held) output (ranked-held problem.ranking.order output ranks ranked);
       },
       ranked,
@@ -71,18 +69,18 @@ module _ (problem : Problem) (seq : ℕ) (whole : IsWhole problem) where
         exact = λ pattern. (out pattern, back pattern);
       }
     where
-      out : (pattern : List Item) → Contains patterns pattern → IsCandidate problem seq pattern
+      out : (pattern : List Item) → Contains patterns pattern → IsCandidateAt problem seq pattern
       out pattern (k, inside, is) =
           let long : length patterns ≡ length listed = AreAllRanked-length problem.ranking.order patterns listed zip in
           let ranked : AreRanked problem.ranking.order (get_or patterns k pattern) (get_or listed k []) = AreAllRanked-at problem.ranking.order patterns listed k pattern [] zip inside in
           let (other, candidate, own) = (are.exact (get_or listed k [])).0 (Contains-get_or listed k [] (omega (arith, long, inside))) in
-          subst (IsCandidate problem seq) (ranked-same problem.ranking.order other (get_or patterns k pattern) (get_or listed k []) own ranked ∙ is) candidate
+          subst (IsCandidateAt problem seq) (ranked-same problem.ranking.order other (get_or patterns k pattern) (get_or listed k []) own ranked ∙ is) candidate
 
-      back : (pattern : List Item) → IsCandidate problem seq pattern → Contains patterns pattern
+      back : (pattern : List Item) → IsCandidateAt problem seq pattern → Contains patterns pattern
       back pattern candidate =
           let long : length patterns ≡ length listed = AreAllRanked-length problem.ranking.order patterns listed zip in
           let held : AllByRecursion (Contains problem.ranking.order) pattern =
-          each-mapped (IsFrequentItem problem.hierarchy.links problem.sequences problem.threshold) (Contains problem.ranking.order) (λ v f. (whole.ranks.frequent v).1 f) pattern candidate.allowed in
+          AllByRecursion-weaker (IsFrequentItem problem.hierarchy.links problem.sequences problem.threshold) (Contains problem.ranking.order) (λ v f. (whole.ranks.frequent v).1 f) pattern candidate.allowed in
           let (ranks, ranked) = ranked-all problem.ranking.order pattern held in
           let (k, inside, is) = (are.exact ranks).1 (pattern, candidate, ranked) in
           let place : k < length patterns = omega (arith, long, inside) in

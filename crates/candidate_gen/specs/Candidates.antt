@@ -4,16 +4,13 @@ use Rattle.std.specs.Ordering.{nat_cmp}
 use Rattle.std.specs.Cmp.Lexicographic.{slice_cmp}
 use Rattle.std.specs.declared.cmp.Ordering.TheVariants.{Less}
 use Rattle.mine_model.specs.declared.item.Item.{Item}
-use Rattle.mine_model.specs.Numbered.{tree_of}
-use Rattle.mine_model.specs.Ranks.{AreRanked, IsFrequentItem, IsCandidateOf}
-use Rattle.fst_simulate.specs.Problems.{Problem, items_of}
+use Rattle.mine_model.specs.Candidates.{IsCandidate}
+use Rattle.mine_model.specs.Ranks.{AreRanked}
+use Rattle.fst_simulate.specs.Problems.{Problem, data_of, items_of}
 
--- a pattern of frequent items that the expression generates from the sequence with this number
-abbrev pub IsCandidate : Problem → ℕ → List Item → Type 0
-IsCandidate problem seq pattern =
-    IsCandidateOf problem.hierarchy.links (tree_of problem.machine.expression)
-    (IsFrequentItem problem.hierarchy.links problem.sequences problem.threshold)
-    (items_of problem seq) pattern
+-- a candidate of the sequence with this number
+abbrev pub IsCandidateAt : Problem → ℕ → List Item → Type 0
+IsCandidateAt problem seq pattern = IsCandidate (data_of problem) (items_of problem seq) pattern
 
 -- the first list of ranks comes earlier: rank by rank, a proper prefix first
 abbrev pub IsEarlier : List ℕ → List ℕ → Type 0
@@ -23,7 +20,7 @@ IsEarlier first second = slice_cmp nat_cmp first second ≡ Less
 pub record AreCandidateRanks (problem : Problem) (seq : ℕ) (listed : List (List ℕ)) : Type 0 where
   pub rises : AllPairs IsEarlier listed
   pub exact : (ranks : List ℕ) → Contains listed ranks
-      ↔ ((pattern : List Item) × IsCandidate problem seq pattern
+      ↔ ((pattern : List Item) × IsCandidateAt problem seq pattern
       × AreRanked problem.ranking.order pattern ranks)
 
 -- the ranks of the first pattern come earlier than those of the second
@@ -35,7 +32,7 @@ ComesEarlier order first second =
 -- the patterns are exactly the candidates of the sequence, rising by their ranks, so each once
 pub record AreCandidates (problem : Problem) (seq : ℕ) (patterns : List (List Item)) : Type 0 where
   pub rises : AllPairs (ComesEarlier problem.ranking.order) patterns
-  pub exact : (pattern : List Item) → Contains patterns pattern ↔ IsCandidate problem seq pattern
+  pub exact : (pattern : List Item) → Contains patterns pattern ↔ IsCandidateAt problem seq pattern
 
 -- what a list of candidates is about: the problem, and what is listed, as ranks
 pub record Listing : Type 0 where

@@ -5,28 +5,12 @@ use Rattle.std.specs.declared.vec.Vec.{Vec}
 use Rattle.std.proofs.lemmas.Option.{slice_get_within, same_Some}
 use Rattle.std.proofs.lemmas.List.Sums.{sum_by_push}
 use Rattle.mine_model.specs.declared.memory.NoMemory.{NoMemory}
+use Rattle.mine_model.proofs.ElementLemmas.{get-left, get_snoc, get_last}
 use Rattle.mine_model.specs.Counted.{told_of}
 use Rattle.count_shards.specs.Shards.{ShardPass, PassLists}
 use Rattle.count_engine.specs.declared.hands.Hand.{Hand}
 use Rattle.count_engine.specs.declared.hands.Done.{Done}
 use Rattle.count_engine.specs.Shares.{AreHandsOf, AreListsOf, pairs_told}
-
--- what stands in a list that is longer by one
-at_push : {X : Type 0} (xs : List X) (x y : X) (k : ℕ) → slice_get (xs ++ x ∷ []) k ≡ Some y
-    → (slice_get xs k ≡ Some y) ⊎ ((k ≡ length xs) × (x ≡ y))
-at_push [] x y zero at = inr (refl, same_Some x y at)
-at_push [] x y (suc k) at = absurd (cc)
-at_push (z ∷ xs) x y zero at = inl at
-at_push (z ∷ xs) x y (suc k) at = elim (at_push xs x y k at) [ inl there ↦ inl there | inr last ↦ inr (ap suc last.0, last.1) ]
-
-at_old : {X : Type 0} (xs : List X) (x y : X) (k : ℕ) → slice_get xs k ≡ Some y → slice_get (xs ++ x ∷ []) k ≡ Some y
-at_old [] x y k at = absurd (cc)
-at_old (z ∷ xs) x y zero at = at
-at_old (z ∷ xs) x y (suc k) at = at_old xs x y k at
-
-at_last : {X : Type 0} (xs : List X) (x : X) → slice_get (xs ++ x ∷ []) (length xs) ≡ Some x
-at_last [] x = refl
-at_last (z ∷ xs) x = at_last xs x
 
 pub hands_more : (lists : PassLists) (hands : List Hand) (passes : Vec ShardPass Global) (worker : ℕ) → AreHandsOf lists hands → worker ≡ length hands
     → AreHandsOf (lists ++ passes ∷ []) (hands ++ (record { worker = worker; passes = passes }) ∷ [])
@@ -34,12 +18,12 @@ hands_more lists hands passes worker are last =
     let new : Hand = record { worker = worker; passes = passes } in
     record {
       all = omega (arith, are.all, length-append hands (new ∷ []), length-append lists (passes ∷ []));
-      each = λ k hand at. elim (at_push hands new hand k at) [
-        | inl old ↦ let was = are.each k hand old in (was.0, at_old lists passes hand.passes k was.1)
+      each = λ k hand at. elim (get_snoc hands new k hand at) [
+        | inl old ↦ let was = are.each k hand old in (was.0, get-left lists (passes ∷ []) k hand.passes was.1)
         | inr end ↦
             let place : k ≡ length lists = end.0 ∙ are.all in (
               sym (ap (λ (h : Hand). h.worker) end.1) ∙ last ∙ sym end.0,
-              ap (slice_get (lists ++ passes ∷ [])) place ∙ at_last lists passes ∙ ap (λ (h : Hand). Some h.passes) end.1,
+              ap (slice_get (lists ++ passes ∷ [])) place ∙ get_last lists passes ∙ ap (λ (h : Hand). Some h.passes) end.1,
             )
       ];
     }
@@ -48,9 +32,9 @@ pub lists_more : (results : List (Result Done NoMemory)) (lists : PassLists) (do
     → AreListsOf (results ++ Ok done ∷ []) (lists ++ done.passes ∷ [])
 lists_more results lists done are = record {
   all = omega (arith, are.all, length-append results (Ok done ∷ []), length-append lists (done.passes ∷ []));
-  each = λ k list at. elim (at_push lists done.passes list k at) [
-    | inl old ↦ let was = are.each k list old in (was.0, at_old results (Ok done) (Ok was.0) k was.1, was.2)
-    | inr end ↦ (done, ap (slice_get (results ++ Ok done ∷ [])) (end.0 ∙ are.all) ∙ at_last results (Ok done), end.1)
+  each = λ k list at. elim (get_snoc lists done.passes k list at) [
+    | inl old ↦ let was = are.each k list old in (was.0, get-left results (Ok done ∷ []) k (Ok was.0) was.1, was.2)
+    | inr end ↦ (done, ap (slice_get (results ++ Ok done ∷ [])) (end.0 ∙ are.all) ∙ get_last results (Ok done), end.1)
   ];
 }
 

@@ -10,18 +10,17 @@ use Rattle.std.proofs.lemmas.Option.{slice_get-get_or, same_Some}
 use Rattle.mine_model.specs.declared.item.Item.{Item}
 use Rattle.mine_model.specs.declared.memory.NoMemory.{NoMemory}
 use Rattle.mine_model.specs.Answer.{Data}
-use Rattle.mine_model.specs.Counted.{HasPairs, told_of}
+use Rattle.mine_model.specs.Counted.{HasPairs, told_of, IsTold}
 use Rattle.mine_model.specs.Labels.{SameLabels}
 use Rattle.mine_model.specs.Support.{Sequence}
-use Rattle.fst_simulate.specs.Problems.{Problem}
+use Rattle.fst_simulate.specs.Problems.{Problem, data_of}
 use Rattle.turn_lock.specs.Passes.{made, pass_count}
 use Rattle.count_shards.specs.declared.shards.Shards.{Shards}
 use Rattle.count_shards.specs.Blocks.{sequences_in, block_count, SumsBy}
-use Rattle.fst_simulate.specs.Problems.{data_of}
 use Rattle.count_shards.specs.Shard.{entry_of}
 use Rattle.count_shards.specs.Shards.{Lock, ShardPass, PassLists, ArePassesOf, AreShardsOf, AreAllLists, column, AddedEachOnce}
 use Rattle.count_engine.specs.declared.hands.Done.{Done}
-use Rattle.count_engine.specs.Shares.{share_of, HasBlockPairs, IsTold, IsDone, AreListsOf, pairs_told}
+use Rattle.count_engine.specs.Shares.{share_of, HasBlockPairs, IsDone, AreListsOf, pairs_told}
 use Rattle.count_shards.proofs.BlockSums.{sums_more, sums_reordered, sums_laid}
 use Rattle.count_engine.proofs.ShareLemmas.{all_shares_of, shares_are_all, share_with, sums-append, sums-flat, told-left, told-right}
 
@@ -95,7 +94,7 @@ module _ (problem : Problem) (shards : Shards) (workers : ℕ) where
 
     pub each_once : AreShardsOf problem shards → 1 ≤ workers → length results ≡ workers → AddedEachOnce problem lists
     each_once are some all = λ home within weight.
-        ap (sum_by weight) (column_made home 0 lists within (λ k list at. let both = done_at k list at in (both.0.all ∙ are.sixteen, subst (λ w. All (λ pass. made pass ≡ map entry_of (share_of w workers (block_count problem))) list.items) (sym (plain k)) both.1)))
+        ap (sum_by weight) (column_made home 0 lists within (λ k list at. let both = done_at k list at in (both.0.all ∙ are.all, subst (λ w. All (λ pass. made pass ≡ map entry_of (share_of w workers (block_count problem))) list.items) (sym (plain k)) both.1)))
         ∙ ap (λ (n : ℕ). sum_by weight (flat_map (λ w. map entry_of (share_of w workers (block_count problem))) (range_with_len 0 n))) (given.all ∙ all)
         ∙ entries_flat (range_with_len 0 workers) weight
         ∙ shares_are_all workers (block_count problem) some weight

@@ -4,12 +4,11 @@ use Rattle.std.specs.List.{range_with_len}
 use Rattle.std.specs.declared.alloc.Global.{Global}
 use Rattle.std.specs.declared.vec.Vec.{Vec}
 use Rattle.mine_model.specs.declared.memory.NoMemory.{NoMemory}
-use Rattle.mine_model.specs.Counted.{HasPairs, told_of}
-use Rattle.fst_simulate.specs.Problems.{Problem}
+use Rattle.mine_model.specs.Counted.{HasPairs, IsTold}
+use Rattle.fst_simulate.specs.Problems.{Problem, data_of}
 use Rattle.turn_lock.specs.Passes.{made}
 use Rattle.count_shards.specs.declared.shards.Shards.{Shards}
 use Rattle.count_shards.specs.Blocks.{sequences_in, block_count, SumsBy}
-use Rattle.fst_simulate.specs.Problems.{data_of}
 use Rattle.count_shards.specs.Shard.{entry_of}
 use Rattle.count_shards.specs.Shards.{ShardPass, PassLists, ArePassesOf}
 use Rattle.count_engine.specs.declared.hands.Hand.{Hand}
@@ -27,10 +26,6 @@ made_by problem worker workers = map entry_of (share_of worker workers (block_co
 abbrev pub HasBlockPairs : Problem → List ℕ → ℕ → Type 0
 HasBlockPairs problem blocks n =
     SumsBy (λ block m. HasPairs (data_of problem) (sequences_in problem block) m) blocks n
-
--- it is what is told of the number that has the property
-abbrev pub IsTold : (ℕ → Type 0) → ℕ → Type 0
-IsTold Has told = (n : ℕ) × Has n × (told ≡ told_of n)
 
 -- a worker of so many begins with one pass of each shard, and they made nothing
 pub record IsHandOf (shards : Shards) (workers : ℕ) (hand : Hand) : Type 0 where

@@ -1,8 +1,9 @@
 ghost use Rattle.std.specs.Prelude.{◌≡◌, ◌≤◌, ◌<◌, ◌++◌, map, IfOk, OnOk};
+ghost use Rattle.mine_model.specs.Counted.{IsTold};
 ghost use Rattle.turn_lock.specs.Passes.{made};
 ghost use Rattle.count_shards.specs.Blocks.{block_count};
 ghost use Rattle.count_shards.specs.Shards.{AreShardsOf, ArePassesOf};
-ghost use Rattle.count_engine.specs.Shares.{share_of, made_by, HasBlockPairs, IsTold};
+ghost use Rattle.count_engine.specs.Shares.{share_of, made_by, HasBlockPairs};
 
 use count_shards::{BlockCounts, Shard, Shards};
 use fst_simulate::Job;

@@ -5,23 +5,11 @@ use Rattle.std.proofs.lemmas.Bool.{cases_eq}
 use Rattle.std.proofs.lemmas.List.{get_or-take, length-take-le, take_more}
 use Rattle.std.proofs.lemmas.List.Elements.{Contains-append_left, Contains-push, Contains-push_cases}
 use Rattle.std.proofs.lemmas.Option.{slice_get_within, get_or_from_slice_get}
-use Rattle.std.proofs.lemmas.List.Sums.{get_or-le-sum_by}
 use Rattle.mine_model.proofs.ListLemmas.{Contains-cases, Contains-first, Contains-none}
-use Rattle.mine_model.proofs.OnceLemmas.{one, one-same, one-cases, one-found}
+use Rattle.mine_model.proofs.OnceLemmas.{same_list_or_not}
 use Rattle.pattern_counts.specs.Tally.{Tally, no_lists, sum_of, Adds}
-use Rattle.count_shards.specs.Blocks.{home_of}
-use Rattle.count_shards.specs.Tallied.{tally_at, sum_at, AddsEach}
-
--- ---- whether a list is there
-
-pub same_list_or_not : (xs ys : List ℕ) → (xs ≡ ys) ⊎ (xs ≢ ys)
-same_list_or_not xs ys = elim (one-cases xs ys) [ inl same ↦ inl same | inr none ↦ inr (λ same. omega (arith, one-same xs ys same, none)) ]
-
-pub list_or_not : (lists : List (List ℕ)) (list : List ℕ) → Contains lists list ⊎ (Contains lists list → ⊥)
-list_or_not lists list = elim (one-found list lists) [
-  | inl there ↦ inl there
-  | inr none ↦ inr (λ h. omega (arith, get_or-le-sum_by (one list) lists h.0 list h.1, one-same list (get_or lists h.0 list) (sym h.2), none))
-]
+use Rattle.count_shards.specs.Blocks.{home_of, tally_of}
+use Rattle.count_shards.specs.Tallied.{sum_at, AddsEach}
 
 -- an element of a list without repetitions is not among those before it
 pub not_before : {X : Type 0} (xs : List X) (i : ℕ) (x : X) → AllPairs (λ first second. first ≢ second) xs → slice_get xs i ≡ Some x → Contains (take i xs) x → ⊥
@@ -37,20 +25,20 @@ take_one xs i x at = take_more xs i x (slice_get_within xs i x at) ∙ ap (λ y.
 -- ---- a list is added in its home
 
 pub adds_home : (old : List Tally) (home weight : ℕ) (list : List ℕ) (tally : Tally) → home ≡ home_of list → home < length old
-    → Adds list weight (tally_at old home) tally → AddsEach (list ∷ []) weight old (set old home tally)
+    → Adds list weight (tally_of old home) tally → AddsEach (list ∷ []) weight old (set old home tally)
 adds_home old home weight list tally is within adds =
-    let here : tally_at (set old home tally) home ≡ tally = get_or-set_same old home tally no_lists within in
-    let there : (other : ℕ) → other ≢ home → tally_at (set old home tally) other ≡ tally_at old other = λ other apart. get_or-set_other old home other tally no_lists apart in
-    let kept : (other : List ℕ) (place : ℕ) → other ≢ list → sum_of (tally_at (set old home tally) place) other ≡ sum_of (tally_at old place) other = λ other place apart.
+    let here : tally_of (set old home tally) home ≡ tally = get_or-set_same old home tally no_lists within in
+    let there : (other : ℕ) → other ≢ home → tally_of (set old home tally) other ≡ tally_of old other = λ other apart. get_or-set_other old home other tally no_lists apart in
+    let kept : (other : List ℕ) (place : ℕ) → other ≢ list → sum_of (tally_of (set old home tally) place) other ≡ sum_of (tally_of old place) other = λ other place apart.
     elim (cases_eq place home) [
-      | inl same ↦ ap (λ p. sum_of (tally_at (set old home tally) p) other) same ∙ ap (λ t. sum_of t other) here ∙ adds.others other apart ∙ ap (λ p. sum_of (tally_at old p) other) (sym same)
+      | inl same ↦ ap (λ p. sum_of (tally_of (set old home tally) p) other) same ∙ ap (λ t. sum_of t other) here ∙ adds.others other apart ∙ ap (λ p. sum_of (tally_of old p) other) (sym same)
       | inr elsewhere ↦ ap (λ t. sum_of t other) (there place elsewhere)
     ] in
     record {
       among = λ other h. elim (Contains-cases list [] other h) [
         | inl same ↦
             let now : sum_at (set old home tally) list ≡ sum_at old list + weight =
-            ap (λ p. sum_of (tally_at (set old home tally) p) list) (sym is) ∙ ap (λ t. sum_of t list) here ∙ adds.here ∙ ap (λ p. sum_of (tally_at old p) list + weight) is in
+            ap (λ p. sum_of (tally_of (set old home tally) p) list) (sym is) ∙ ap (λ t. sum_of t list) here ∙ adds.here ∙ ap (λ p. sum_of (tally_of old p) list + weight) is in
             subst (λ x. sum_at (set old home tally) x ≡ sum_at old x + weight) (sym same) now
         | inr nothing ↦ absurd (Contains-none other nothing)
       ];

@@ -5,11 +5,11 @@ use Rattle.std.specs.declared.alloc.Global.{Global}
 use Rattle.std.specs.declared.vec.Vec.{Vec}
 use Rattle.std.proofs.lemmas.Bool.{cases_eq}
 use Rattle.std.proofs.lemmas.List.Elements.{filter_map-append}
-use Rattle.std.proofs.lemmas.Option.{none-some, slice_get_within}
+use Rattle.std.proofs.lemmas.Option.{same_Some, none-some, slice_get_within}
 use Rattle.mine_model.proofs.ElementLemmas.{get-some}
 use Rattle.count_shards.specs.Shards.{column}
 use Rattle.count_shards.specs.Columns.{Rows, IsDealt}
-use Rattle.count_shards.proofs.Lists.{get_set_same, get_set_other, same_some}
+use Rattle.mine_model.proofs.ElementLemmas.{get_set_same, get_set_other}
 
 module _ {T : Type 0} where
   -- each row reaches past the place
@@ -54,7 +54,7 @@ module _ {T : Type 0} where
     behind = λ k list past at. elim (cases_eq k n) [
       | inl same ↦
           let here : slice_get (set lists n is) n ≡ Some list = subst (λ (i : ℕ). slice_get (set lists n is) i ≡ Some list) same at in
-          let list_is : is ≡ list = same_some is list (sym (get_set_same lists n was is at_lists) ∙ here) in
+          let list_is : is ≡ list = same_Some is list (sym (get_set_same lists n was is at_lists) ∙ here) in
           let before : slice_get old k ≡ Some was = ap (slice_get old) same ∙ sym (dealt.before n (omega arith)) ∙ at_lists in
           (was, item, before, ap (slice_get row) same ∙ at_row, sym (ap (λ (v : Vec T Global). v.items) list_is) ∙ longer)
       | inr apart ↦ dealt.behind k list (omega (arith, past, apart)) (sym (get_set_other lists n k is apart) ∙ at)

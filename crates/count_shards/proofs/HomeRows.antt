@@ -7,44 +7,31 @@ use Rattle.mine_model.specs.declared.item.Item.{Item}
 use Rattle.mine_model.specs.declared.row.Row.{Row}
 use Rattle.mine_model.specs.Numbered.{tree_of, AreFrequent}
 use Rattle.mine_model.specs.Support.{Sequence, Counts, HasSupport}
-use Rattle.mine_model.specs.Ranks.{IsFrequentItem, IsCandidateOf, AreRanked}
+use Rattle.mine_model.specs.Candidates.{IsFrequentItem, IsCandidate}
+use Rattle.mine_model.specs.Ranks.{AreRanked}
 use Rattle.mine_model.proofs.RankedLemmas.{ranked-same, ranked-all, ranked-bounds, same_ranks}
 use Rattle.mine_model.specs.Answer.{IsFrequent}
-use Rattle.mine_model.proofs.ListLemmas.{AllPairs-append, Contains-none}
-use Rattle.mine_model.proofs.SupportLemmas.{Counts-unique, Counts-some}
+use Rattle.mine_model.proofs.ListLemmas.{AllByRecursion-weaker, AllPairs-append, Contains-none}
+use Rattle.mine_model.proofs.SupportLemmas.{Counts-unique, Counts-one}
 use Rattle.mine_model.proofs.FrequencyLemmas.{Counts-by, frequencies-known, support-by_candidates, HasFrequency-within}
-use Rattle.fst_simulate.specs.Problems.{Problem, IsWhole}
+use Rattle.fst_simulate.specs.Problems.{Problem, IsWhole, data_of}
 use Rattle.pattern_counts.specs.Tally.{Tally, sum_of}
 use Rattle.count_shards.specs.Blocks.{home_of, HasCandidate}
-use Rattle.fst_simulate.specs.Problems.{data_of}
 use Rattle.count_shards.specs.Rows.{IsCountedRow, AppendsRows}
 use Rattle.count_shards.specs.Shards.{IsRowOf, AppendsHome, AreRowsFrom}
-
-each_sequence : (xs : List (Sequence Item)) → AllByRecursion (λ s. Unit {0}) xs
-each_sequence [] = tt
-each_sequence (s ∷ xs) = (tt, each_sequence xs)
-
-some_sequence : (Has : List Item → Type 0) (sequences : List (Sequence Item)) (n : ℕ) → Counts Has sequences n → 1 ≤ n → (items : List Item) × Has items
-some_sequence Has sequences n counted some =
-    let w = Counts-some Has (λ items. Unit {0}) sequences n counted some (each_sequence sequences) in
-    (w.0, w.1)
-
-weaker : (P Q : Item → Type 0) → ((v : Item) → P v → Q v) → (items : List Item) → AllByRecursion P items → AllByRecursion Q items
-weaker P Q follows [] all = tt
-weaker P Q follows (v ∷ items) all = (follows v all.0, weaker P Q follows items all.1)
 
 module _ (problem : Problem) (whole : IsWhole problem) where
   abbrev pub IsFrequentOf : Item → Type 0
   IsFrequentOf = IsFrequentItem problem.hierarchy.links problem.sequences problem.threshold
 
   abbrev pub IsCandidateFrom : List Item → List Item → Type 0
-  IsCandidateFrom pattern items = IsCandidateOf problem.hierarchy.links (tree_of problem.machine.expression) IsFrequentOf items pattern
+  IsCandidateFrom pattern items = IsCandidate (data_of problem) items pattern
 
   -- a list that is counted has ranks of the order
   pub counted_ranks : (list : List ℕ) (n : ℕ) → Counts (HasCandidate problem list) problem.sequences n → 1 ≤ n
       → All (λ rank. (1 ≤ rank) × (rank ≤ length problem.ranking.order)) list
   counted_ranks list n counted some =
-      let w = some_sequence (HasCandidate problem list) problem.sequences n counted some in
+      let w = Counts-one (HasCandidate problem list) problem.sequences n counted some in
       λ k d below. ranked-bounds problem.ranking.order w.1.0 list w.1.2 (get_or list k d) (Contains-get_or list k d below)
 
   -- ---- the rows of one shard
@@ -146,7 +133,7 @@ module _ (problem : Problem) (whole : IsWhole problem) where
     frequent_of_row : (home : ℕ) (row : Row) → IsRowOf problem home row → IsFrequent (data_of problem) row.pattern row.support
     frequent_of_row home row r =
         let candidates = Counts-by (HasCandidate problem r.list) (IsCandidateFrom row.pattern) (by_ranks r.list row.pattern r.ranked) problem.sequences row.support r.counted in
-        let w = some_sequence (IsCandidateFrom row.pattern) problem.sequences row.support candidates (omega (arith, whole.least, r.enough)) in
+        let w = Counts-one (IsCandidateFrom row.pattern) problem.sequences row.support candidates (omega (arith, whole.least, r.enough)) in
         record {
           not_empty = w.1.generated.0;
           exact = (by_candidates row.pattern row.support r.enough).1 candidates;
@@ -156,8 +143,8 @@ module _ (problem : Problem) (whole : IsWhole problem) where
     row_of_frequent : (row : Row) → IsFrequent (data_of problem) row.pattern row.support → (home : ℕ) × (0 ≤ home) × (home < 16) × IsRowOf problem home row
     row_of_frequent row f =
         let candidates = (by_candidates row.pattern row.support f.enough).0 f.exact in
-        let w = some_sequence (IsCandidateFrom row.pattern) problem.sequences row.support candidates (omega (arith, whole.least, f.enough)) in
-        let held = weaker IsFrequentOf (Contains problem.ranking.order) (λ v is. (whole.ranks.frequent v).1 is) row.pattern w.1.allowed in
+        let w = Counts-one (IsCandidateFrom row.pattern) problem.sequences row.support candidates (omega (arith, whole.least, f.enough)) in
+        let held = AllByRecursion-weaker IsFrequentOf (Contains problem.ranking.order) (λ v is. (whole.ranks.frequent v).1 is) row.pattern w.1.allowed in
         let ranks = ranked-all problem.ranking.order row.pattern held in
         let same = by_ranks ranks.0 row.pattern ranks.1 in (
           home_of ranks.0,
@@ -188,7 +175,7 @@ module _ (problem : Problem) (whole : IsWhole problem) where
         let r = (all.exact row).0 h in
         let f = frequent_of_row r.0 row r.3 in
         let candidates = (by_candidates row.pattern row.support f.enough).0 f.exact in
-        let w = some_sequence (IsCandidateFrom row.pattern) problem.sequences row.support candidates (omega (arith, whole.least, f.enough)) in
-        weaker IsFrequentOf (λ t. t.0 < problem.hierarchy.items)
+        let w = Counts-one (IsCandidateFrom row.pattern) problem.sequences row.support candidates (omega (arith, whole.least, f.enough)) in
+        AllByRecursion-weaker IsFrequentOf (λ t. t.0 < problem.hierarchy.items)
         (λ v is. HasFrequency-within problem.hierarchy.links problem.hierarchy.items ends problem.sequences v is.frequency whole.items is.exact (omega (arith, whole.least, is.enough)))
         row.pattern w.1.allowed

@@ -13,10 +13,9 @@ use Rattle.mine_model.specs.Ranks.{AreRanked, AreAllRanked}
 use Rattle.mine_model.specs.Support.{Sequence}
 use Rattle.mine_model.proofs.RankedLemmas.{same_ranks}
 use Rattle.mine_model.proofs.ListLemmas.{Contains-first, Contains-other}
-use Rattle.fst_simulate.specs.Problems.{Problem, IsWhole, items_of}
+use Rattle.fst_simulate.specs.Problems.{Problem, IsWhole, data_of, items_of}
 use Rattle.candidate_gen.specs.Candidates.{AreCandidateRanks, AreCandidates, IsEarlier, ComesEarlier}
 use Rattle.candidate_gen.proofs.CandidateLemmas.{patterns-all}
-use Rattle.fst_simulate.specs.Problems.{data_of}
 use Rattle.count_shards.specs.Tallied.{ArePairs}
 
 -- a list does not come before itself

@@ -4,7 +4,7 @@ use Rattle.std.specs.List.{All, range_with_len}
 use Rattle.std.specs.declared.alloc.Global.{Global}
 use Rattle.std.specs.declared.vec.Vec.{Vec}
 use Rattle.std.proofs.lemmas.Bool.{cases_eq, cases_lt}
-use Rattle.std.proofs.lemmas.Option.{slice_get_within, get_or_from_slice_get}
+use Rattle.std.proofs.lemmas.Option.{same_Some, slice_get_within, get_or_from_slice_get}
 use Rattle.mine_model.specs.Labels.{SameLabels}
 use Rattle.mine_model.proofs.CoverLemmas.{sum_by-flat_map}
 use Rattle.mine_model.proofs.ElementLemmas.{get-some}
@@ -16,7 +16,8 @@ use Rattle.count_shards.specs.Shard.{entry_of, history_of, blocks_of}
 use Rattle.count_shards.specs.Shards.{Lock, ShardPass, PassLists, AreShardsOf, ArePassesOf, AreAllLists, AreNewLists, AddedEachOnce, column}
 use Rattle.count_shards.specs.Merging.{IsOpened, AreOpened, HasMerged}
 use Rattle.count_shards.specs.declared.shards.Shards.{Shards}
-use Rattle.count_shards.proofs.Lists.{get_set_same, get_set_other, get_snoc, same_some, all_at}
+use Rattle.mine_model.proofs.ElementLemmas.{get_set_same, get_set_other, get_snoc}
+use Rattle.count_shards.proofs.Lists.{all_at}
 use Rattle.count_shards.proofs.ColumnLemmas.{Reach, column_length, column_at}
 use Rattle.count_shards.proofs.ShardLemmas.{history_weight}
 
@@ -70,7 +71,7 @@ module _ (problem : Problem) (workers homes : ℕ) (shards : Shards) (lists : Pa
 
   pub opened_shards : homes ≡ 16 → AreShardsOf problem shards
   opened_shards e = record {
-    sixteen = opened.lock_count ∙ e;
+    all = opened.lock_count ∙ e;
     each = λ home lock at. (opened_at home lock at).2.ground;
   }
 
@@ -115,8 +116,8 @@ merged_more block start home old middle new was is from at e more merged = rw e 
     | inl same ↦
         let before : slice_get old h ≡ Some was = sym (merged.outside h (inr (omega (arith, same)))) ∙ ap (slice_get middle) same ∙ at in
         let after : slice_get (set middle home is) h ≡ Some is = ap (slice_get (set middle home is)) same ∙ get_set_same middle home was is at in
-        let w_is : was ≡ w = same_some was w (sym before ∙ at_old) in
-        let i_is : is ≡ i = same_some is i (sym after ∙ at_new) in
+        let w_is : was ≡ w = same_Some was w (sym before ∙ at_old) in
+        let i_is : is ≡ i = same_Some is i (sym after ∙ at_new) in
         subst (λ (p : ShardPass). made p ≡ made w ++ entry_of block ∷ []) i_is (subst (λ (p : ShardPass). made is ≡ made p ++ entry_of block ∷ []) w_is more)
     | inr apart ↦ merged.inside h w i low (omega (arith, below, apart)) at_old (sym (get_set_other middle home h is apart) ∙ at_new)
   ];
@@ -134,8 +135,8 @@ passes_kept shards home old new lock was is at_lock at e pass are = rw e (record
   each = λ h l p at_l at_p. elim (cases_eq h home) [
     | inl same ↦
         let after : slice_get (set old home is) h ≡ Some is = ap (slice_get (set old home is)) same ∙ get_set_same old home was is at in
-        let p_is : is ≡ p = same_some is p (sym after ∙ at_p) in
-        let l_is : lock ≡ l = same_some lock l (sym at_lock ∙ ap (slice_get shards.locks.items) (sym same) ∙ at_l) in
+        let p_is : is ≡ p = same_Some is p (sym after ∙ at_p) in
+        let l_is : lock ≡ l = same_Some lock l (sym at_lock ∙ ap (slice_get shards.locks.items) (sym same) ∙ at_l) in
         subst (IsPassOf l) p_is (subst (λ (k : Lock). IsPassOf k is) l_is pass)
     | inr apart ↦ are.each h l p at_l (sym (get_set_other old home h is apart) ∙ at_p)
   ];

@@ -8,6 +8,7 @@ use Rattle.std.proofs.lemmas.Option.{same_Some, slice_get-get_or, slice_get_with
 use Rattle.mine_model.specs.Names.{AreDistinct}
 use Rattle.mine_model.specs.declared.item.Item.{Item}
 use Rattle.mine_model.specs.declared.row.Row.{Row}
+use Rattle.mine_model.specs.Numbered.{PatternsDiffer}
 use Rattle.mine_model.specs.Ranks.{AreRanked}
 use Rattle.mine_model.proofs.RankedLemmas.{ranked-same, same_ranks}
 use Rattle.pattern_counts.specs.Tally.{Tally, sum_of}
@@ -27,7 +28,7 @@ pub record RowsSoFar (tally : Tally) (order : List Item) (support n : ℕ) (old 
   pub is : rows ≡ old ++ added
   pub from : (row : Row) → Contains added row → (number : ℕ) × (number < n) × IsRowOf tally order support number row
   pub to : (row : Row) (number : ℕ) → number < n → IsRowOf tally order support number row → Contains added row
-  pub each_once : AllPairs (λ first second. first.pattern ≢ second.pattern) added
+  pub each_once : PatternsDiffer added
 
 module _ (tally : Tally) (order : List Item) (support : ℕ) where
   pub rows_begin : (old : List Row) → RowsSoFar tally order support 0 old old

@@ -15,15 +15,15 @@ use Rattle.count_shards.proofs.BlockSums.{sums_more, sums_reordered, sums_all}
 -- one more block
 pub shard_more : (problem : Problem) (home number : ℕ) (old new : Tally) (added next : List (ℕ × ℕ)) (block : Block)
     → IsShard (record { problem = problem; home = home; tally = old; added = added }) → AreCountsOf problem block.number block
-    → AddsAll (tally_of block home) old new → next ≡ added ++ (number, block.number) ∷ []
+    → AddsAll (tally_of block.tallies home) old new → next ≡ added ++ (number, block.number) ∷ []
     → IsShard (record { problem = problem; home = home; tally = new; added = next })
 shard_more problem home number old new added next block is counts adds e =
     let blocks : blocks_of next ≡ blocks_of added ++ block.number ∷ [] = ap blocks_of e ∙ map-append (λ (c : ℕ × ℕ). c.1) added ((number, block.number) ∷ []) in
     record {
       within = is.within;
       exact = λ ranks at.
-          (let one = subst (λ (h : ℕ). InBlock problem block.number ranks (sum_of (tally_of block h) ranks)) at (counts.exact ranks) in
-          rw (blocks, adds ranks) (sums_more (λ b m. InBlock problem b ranks m) (blocks_of added) block.number (sum_of old ranks) (sum_of (tally_of block home) ranks) (is.exact ranks at) one));
+          (let one = subst (λ (h : ℕ). InBlock problem block.number ranks (sum_of (tally_of block.tallies h) ranks)) at (counts.exact ranks) in
+          rw (blocks, adds ranks) (sums_more (λ b m. InBlock problem b ranks m) (blocks_of added) block.number (sum_of old ranks) (sum_of (tally_of block.tallies home) ranks) (is.exact ranks at) one));
       homes = λ ranks apart. omega (arith, adds ranks, is.homes ranks apart, counts.homes home ranks apart);
       most = λ ranks. omega (arith, adds ranks, is.most ranks, counts.most home ranks, ap length e, length-append added ((number, block.number) ∷ []));
     }

@@ -13,9 +13,9 @@ use Rattle.mine_model.proofs.FrequencyLemmas.{Counts-append, Counts-most}
 use Rattle.fst_simulate.specs.Problems.{Problem}
 use Rattle.candidate_gen.specs.Candidates.{AreCandidateRanks}
 use Rattle.pattern_counts.specs.Tally.{Tally, no_lists, sum_of}
-use Rattle.count_shards.specs.Blocks.{home_of, sequences_in, HasCandidate}
-use Rattle.count_shards.specs.Tallied.{tally_at, sum_at, AddsEach, AreTallied}
-use Rattle.count_shards.proofs.AddLemmas.{list_or_not}
+use Rattle.count_shards.specs.Blocks.{home_of, sequences_in, HasCandidate, tally_of}
+use Rattle.count_shards.specs.Tallied.{sum_at, AddsEach, AreTallied}
+use Rattle.mine_model.proofs.OnceLemmas.{list_or_not}
 
 -- ---- sequences by their numbers
 
@@ -55,7 +55,7 @@ between_block problem block first end is within ends =
 
 -- ---- the sums
 
-tally_none : (tallies : List Tally) (home : ℕ) → All (λ tally. tally ≡ no_lists) tallies → tally_at tallies home ≡ no_lists
+tally_none : (tallies : List Tally) (home : ℕ) → All (λ tally. tally ≡ no_lists) tallies → tally_of tallies home ≡ no_lists
 tally_none tallies home none = elim (cases_lt home (length tallies)) [
   | inl below ↦ none home no_lists below
   | inr past ↦ get_or_past tallies home no_lists past
@@ -96,13 +96,13 @@ light sequences limits first last =
 
 -- no sum of a block is greater than that of its greatest weights
 pub tallied_most : (problem : Problem) (first last : ℕ) (tallies : List Tally) → All IsWithinLimits problem.sequences → last ≤ first + 256 → last ≤ length problem.sequences
-    → AreTallied problem (sequences_between problem.sequences first last) tallies → (home : ℕ) (list : List ℕ) → sum_of (tally_at tallies home) list ≤ 256 * most_weight
+    → AreTallied problem (sequences_between problem.sequences first last) tallies → (home : ℕ) (list : List ℕ) → sum_of (tally_of tallies home) list ≤ 256 * most_weight
 tallied_most problem first last tallies limits few within tallied home list = elim (cases_eq (home_of list) home) [
   | inl same ↦
       let done = sequences_between problem.sequences first last in
       let bound : sum_at tallies list ≤ length done * most_weight = Counts-most (HasCandidate problem list) most_weight done (sum_at tallies list) (light problem.sequences limits first last) (tallied.exact list) in
       let short : length done ≤ 256 = omega (arith, length-take (last - first) (drop first problem.sequences), min-le_left (last - first) (length (drop first problem.sequences)), few) in
-      let here : sum_at tallies list ≡ sum_of (tally_at tallies home) list = ap (λ h. sum_of (tally_at tallies h) list) same in
+      let here : sum_at tallies list ≡ sum_of (tally_of tallies home) list = ap (λ h. sum_of (tally_of tallies h) list) same in
       grind arith
   | inr apart ↦ omega (arith, tallied.homes home list apart)
 ]

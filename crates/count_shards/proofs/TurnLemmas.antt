@@ -3,13 +3,14 @@ use Rattle.std.proofs.Common.{◌≡◌, ℕ, zero, suc, ◌+◌, ◌<◌, inl, 
 use Rattle.std.specs.List.{cons_option, flat_map}
 use Rattle.std.proofs.lemmas.Bool.{cases_eq}
 use Rattle.std.proofs.lemmas.List.Sums.{sum_by-append, sum_by-cons}
-use Rattle.std.proofs.lemmas.Option.{slice_get_within, get_or_from_slice_get}
+use Rattle.std.proofs.lemmas.Option.{same_Some, slice_get_within, get_or_from_slice_get}
 use Rattle.mine_model.proofs.ElementLemmas.{get-some}
 use Rattle.turn_lock.specs.Passes.{made}
 use Rattle.count_shards.specs.Shard.{entry_of}
 use Rattle.count_shards.specs.Shards.{ShardPass, PassLists, ArePassesOf, AreAllLists, AreNewLists, column}
 use Rattle.count_shards.specs.declared.shards.Shards.{Shards}
-use Rattle.count_shards.proofs.Lists.{get_set_same, get_set_other, same_some, all_at}
+use Rattle.mine_model.proofs.ElementLemmas.{get_set_same, get_set_other}
+use Rattle.count_shards.proofs.Lists.{all_at}
 use Rattle.count_shards.proofs.PassLemmas.{PassList}
 
 made_of : Option ShardPass → List (List ℕ)
@@ -33,7 +34,7 @@ front_none (Some pass) none = none pass refl
 front_some : (first : Option ShardPass) (pass : ShardPass) → first ≡ Some pass → made_of first ≡ made pass
 unfolding made_of
 front_some None pass e = absurd (cc)
-front_some (Some p) pass e = ap made (same_some p pass e)
+front_some (Some p) pass e = ap made (same_Some p pass e)
 
 module _ (weight : List ℕ → ℕ) (home : ℕ) where
   none_added : (lists : PassLists) → ((worker : ℕ) (list : PassList) → slice_get lists worker ≡ Some list → (pass : ShardPass) → slice_get list.items home ≡ Some pass → made pass ≡ []) → added_at weight home lists ≡ 0
@@ -51,7 +52,7 @@ module _ (weight : List ℕ → ℕ) (home : ℕ) where
       → added_at weight home (set lists worker new) ≡ added_at weight home lists + weight (entry_of block)
   one_added [] worker old new block was is at at_was at_is more = absurd (cc)
   one_added (list ∷ lists) zero old new block was is at at_was at_is more =
-      let same : list ≡ old = same_some list old at in
+      let same : list ≡ old = same_Some list old at in
       let before : sum_by weight (made_of (slice_get list.items home)) ≡ sum_by weight (made was) = ap (sum_by weight) (front_some (slice_get list.items home) was (ap (λ (l : PassList). slice_get l.items home) same ∙ at_was)) in
       let after : sum_by weight (made_of (slice_get new.items home)) ≡ sum_by weight (made was ++ entry_of block ∷ []) = ap (sum_by weight) (front_some (slice_get new.items home) is at_is ∙ more) in
       omega (arith, before, after, front_sum weight (slice_get list.items home) (column home lists), front_sum weight (slice_get new.items home) (column home lists), sum_by-append weight (made was) (entry_of block ∷ []), sum_by-cons weight (entry_of block) [])
@@ -63,7 +64,7 @@ map_at f g [] ys k x y e at_x at_y = absurd (cc)
 map_at f g (a ∷ xs) [] k x y e at_x at_y = absurd (cc)
 map_at f g (a ∷ xs) (b ∷ ys) zero x y e at_x at_y =
     let first : f b ≡ g a = cc in
-    ap f (sym (same_some b y at_y)) ∙ first ∙ ap g (same_some a x at_x)
+    ap f (sym (same_Some b y at_y)) ∙ first ∙ ap g (same_Some a x at_x)
 map_at f g (a ∷ xs) (b ∷ ys) (suc k) x y e at_x at_y =
     let rest : map f ys ≡ map g xs = cc in
     map_at f g xs ys k x y rest at_x at_y
@@ -75,7 +76,7 @@ module _ (shards : Shards) (lists : PassLists) (worker : ℕ) (old new : PassLis
     each = all_at (λ (list : PassList). ArePassesOf shards list.items) (set lists worker new) (λ k list there. elim (cases_eq k worker) [
       | inl same ↦
           let here : slice_get (set lists worker new) worker ≡ Some list = subst (λ (i : ℕ). slice_get (set lists worker new) i ≡ Some list) same there in
-          subst (λ (l : PassList). ArePassesOf shards l.items) (same_some new list (sym (get_set_same lists worker old new at) ∙ here)) are
+          subst (λ (l : PassList). ArePassesOf shards l.items) (same_Some new list (sym (get_set_same lists worker old new at) ∙ here)) are
       | inr apart ↦
           let before : slice_get lists k ≡ Some list = sym (get_set_other lists worker k new apart) ∙ there in
           subst (λ (l : PassList). ArePassesOf shards l.items) (get_or_from_slice_get lists k list list before) (all.each k list (slice_get_within lists k list before))
@@ -85,8 +86,8 @@ module _ (shards : Shards) (lists : PassLists) (worker : ℕ) (old new : PassLis
 
   pub turn_added : length shards.locks.items ≡ 16 → map made new.items ≡ map (λ (pass : ShardPass). made pass ++ entry_of block ∷ []) old.items → (home : ℕ) (weight : List ℕ → ℕ) → home < 16
       → added_at weight home (set lists worker new) ≡ added_at weight home lists + weight (entry_of block)
-  turn_added sixteen e home weight within =
+  turn_added whole e home weight within =
       let before : ArePassesOf shards old.items = subst (λ (l : PassList). ArePassesOf shards l.items) (get_or_from_slice_get lists worker old old at) (all.each worker old (slice_get_within lists worker old at)) in
-      let (was, at_was) = get-some old.items home (omega (arith, within, sixteen, before.all)) in
-      let (is, at_is) = get-some new.items home (omega (arith, within, sixteen, are.all)) in
+      let (was, at_was) = get-some old.items home (omega (arith, within, whole, before.all)) in
+      let (is, at_is) = get-some new.items home (omega (arith, within, whole, are.all)) in
       one_added weight home lists worker old new block was is at at_was at_is (map_at made (λ (pass : ShardPass). made pass ++ entry_of block ∷ []) old.items new.items home was is e at_was at_is)

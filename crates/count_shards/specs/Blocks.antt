@@ -1,37 +1,42 @@
 -- The blocks of sequences that are counted one by one, and the shards in which their sums are added up.
-use Rattle.std.specs.Prelude.{◌≡◌, ◌≢◌, ℕ, ◌+◌, ◌*◌, ◌/◌, ◌%◌, ◌≤◌, sum, List, [], ◌∷◌, length, take, drop, slice_index_or}
+use Rattle.std.specs.Prelude.{◌≡◌, ◌≢◌, ℕ, ◌+◌, ◌-◌, ◌*◌, ◌/◌, ◌%◌, ◌≤◌, sum, List, [], ◌∷◌, length, take, drop, slice_index_or}
 use Rattle.mine_model.specs.declared.item.Item.{Item}
-use Rattle.mine_model.specs.Answer.{Data}
-use Rattle.mine_model.specs.Counted.{HasPairs, told_of}
+use Rattle.mine_model.specs.Candidates.{IsCandidate}
+use Rattle.mine_model.specs.Counted.{HasPairs, IsTold}
 use Rattle.mine_model.specs.Limits.{most_weight}
-use Rattle.mine_model.specs.Numbered.{tree_of}
-use Rattle.mine_model.specs.Ranks.{IsFrequentItem, IsCandidateOf, AreRanked}
+use Rattle.mine_model.specs.Ranks.{AreRanked}
 use Rattle.mine_model.specs.Support.{Sequence, Counts}
-use Rattle.fst_simulate.specs.Problems.{data_of, Problem}
+use Rattle.fst_simulate.specs.Problems.{Problem, data_of}
 use Rattle.pattern_counts.specs.Tally.{Tally, no_lists, sum_of}
 
 -- ---- blocks and homes
 
+-- how many sequences a block has; the last one may have fewer
+abbrev pub block_size : ℕ
+block_size = 256
+
+-- how many homes there are, each with a shard of its own
+abbrev pub home_count : ℕ
+home_count = 16
+
 -- the sequences of the block with this number, counted from 0
 abbrev pub sequences_in : Problem → ℕ → List (Sequence Item)
-sequences_in problem block = take 256 (drop (256 * block) problem.sequences)
+sequences_in problem block = take block_size (drop (block_size * block) problem.sequences)
 
--- how many blocks there are; the last one may have fewer sequences
+-- how many blocks there are
 abbrev pub block_count : Problem → ℕ
-block_count problem = (length problem.sequences + 255) / 256
+block_count problem = (length problem.sequences + (block_size - 1)) / block_size
 
 -- the number of the shard in which a list of ranks is counted
 abbrev pub home_of : List ℕ → ℕ
-home_of ranks = sum ranks % 16
+home_of ranks = sum ranks % home_count
 
 -- ---- what is counted
 
 -- the items generate a candidate with these ranks
 abbrev pub HasCandidate : Problem → List ℕ → List Item → Type 0
 HasCandidate problem ranks items =
-    (pattern : List Item)
-    × IsCandidateOf problem.hierarchy.links (tree_of problem.machine.expression)
-    (IsFrequentItem problem.hierarchy.links problem.sequences problem.threshold) items pattern
+    (pattern : List Item) × IsCandidate (data_of problem) items pattern
     × AreRanked problem.ranking.order pattern ranks
 
 -- n is the sum of the weights of the sequences of the block that have the candidate with these ranks
@@ -56,16 +61,16 @@ pub record Block : Type 0 where
   pub tallies : List Tally
   pub pairs : ℕ
 
-abbrev pub tally_of : Block → ℕ → Tally
-tally_of block home = slice_index_or block.tallies home no_lists
+-- the tally of a home
+abbrev pub tally_of : List Tally → ℕ → Tally
+tally_of tallies home = slice_index_or tallies home no_lists
 
 -- each list of ranks has its sum in the tally of its home, and in no other
 pub record AreCountsOf (problem : Problem) (number : ℕ) (block : Block) : Type 0 where
   pub same : block.problem ≡ problem
   pub at : block.number ≡ number
-  pub sixteen : length block.tallies ≡ 16
-  pub exact : (ranks : List ℕ) → InBlock problem number ranks (sum_of (tally_of block (home_of ranks)) ranks)
-  pub homes : (home : ℕ) (ranks : List ℕ) → home_of ranks ≢ home → sum_of (tally_of block home) ranks ≡ 0
-  pub most : (home : ℕ) (ranks : List ℕ) → sum_of (tally_of block home) ranks ≤ 256 * most_weight
-  pub pairs : (n : ℕ) × HasPairs (data_of problem) (sequences_in problem number) n
-      × (block.pairs ≡ told_of n)
+  pub all : length block.tallies ≡ home_count
+  pub exact : (ranks : List ℕ) → InBlock problem number ranks (sum_of (tally_of block.tallies (home_of ranks)) ranks)
+  pub homes : (home : ℕ) (ranks : List ℕ) → home_of ranks ≢ home → sum_of (tally_of block.tallies home) ranks ≡ 0
+  pub most : (home : ℕ) (ranks : List ℕ) → sum_of (tally_of block.tallies home) ranks ≤ block_size * most_weight
+  pub pairs : IsTold (HasPairs (data_of problem) (sequences_in problem number)) block.pairs

@@ -2,6 +2,7 @@
 use Rattle.std.specs.Prelude.{◌≡◌, ◌≢◌, ℕ, ◌≤◌, ◌↔◌, List, ◌++◌, AllPairs, Contains}
 use Rattle.mine_model.specs.declared.item.Item.{Item}
 use Rattle.mine_model.specs.declared.row.Row.{Row}
+use Rattle.mine_model.specs.Numbered.{PatternsDiffer}
 use Rattle.mine_model.specs.Ranks.{AreRanked}
 use Rattle.pattern_counts.specs.Tally.{Tally, sum_of}
 
@@ -16,5 +17,5 @@ pub record IsCountedRow (tally : Tally) (order : List Item) (support : ℕ) (row
 pub record AppendsRows (tally : Tally) (order : List Item) (support : ℕ) (old new : List Row) : Type 0 where
   pub added : List Row
   pub is : new ≡ old ++ added
-  pub once : AllPairs (λ first second. first.pattern ≢ second.pattern) added
+  pub once : PatternsDiffer added
   pub exact : (row : Row) → Contains added row ↔ IsCountedRow tally order support row

@@ -4,7 +4,7 @@ use Rattle.mine_model.specs.Limits.{most_weight}
 use Rattle.fst_simulate.specs.Problems.{Problem}
 use Rattle.turn_lock.specs.History.{Made}
 use Rattle.pattern_counts.specs.Tally.{Tally, sum_of}
-use Rattle.count_shards.specs.Blocks.{home_of, SumsTo}
+use Rattle.count_shards.specs.Blocks.{block_size, home_count, home_of, SumsTo}
 
 -- the sums of a home, and each block that was added behind the number of the pass that added it
 pub record ShardSums : Type 0 where
@@ -27,8 +27,8 @@ blocks_of added = map (λ c. c.1) added
 
 -- each list of this home has its sum over the blocks that were added, and no other list has a sum
 pub record IsShard (shard : ShardSums) : Type 0 where
-  pub within : shard.home < 16
+  pub within : shard.home < home_count
   pub exact : (ranks : List ℕ) → home_of ranks ≡ shard.home
       → SumsTo shard.problem (blocks_of shard.added) ranks (sum_of shard.tally ranks)
   pub homes : (ranks : List ℕ) → home_of ranks ≢ shard.home → sum_of shard.tally ranks ≡ 0
-  pub most : (ranks : List ℕ) → sum_of shard.tally ranks ≤ length shard.added * (256 * most_weight)
+  pub most : (ranks : List ℕ) → sum_of shard.tally ranks ≤ length shard.added * (block_size * most_weight)

@@ -5,13 +5,14 @@ use Rattle.std.specs.declared.alloc.Global.{Global}
 use Rattle.std.specs.declared.vec.Vec.{Vec}
 use Rattle.mine_model.specs.declared.row.Row.{Row}
 use Rattle.mine_model.specs.Labels.{SameLabels}
+use Rattle.mine_model.specs.Numbered.{PatternsDiffer}
 use Rattle.mine_model.specs.Ranks.{AreRanked}
 use Rattle.mine_model.specs.Support.{Counts}
 use Rattle.fst_simulate.specs.Problems.{Problem}
 use Rattle.turn_lock.specs.Passes.{IsPassOf, number, made, opened_with, pass_count}
 use Rattle.turn_lock.specs.declared.lock.Pass.{Pass}
 use Rattle.turn_lock.specs.declared.lock.TurnLock.{TurnLock}
-use Rattle.count_shards.specs.Blocks.{block_count, home_of, HasCandidate}
+use Rattle.count_shards.specs.Blocks.{block_count, home_count, home_of, HasCandidate}
 use Rattle.count_shards.specs.Shard.{ShardSums, entry_of}
 use Rattle.count_shards.specs.declared.shards.Shards.{Shards}
 
@@ -32,7 +33,7 @@ IsLockOf problem home lock =
 
 -- they are the shards of this problem, each at the place of its home
 pub record AreShardsOf (problem : Problem) (shards : Shards) : Type 0 where
-  pub sixteen : length shards.locks.items ≡ 16
+  pub all : length shards.locks.items ≡ home_count
   pub each : (home : ℕ) (lock : Lock) → slice_get shards.locks.items home ≡ Some lock
       → IsLockOf problem home lock
 
@@ -58,7 +59,7 @@ column place lists = filter_map (λ list. slice_get list.items place) lists
 
 -- the passes of each shard, all workers together, added each block of the problem once
 abbrev pub AddedEachOnce : Problem → PassLists → Type 0
-AddedEachOnce problem lists = (home : ℕ) → home < 16
+AddedEachOnce problem lists = (home : ℕ) → home < home_count
     → SameLabels (flat_map made (column home lists)) (map entry_of (range_with_len 0 (block_count problem)))
 
 -- ---- the rows of one shard
@@ -75,10 +76,10 @@ pub record IsRowOf (problem : Problem) (home : ℕ) (row : Row) : Type 0 where
 pub record AppendsHome (problem : Problem) (home : ℕ) (old new : List Row) : Type 0 where
   pub added : List Row
   pub is : new ≡ old ++ added
-  pub once : AllPairs (λ first second. first.pattern ≢ second.pattern) added
+  pub once : PatternsDiffer added
   pub exact : (row : Row) → Contains added row ↔ IsRowOf problem home row
 
 -- the rows of all homes from this one on, each once
 pub record AreRowsFrom (problem : Problem) (home : ℕ) (rows : List Row) : Type 0 where
-  pub once : AllPairs (λ first second. first.pattern ≢ second.pattern) rows
-  pub exact : (row : Row) → Contains rows row ↔ ((at : ℕ) × (home ≤ at) × (at < 16) × IsRowOf problem at row)
+  pub once : PatternsDiffer rows
+  pub exact : (row : Row) → Contains rows row ↔ ((at : ℕ) × (home ≤ at) × (at < home_count) × IsRowOf problem at row)

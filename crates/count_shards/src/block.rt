@@ -1,6 +1,6 @@
 ghost use Rattle.std.specs.Prelude.{◌≡◌, ◌≢◌, ℕ, ◌+◌, ◌*◌, ◌^◌, ◌<◌, ◌≤◌, List, length, All, AllPairs, IfOk, OnOk};
 ghost use Rattle.pattern_counts.specs.Tally.{no_lists};
-ghost use Rattle.count_shards.specs.Blocks.{home_of, sequences_in, tally_of, AreCountsOf};
+ghost use Rattle.count_shards.specs.Blocks.{block_size, home_count, home_of, sequences_in, tally_of, AreCountsOf};
 ghost use Rattle.count_shards.specs.Tallied.{sum_at, AddsEach, HasCounted};
 
 use candidate_gen::CandidateList;
@@ -29,7 +29,7 @@ pub struct BlockCounts<'a> {
 
 impl<'a> Model for BlockCounts<'a> {
     ghost use Rattle.std.specs.Prelude.{◌≡◌, length};
-    ghost use Rattle.count_shards.specs.Blocks.{Block};
+    ghost use Rattle.count_shards.specs.Blocks.{home_count, Block};
 
     ghost Value = { Block };
 
@@ -45,7 +45,7 @@ impl<'a> Model for BlockCounts<'a> {
       pairs = b.pairs;
     } };
 
-    ghost invariant = { λ b. (b.candidates.problem ≡ b.job.now) × (length b.homes.items ≡ 16) };
+    ghost invariant = { λ b. (b.candidates.problem ≡ b.job.now) × (length b.homes.items ≡ home_count) };
 }
 
 impl<'a> BlockCounts<'a> {
@@ -68,7 +68,7 @@ impl<'a> BlockCounts<'a> {
     /// Counts the candidates of a block, in place of what was counted. After want of memory some of them may
     /// be counted.
     pub fn fill(&mut self, block: u32) -> Result<(), NoMemory>
-        requires { 256 * block < length self.old.problem.sequences }
+        requires { block_size * block < length self.old.problem.sequences }
         ensures problem { self.new.problem ≡ self.old.problem }
         ensures counts { OnOk result (AreCountsOf self.old.problem block self.new) }
     {
@@ -79,8 +79,8 @@ impl<'a> BlockCounts<'a> {
         Ok(())
     }
 
-    /// How many pairs there are of a sequence of the block and a candidate of it, at most 2⁶⁴ - 1. Takes no
-    /// memory.
+    /// What is told of the pairs of a sequence of the block and one of its candidates: how many there are, or
+    /// 2⁶⁴ - 1 where there are more. It is 0 before the first block. Takes no memory.
     pub fn pairs(&self) -> u64
         ensures { result ≡ self.now.pairs }
     {
@@ -96,9 +96,9 @@ impl<'a> BlockCounts<'a> {
 
     /// What is counted in a home. Takes no memory.
     pub(crate) fn home(&self, home: usize) -> &PatternCounts
-        requires { home < 16 }
-        ensures sixteen { length self.now.tallies ≡ 16 }
-        ensures tally { result.now ≡ tally_of self.now home }
+        requires { home < home_count }
+        ensures all { length self.now.tallies ≡ home_count }
+        ensures tally { result.now ≡ tally_of self.now.tallies home }
     {
         &self.homes[home]
     }
@@ -106,7 +106,7 @@ impl<'a> BlockCounts<'a> {
 
 /// The counts of a block.
 pub fn count_block(alloc: Global, job: &Job, block: u32) -> Result<BlockCounts, NoMemory>
-    requires { 256 * block < length job.now.sequences }
+    requires { block_size * block < length job.now.sequences }
     ensures { IfOk result (λ b. AreCountsOf job.now block b) }
 {
     let mut counts = BlockCounts::new(alloc, job)?;
@@ -116,7 +116,7 @@ pub fn count_block(alloc: Global, job: &Job, block: u32) -> Result<BlockCounts, 
 
 // Sixteen counts of nothing.
 fn no_counts(alloc: Global) -> Result<Vec<PatternCounts>, NoMemory>
-    ensures { IfOk result (λ homes. (length homes.items ≡ 16)
+    ensures { IfOk result (λ homes. (length homes.items ≡ home_count)
         × All (λ tally. tally ≡ no_lists) homes.items) }
 {
     let mut homes = Vec::with_capacity(alloc, HOMES as usize)?;
@@ -143,12 +143,12 @@ fn count_all(
     homes: &mut Vec<PatternCounts>,
     block: u32,
 ) -> Result<u64, NoMemory>
-    requires block { 256 * block < length job.now.sequences }
+    requires block { block_size * block < length job.now.sequences }
     requires problem { candidates.old.problem ≡ job.now }
-    requires sixteen { length homes.old.items ≡ 16 }
+    requires all { length homes.old.items ≡ home_count }
     requires nothing { All (λ tally. tally ≡ no_lists) homes.old.items }
     ensures problem { candidates.new.problem ≡ job.now }
-    ensures sixteen { length homes.new.items ≡ 16 }
+    ensures all { length homes.new.items ≡ home_count }
     ensures counted { IfOk result (λ pairs. HasCounted job.now (sequences_in job.now block)
         homes.new.items pairs) }
 {
@@ -172,10 +172,10 @@ fn add_each(
     candidates: &CandidateList,
     weight: u64,
 ) -> Result<(), NoMemory>
-    requires sixteen { length homes.old.items ≡ 16 }
+    requires all { length homes.old.items ≡ home_count }
     requires each_once { AllPairs (λ first second. first ≢ second) candidates.now.listed }
     requires room { (list : List ℕ) → sum_at homes.old.items list + weight < 2 ^ 64 }
-    ensures sixteen { length homes.new.items ≡ 16 }
+    ensures all { length homes.new.items ≡ home_count }
     ensures added { OnOk result (AddsEach candidates.now.listed weight homes.old.items homes.new.items) }
 {
     for i in 0..candidates.len() {
@@ -188,7 +188,7 @@ fn add_each(
 // The home of a list. That sums wrap does not matter, since 16 divides 2³².
 fn home_of(list: &[u32]) -> usize
     ensures home { result ≡ home_of list.now }
-    ensures within { result < 16 }
+    ensures within { result < home_count }
 {
     let mut sum: u32 = 0;
     for rank in list {

@@ -2,7 +2,7 @@ ghost use Rattle.std.specs.Prelude.{◌≡◌, ℕ, ◌<◌, ◌≤◌, List, []
 ghost use Rattle.std.specs.List.{range_with_len};
 ghost use Rattle.mine_model.specs.Labels.{SameLabels};
 ghost use Rattle.pattern_counts.specs.Tally.{no_lists};
-ghost use Rattle.count_shards.specs.Blocks.{block_count, AreCountsOf};
+ghost use Rattle.count_shards.specs.Blocks.{block_count, home_count, AreCountsOf};
 ghost use Rattle.count_shards.specs.Shard.{entry_of, history_of, blocks_of};
 ghost use Rattle.count_shards.specs.Shards.{AppendsHome};
 
@@ -64,7 +64,7 @@ impl Kept for Shard {
 impl Shard {
     /// Nothing is added yet.
     pub(crate) fn new(alloc: Global, job: &Job, home: u32) -> Shard
-        requires { home < 16 }
+        requires { home < home_count }
         ensures { result ≡ record { problem = job.now; home = home; tally = no_lists; added = [] } }
     {
         Shard {

@@ -2,9 +2,9 @@ ghost use Rattle.std.specs.Prelude.{◌≡◌, ℕ, ◌<◌, ◌≤◌, List, []
 ghost use Rattle.std.specs.List.{AllByRecursion};
 ghost use Rattle.mine_model.specs.declared.row.Row.{Row as TheRow};
 ghost use Rattle.mine_model.specs.Numbered.{AreFrequent};
+ghost use Rattle.fst_simulate.specs.Problems.{data_of};
 ghost use Rattle.turn_lock.specs.Passes.{made};
 ghost use Rattle.count_shards.specs.Blocks.{AreCountsOf};
-ghost use Rattle.fst_simulate.specs.Problems.{data_of};
 ghost use Rattle.count_shards.specs.Shard.{entry_of};
 
 use super::block::{BlockCounts, HOMES};

@@ -44,12 +44,6 @@ rows-ordered names h db e threshold rows ordered frequent same rises = record {
   rises = rises;
 }
 
--- what a slice of all elements wrote back is the whole
-pub written_back : {X : Type 0} (new old : List X) (n : ℕ) → n ≡ length old → length new ≡ length old → take n (new ++ drop (length new) old) ≡ new
-written_back new old n whole same =
-    let none : drop (length new) old ≡ [] = drop_all (length new) old (omega arith) in
-    rw (none, append-nil) (take_all n new (omega arith))
-
 module _ (words : List (List ℕ)) (holds : List ℕ → Option (List ℕ)) (c : Command) (has : HasExpression words c)
     (known : List (List ℕ)) (before : Ancestry) (db : List (Sequence Item)) (tree : Tree Use) (rows : List Row) (work : Work) where
   -- what was read and found, by these names, is mined

@@ -413,7 +413,3 @@ KindsGrow-twice a b c first second = record {
   ends = Extends-twice a.ends.items b.ends.items c.ends.items first.ends second.ends;
   ranks = Extends-twice a.ranks.items b.ranks.items c.ranks.items first.ranks second.ranks;
 }
-
-pub slice_get-last : {X : Type 0} (xs : List X) (x : X) (n : ℕ) → n ≡ length xs → slice_get (xs ++ x ∷ []) n ≡ Some x
-slice_get-last xs x n is =
-    rw is (slice_get_read (xs ++ x ∷ []) (length (xs ++ x ∷ [])) (length xs) x refl (omega (arith, length-append xs (x ∷ []))) (sym (get_or-append_seam xs x [] x)))

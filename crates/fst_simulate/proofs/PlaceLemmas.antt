@@ -14,8 +14,8 @@ use Rattle.fst_simulate.specs.Problems.{Problem, IsWhole}
 use Rattle.fst_simulate.specs.Tables.{ClassSets, TripleSets, TableValue, Grows, IsStep, IsLast}
 use Rattle.fst_simulate.specs.Kinds.{IsClassFor, HasKind, KindsGrow, Extends}
 use Rattle.fst_simulate.specs.Places.{IsTripleOf, HasTriple, IsTableOf, IsPlaceAt, ArePlaces}
-use Rattle.mine_model.proofs.ElementLemmas.{get-left}
-use Rattle.fst_simulate.proofs.KindLemmas.{HasKind-grow, slice_get-last}
+use Rattle.mine_model.proofs.ElementLemmas.{get-left, stands_last}
+use Rattle.fst_simulate.proofs.KindLemmas.{HasKind-grow}
 use Rattle.fst_simulate.proofs.PathLemmas.{target-of, ends-step, seen-step, unseen-step}
 
 -- the triple of the end
@@ -135,7 +135,7 @@ AreFilled-none problem bound table kinds places items place count is_table first
       let nothing : drop p items ≡ [] = drop_of_length-le items (omega arith) in
       let index : length places + length items - p ≡ length places = omega arith in (
         place,
-        (rw index (slice_get-last places place (length places) refl)),
+        (rw index (stands_last places place (length places) refl)),
         record {
           triple = let (triple, found, last) = is_table.last in (triple, (rw first found), (rw nothing (IsTripleOf-last problem bound triple last)));
           kind = λ t found. absurd (let within : p < length items = slice_get_within items p t found in omega arith);
@@ -157,7 +157,7 @@ AreFilled-more problem bound table table' kinds kinds' places from items positio
         | inl same ↦
             let index : from + length items - p ≡ length places = omega arith in (
               place,
-              (rw index (slice_get-last places place (length places) refl)),
+              (rw index (stands_last places place (length places) refl)),
               (rw same (record {
                 triple = triple;
                 kind = λ u found.

@@ -3,12 +3,12 @@ use Rattle.std.specs.Prelude.{◌≡◌, ℕ, ◌≤◌, ◌<◌, List, length}
 use Rattle.std.specs.List.{AllByRecursion}
 use Rattle.mine_model.specs.declared.item.Item.{Item}
 use Rattle.mine_model.specs.Ancestry.{Ancestry}
+use Rattle.mine_model.specs.Answer.{Data}
 use Rattle.mine_model.specs.Database.{sequence_at}
 use Rattle.mine_model.specs.Expression.{named_in}
 use Rattle.mine_model.specs.Numbered.{tree_of}
 use Rattle.mine_model.specs.Ranks.{Ranking, AreRanks}
 use Rattle.mine_model.specs.Support.{Sequence}
-use Rattle.mine_model.specs.Answer.{Data}
 use Rattle.fst_compile.specs.Transducer.{Transducer, IsPositionAutomaton, IsTransducerOf}
 
 -- the hierarchy, the sequences, the transducer of the expression, the ranks of the frequent items, the
@@ -20,11 +20,7 @@ pub record Problem : Type 0 where
   pub ranking : Ranking
   pub threshold : ℕ
 
--- the items of the sequence with this number, counted from 0
-abbrev pub items_of : Problem → ℕ → List Item
-items_of problem i = (sequence_at problem.sequences i).items
-
--- what the expression is matched with, and the threshold
+-- the data of the run: what the expression is matched with, and the threshold
 abbrev pub data_of : Problem → Data Item
 data_of problem = record {
   links = problem.hierarchy.links;
@@ -32,6 +28,10 @@ data_of problem = record {
   expression = tree_of problem.machine.expression;
   threshold = problem.threshold;
 }
+
+-- the items of the sequence with this number, counted from 0
+abbrev pub items_of : Problem → ℕ → List Item
+items_of problem i = (sequence_at problem.sequences i).items
 
 -- the parts fit: all items are items of the hierarchy, the transducer is that of its expression, and the
 -- ranks are those of the sequences

@@ -6,30 +6,12 @@ use Rattle.std.proofs.lemmas.List.{length-map, length_push, get_or-map, get_or_d
 use Rattle.std.proofs.lemmas.List.Sums.{sum_by-set, sum_by-cons}
 use Rattle.std.proofs.lemmas.Option.{slice_get_within, slice_get-get_or, get_or_from_slice_get}
 use Rattle.std.proofs.lemmas.List.Folds.{sum_by-replicate}
+use Rattle.mine_model.specs.Slots.{IsMet}
+use Rattle.mine_model.proofs.SlotLemmas.{met_either, weigh, all_taken, stays_taken}
 use Rattle.item_names.specs.declared.keys.Key.{Key}
 use Rattle.item_names.specs.declared.table.Slot.{Slot}
-use Rattle.item_names.specs.Table.{key_of, home_of, no_key, slot_at, key_in, IsMet, IsSlot, IsPlace, IsTable}
+use Rattle.item_names.specs.Table.{key_of, home_of, no_key, slot_at, key_in, IsSlot, IsPlace, IsTable}
 use Rattle.item_names.specs.Searching.{IsOther, AreOthers, IsFirstFree}
-
--- of two slots a search meets one before the other
-met_either : (home at other : ℕ) → at ≢ other → IsMet home at other ⊎ IsMet home other at
-met_either home at other apart =
-    elim (cases_lt at home) [
-      | inl low ↦ elim (cases_lt other home) [
-        | inl below ↦ elim (cases_lt other at) [
-          | inl before ↦ inl (inr (low, inr before))
-          | inr behind ↦ inr (inr (below, inr (omega arith)))
-        ]
-        | inr above ↦ inl (inr (low, inl above))
-      ]
-      | inr high ↦ elim (cases_lt other home) [
-        | inl below ↦ inr (inr (below, inl high))
-        | inr above ↦ elim (cases_lt other at) [
-          | inl before ↦ inl (inl (above, before))
-          | inr behind ↦ inr (inl (high, omega arith))
-        ]
-      ]
-    ]
 
 -- Where a name is sought
 
@@ -90,32 +72,12 @@ module _ (names : List (List ℕ)) (slots : List Slot) (name : List ℕ) (key : 
           | inr above ↦ ahead place above found.within
         ])
 
--- a name that stands at a number is held
-pub is_held : (names : List (List ℕ)) (name : List ℕ) (number : ℕ) → slice_get names number ≡ Some name → Contains names name
-is_held names name number is = (number, slice_get_within names number name is, get_or_from_slice_get names number name name is)
-
--- the last name stands at the number of those before it
-pub stands_last : (names : List (List ℕ)) (name : List ℕ) (number : ℕ) → number ≡ length names → slice_get (names ++ name ∷ []) number ≡ Some name
-stands_last names name number is =
-    slice_get-get_or (names ++ name ∷ []) number [] (omega (arith, is, length_push names name)) ∙ ap Some (get_or_push names name [] number (sym is))
-
 -- Tables that grow
-
-abbrev weigh : List Slot → ℕ
-weigh slots = sum_by (λ slot. min slot.held 1) slots
-
--- slots that are all taken are as many as names
-all_taken : (slots : List Slot) → ((at : ℕ) → at < length slots → 0 < (slot_at slots at).held) → weigh slots ≡ length slots
-all_taken [] all = refl
-all_taken (slot ∷ slots) all =
-    let first = all 0 (omega arith) in
-    let others = all_taken slots (λ at within. all (suc at) (omega arith)) in
-    omega (arith, sum_by-cons (λ (s : Slot). min s.held 1) slot slots, first, others)
 
 -- a table whose slots are all taken has as many names as slots
 pub no_room : (keys : List Key) (slots : List Slot) → IsTable keys slots → length keys < length slots
     → ((at : ℕ) → at < length slots → 0 < (slot_at slots at).held) → ⊥
-no_room keys slots table room all = omega (arith, all_taken slots all, table.taken, room)
+no_room keys slots table room all = omega (arith, all_taken (λ (slot : Slot). slot.held) (record { low = 0; high = 0; size = 0; held = 0 }) slots all, table.taken, room)
 
 IsSlot-more : (keys : List Key) (key : Key) (slot : Slot) → IsSlot keys slot → IsSlot (keys ++ key ∷ []) slot
 IsSlot-more keys key slot is = record {
@@ -132,23 +94,11 @@ IsSlot-new keys key slot same held = record {
 -- one more name in the free slot that a search for its key meets first
 module _ (keys : List Key) (slots : List Slot) (key : Key) (at : ℕ) (new : Slot) (table : IsTable keys slots) (first : IsFirstFree slots key at)
     (same : key_in new ≡ key) (held : new.held ≡ length keys + 1) where
-  length-placed : length (set slots at new) ≡ length slots
-  length-placed = length-set slots at new
-
   here : slot_at (set slots at new) at ≡ new
   here = get_or-set_same slots at new (record { low = 0; high = 0; size = 0; held = 0 }) first.within
 
   elsewhere : (other : ℕ) → other ≢ at → slot_at (set slots at new) other ≡ slot_at slots other
   elsewhere other apart = get_or-set_other slots at other new (record { low = 0; high = 0; size = 0; held = 0 }) apart
-
-  -- a slot that was taken, or the new one, is taken
-  stays_taken : (other : ℕ) → ((other ≢ at) → 0 < (slot_at slots other).held) → 0 < (slot_at (set slots at new) other).held
-  stays_taken other before =
-      let P : Slot → Type 0 = λ slot. 0 < slot.held in
-      elim (cases_eq other at) [
-        | inl is ↦ subst (λ n. P (slot_at (set slots at new) n)) (sym is) (subst P (sym here) (omega (arith, held)))
-        | inr apart ↦ subst P (sym (elsewhere other apart)) (before apart)
-      ]
 
   slots_after : (other : ℕ) → IsSlot (keys ++ key ∷ []) (slot_at (set slots at new) other)
   slots_after other =
@@ -162,18 +112,18 @@ module _ (keys : List Key) (slots : List Slot) (key : Key) (at : ℕ) (new : Slo
   place_kept k number place is =
       let apart : place ≢ at = λ e. let P : ℕ → Type 0 = λ n. (slot_at slots n).held ≡ number + 1 in omega (arith, subst P e is.holds, first.free) in
       record {
-        within = omega (arith, length-placed, is.within);
+        within = omega (arith, (length-set slots at new), is.within);
         holds = ap (λ (slot : Slot). slot.held) (elsewhere place apart) ∙ is.holds;
         reached = λ other within met.
-            stays_taken other (λ _. is.reached other (omega (arith, length-placed, within)) (subst (λ n. IsMet (home_of n k) place other) length-placed met));
+            stays_taken (λ (slot : Slot). slot.held) (record { low = 0; high = 0; size = 0; held = 0 }) slots at new first.within (omega (arith, held)) other (λ _. is.reached other (omega (arith, (length-set slots at new), within)) (subst (λ n. IsMet (home_of n k) place other) (length-set slots at new) met));
       }
 
   place_made : IsPlace (set slots at new) key (length keys) at
   place_made = record {
-    within = omega (arith, length-placed, first.within);
+    within = omega (arith, (length-set slots at new), first.within);
     holds = ap (λ (slot : Slot). slot.held) here ∙ held;
     reached = λ other within met.
-        stays_taken other (λ _. first.first other (omega (arith, length-placed, within)) (subst (λ n. IsMet (home_of n key) at other) length-placed met));
+        stays_taken (λ (slot : Slot). slot.held) (record { low = 0; high = 0; size = 0; held = 0 }) slots at new first.within (omega (arith, held)) other (λ _. first.first other (omega (arith, (length-set slots at new), within)) (subst (λ n. IsMet (home_of n key) at other) (length-set slots at new) met));
   }
 
   places_after : (number : ℕ) → number < length (keys ++ key ∷ []) → (place : ℕ) × IsPlace (set slots at new) (get_or (keys ++ key ∷ []) number no_key) number place

@@ -2,6 +2,7 @@
 use Rattle.std.specs.Prelude.{◌≡◌, ℕ, ◌+◌, ◌-◌, ◌*◌, ◌<◌, ◌≤◌, ◌⊎◌, min, List, [], ◌∷◌, length, take, drop, slice_index_or, bit_and, bit_xor, if◌then◌else◌, nat_le}
 use Rattle.std.specs.List.{sum_by, AllByRecursion}
 use Rattle.std.specs.Hash.FoldHasher.{initial, write, finish, folded_multiply}
+use Rattle.mine_model.specs.Slots.{IsMet}
 use Rattle.item_names.specs.declared.keys.Key.{Key}
 use Rattle.item_names.specs.declared.table.Slot.{Slot}
 
@@ -32,10 +33,6 @@ slot_at slots at = slice_index_or slots at (record { low = 0; high = 0; size = 0
 
 abbrev pub key_in : Slot → Key
 key_in slot = record { low = slot.low; high = slot.high; size = slot.size }
-
--- a search that begins at home meets the slot before it meets the slot at the end
-abbrev pub IsMet : ℕ → ℕ → ℕ → Type 0
-IsMet home end at = ((home ≤ at) × (at < end)) ⊎ ((end < home) × ((home ≤ at) ⊎ (at < end)))
 
 -- the slot is free or has the number and the key of a name
 pub record IsSlot (keys : List Key) (slot : Slot) : Type 0 where

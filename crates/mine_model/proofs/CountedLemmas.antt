@@ -1,13 +1,13 @@
 -- The pairs of a sequence and one of its candidates, under other names of the items.
-use Rattle.std.proofs.Common.{◌≡◌, ◌≢◌, ℕ, inl, inr, false, List, [], ◌∷◌, map, length, sym, ap, ◌∙◌, subst, Contains, get_or, zero, suc, arith}
+use Rattle.std.proofs.Common.{◌≡◌, ◌≢◌, ℕ, inl, inr, false, List, [], ◌∷◌, map, sym, ◌∙◌, subst, Contains, get_or, arith}
 use Rattle.std.specs.List.{AllByRecursion, AllPairs}
 use Rattle.std.proofs.lemmas.List.{length-map, get_or_default}
 use Rattle.std.proofs.lemmas.List.Kept.{AllPairs-cons}
 use Rattle.mine_model.specs.Hierarchy.{Link, IsAncestor}
-use Rattle.mine_model.specs.Expression.{Tree, tree_by, named_in}
+use Rattle.mine_model.specs.Expression.{tree_by, named_in}
 use Rattle.mine_model.specs.Support.{Sequence, HoldsUnder, HasFrequency}
 use Rattle.mine_model.specs.Answer.{Data}
-use Rattle.mine_model.specs.Ranks.{IsFrequentItem, IsCandidateOf}
+use Rattle.mine_model.specs.Candidates.{IsFrequentItem, IsCandidate}
 use Rattle.mine_model.specs.Counted.{HasCandidates, HasPairs}
 use Rattle.mine_model.specs.Names.{sequence_by}
 use Rattle.mine_model.proofs.ListLemmas.{Contains-by, Contains-from, Contains-first, Contains-other, AllByRecursion-contained, AllPairs-head, AllPairs-tail}
@@ -79,10 +79,10 @@ module _ {A B : Type 0} (f : A → B) (others : List (Link B)) (d : Data A) (P :
   allowed-back (w ∷ pattern) inside allowed = (frequent-back w inside.0 allowed.0, allowed-back pattern inside.1 allowed.1)
 
   abbrev Candidate : List A → List A → Type 0
-  Candidate = IsCandidateOf d.links d.expression Frequent
+  Candidate = IsCandidate d
 
   abbrev CandidateNamed : List B → List B → Type 0
-  CandidateNamed = IsCandidateOf others (tree_by f d.expression) FrequentNamed
+  CandidateNamed = IsCandidate renamed
 
   inside-of : (items pattern : List A) → AllByRecursion P items → Candidate items pattern → AllByRecursion P pattern
   inside-of items pattern within is =

@@ -1,5 +1,5 @@
 -- Elements of a list, and of a list of pieces.
-use Rattle.std.proofs.Common.{◌≡◌, ℕ, zero, suc, ◌+◌, ◌<◌, inl, inr, Some, List, [], ◌∷◌, ◌++◌, slice_get, set, length, refl, sym, ap, subst, arith, sum_by, Contains, flat_map}
+use Rattle.std.proofs.Common.{◌≡◌, ◌≢◌, ℕ, zero, suc, ◌+◌, ◌<◌, ◌⊎◌, inl, inr, Some, List, [], ◌∷◌, ◌++◌, slice_get, set, length, refl, ap, ◌∙◌, subst, arith, sum_by, Contains, flat_map}
 use Rattle.mine_model.proofs.ListLemmas.{Contains-cases, Contains-first, Contains-other, Contains-none}
 use Rattle.std.proofs.lemmas.List.Elements.{Contains-append_left, Contains-append_right, Contains-append_cases}
 use Rattle.std.proofs.lemmas.List.Sums.{sum_by-append}
@@ -19,6 +19,33 @@ pub get-left : {X : Type 0} (xs ys : List X) (i : ℕ) (x : X) → slice_get xs 
 get-left [] ys i x is = absurd (cc)
 get-left (y ∷ xs) ys zero x is = is
 get-left (y ∷ xs) ys (suc i) x is = get-left xs ys i x is
+
+-- what stands in a list after one element changed
+pub get_set_same : {X : Type 0} (xs : List X) (i : ℕ) (x y : X) → slice_get xs i ≡ Some x → slice_get (set xs i y) i ≡ Some y
+get_set_same [] i x y e = absurd (cc)
+get_set_same (z ∷ xs) zero x y e = refl
+get_set_same (z ∷ xs) (suc i) x y e = get_set_same xs i x y e
+
+pub get_set_other : {X : Type 0} (xs : List X) (i k : ℕ) (y : X) → k ≢ i → slice_get (set xs i y) k ≡ slice_get xs k
+get_set_other [] i k y other = refl
+get_set_other (z ∷ xs) zero zero y other = absurd (other refl)
+get_set_other (z ∷ xs) zero (suc k) y other = refl
+get_set_other (z ∷ xs) (suc i) zero y other = refl
+get_set_other (z ∷ xs) (suc i) (suc k) y other = get_set_other xs i k y (λ e. other (ap suc e))
+
+-- what stands in a list that is longer by one
+pub get_snoc : {X : Type 0} (xs : List X) (y : X) (k : ℕ) (z : X) → slice_get (xs ++ y ∷ []) k ≡ Some z → (slice_get xs k ≡ Some z) ⊎ ((k ≡ length xs) × (y ≡ z))
+get_snoc [] y zero z e = inr (refl, cc)
+get_snoc [] y (suc k) z e = absurd (cc)
+get_snoc (x ∷ xs) y zero z e = inl e
+get_snoc (x ∷ xs) y (suc k) z e = elim (get_snoc xs y k z e) [ inl t ↦ inl t | inr t ↦ inr (ap suc t.0, t.1) ]
+
+pub get_last : {X : Type 0} (xs : List X) (y : X) → slice_get (xs ++ y ∷ []) (length xs) ≡ Some y
+get_last [] y = refl
+get_last (x ∷ xs) y = get_last xs y
+
+pub stands_last : {X : Type 0} (xs : List X) (y : X) (number : ℕ) → number ≡ length xs → slice_get (xs ++ y ∷ []) number ≡ Some y
+stands_last xs y number is = ap (slice_get (xs ++ y ∷ [])) is ∙ get_last xs y
 
 -- an element of the pieces is one of a piece
 pub flat-cases : {X Y : Type 0} (f : X → List Y) (xs : List X) (y : Y) → Contains (flat_map f xs) y → (x : X) × Contains xs x × Contains (f x) y

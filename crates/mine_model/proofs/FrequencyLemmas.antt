@@ -9,9 +9,10 @@ use Rattle.mine_model.specs.Hierarchy.{Link}
 use Rattle.mine_model.specs.Expression.{Tree}
 use Rattle.mine_model.specs.Generation.{IsPatternOf}
 use Rattle.mine_model.specs.Support.{Sequence, Counts, HasSupport, HoldsUnder, HasFrequency}
-use Rattle.mine_model.specs.Ranks.{IsFrequentItem, IsCandidateOf, AreFrequencies}
-use Rattle.mine_model.proofs.ListLemmas.{AllByRecursion-contained, Contains-first, Contains-other}
-use Rattle.mine_model.proofs.SupportLemmas.{Counts-some}
+use Rattle.mine_model.specs.Candidates.{IsFrequentItem, IsCandidateOf}
+use Rattle.mine_model.specs.Ranks.{AreFrequencies}
+use Rattle.mine_model.proofs.ListLemmas.{AllByRecursion-contained, AllByRecursion-weaker, Contains-first, Contains-other}
+use Rattle.mine_model.proofs.SupportLemmas.{Counts-some, Counts-one}
 use Rattle.mine_model.proofs.AboveLemmas.{IsAncestor-keeps, pattern-above}
 
 -- Counting
@@ -88,22 +89,14 @@ module _ {A : Type 0} (links : List (Link A)) (sequences : List (Sequence A)) wh
     support-by_candidates Allowed allows expression pattern n least enough =
         let Has : List A → Type 0 = λ items. IsPatternOf links expression items pattern in
         let Also : List A → Type 0 = λ items. IsCandidateOf links expression Allowed items pattern in (
-          λ support. Counts-by Has Also (same (imply pattern (frequent-items expression pattern n support enough))) sequences n support,
+          λ support. Counts-by Has Also (same (AllByRecursion-weaker (IsFrequentItem links sequences threshold) Allowed allows pattern (frequent-items expression pattern n support enough))) sequences n support,
           λ counted.
-              let (items, has, _) = Counts-some Also (λ _. Unit {0}) sequences n counted (omega arith) (all sequences) in
+              let (items, has) = Counts-one Also sequences n counted (omega arith) in
               Counts-by Also Has (λ items. ((same has.allowed items).1, (same has.allowed items).0)) sequences n counted,
         )
       where
-        imply : (ws : List A) → AllByRecursion (IsFrequentItem links sequences threshold) ws → AllByRecursion Allowed ws
-        imply [] each = tt
-        imply (w ∷ ws) each = (allows w each.0, imply ws each.1)
-
         same : AllByRecursion Allowed pattern → (items : List A) → IsPatternOf links expression items pattern ↔ IsCandidateOf links expression Allowed items pattern
         same allowed items = ((λ is. record { generated = is; allowed = allowed }), (λ is. is.generated))
-
-        all : (xs : List (Sequence A)) → AllByRecursion (λ s. Unit {0}) xs
-        all [] = tt
-        all (s ∷ xs) = (tt, all xs)
 
 -- Items by numbers
 

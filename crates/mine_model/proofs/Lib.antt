@@ -19,6 +19,7 @@ pub mod NamedAnswer
 pub mod WalkLemmas
 pub mod ElementLemmas
 pub mod CountedLemmas
+pub mod WorkLemmas
 pub mod CoverLemmas
 pub mod OnceLemmas
 pub mod DepthLemmas
@@ -33,3 +34,4 @@ pub mod FrequencyLemmas
 pub mod TestedLists
 pub mod ApartLemmas
 pub mod SumLemmas
+pub mod SlotLemmas

@@ -29,6 +29,11 @@ AllByRecursion-contained P (x ∷ xs) y all inside =
       | inr other ↦ AllByRecursion-contained P xs y all.1 other
     ]
 
+-- what holds of each element where P does
+pub AllByRecursion-weaker : {X : Type 0} (P Q : X → Type 0) → ((x : X) → P x → Q x) → (xs : List X) → AllByRecursion P xs → AllByRecursion Q xs
+AllByRecursion-weaker P Q follows [] all = tt
+AllByRecursion-weaker P Q follows (x ∷ xs) all = (follows x all.0, AllByRecursion-weaker P Q follows xs all.1)
+
 -- P holds of both parts of a list of which it holds
 pub front_of_both : {X : Type 0} (P : X → Type 0) (xs ys : List X) → AllByRecursion P (xs ++ ys) → AllByRecursion P xs
 front_of_both P [] ys all = tt

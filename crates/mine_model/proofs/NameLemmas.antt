@@ -1,7 +1,8 @@
 -- Lemmas on lists of names that grow.
-use Rattle.std.proofs.Common.{◌≡◌, ◌≢◌, ℕ, suc, ◌≤◌, inl, inr, List, [], ◌∷◌, ◌++◌, length, get_or, refl, sym, ap, ◌∙◌, subst, arith, append_assoc, length-append, AllPairs, All}
+use Rattle.std.proofs.Common.{◌≡◌, ◌≢◌, ℕ, suc, ◌≤◌, ◌<◌, inl, inr, List, [], ◌∷◌, ◌++◌, length, get_or, refl, sym, ap, ◌∙◌, subst, arith, append_assoc, length-append, AllPairs, All}
 use Rattle.std.specs.List.{Contains}
-use Rattle.std.proofs.lemmas.List.{append-nil, get_or_append_left, length_push, get_or_default}
+use Rattle.std.proofs.lemmas.List.{append-nil, get_or_append_left, get_or_push, length_push, get_or_default}
+use Rattle.std.proofs.lemmas.Bool.{cases_lt}
 use Rattle.std.proofs.lemmas.List.Elements.{Contains-append_left, Contains-append_right, Contains-append_cases, Contains-get_or, All-push}
 use Rattle.std.proofs.lemmas.List.Quantifiers.{all_pairs_push}
 use Rattle.mine_model.specs.declared.item.Item.{Item}
@@ -38,6 +39,30 @@ distinct_fit {X} (x ∷ some) xs apart inside =
     let whole = ap length is ∙ length-append front (x ∷ back) in
     let others = length-append front back in
     omega (arith, fewer, whole, others)
+
+-- names that differ, and one that is none of them
+pub AreDistinct-push : (names : List (List ℕ)) (name : List ℕ) → AreDistinct names → (Contains names name → ⊥) → AreDistinct (names ++ name ∷ [])
+AreDistinct-push names name distinct new i j i_in j_in same =
+    let more = length_push names name in
+    elim (cases_lt i (length names)) [
+      | inl i_old ↦ elim (cases_lt j (length names)) [
+        | inl j_old ↦ distinct i j i_old j_old (sym (old i i_old) ∙ same ∙ old j j_old)
+        | inr j_last ↦ absurd (is_new i i_old (sym (old i i_old) ∙ same ∙ last j (omega (arith, more, j_in))))
+      ]
+      | inr i_last ↦ elim (cases_lt j (length names)) [
+        | inl j_old ↦ absurd (is_new j j_old (sym (old j j_old) ∙ sym same ∙ last i (omega (arith, more, i_in))))
+        | inr j_last ↦ omega (arith, more, i_in, j_in)
+      ]
+    ]
+  where
+    old : (k : ℕ) → k < length names → get_or (names ++ name ∷ []) k [] ≡ get_or names k []
+    old k within = get_or_append_left names (name ∷ []) [] k within
+
+    last : (k : ℕ) → length names ≡ k → get_or (names ++ name ∷ []) k [] ≡ name
+    last k is = get_or_push names name [] k is
+
+    is_new : (k : ℕ) → k < length names → get_or names k [] ≡ name → ⊥
+    is_new k within is = new (k, within, get_or_default names k name [] within ∙ is)
 
 pub GrowBy-none : (names : List (List ℕ)) → GrowBy names [] names
 GrowBy-none names = record {

@@ -1,5 +1,5 @@
 -- A cover holds the labels of the tree, each once.
-use Rattle.std.proofs.Common.{◌≡◌, ℕ, zero, suc, ◌+◌, ◌<◌, ◌≤◌, ◌⊎◌, ◌↔◌, inl, inr, cond, List, [], ◌∷◌, length, refl, sym, ap, subst, arith, sum_by, flat_map, Contains}
+use Rattle.std.proofs.Common.{◌≡◌, ◌≢◌, ℕ, zero, suc, ◌+◌, ◌<◌, ◌≤◌, ◌⊎◌, ◌↔◌, inl, inr, cond, List, [], ◌∷◌, length, refl, sym, ap, subst, arith, sum_by, flat_map, Contains}
 use Rattle.std.specs.Str.{bytes_eq}
 use Rattle.std.proofs.lemmas.Slice.Eq.{bytes_eq-Decides}
 use Rattle.std.proofs.lemmas.Bool.{cond-true, cond-false, cases_Bool, cases_lt}
@@ -56,6 +56,16 @@ one-found label labels = elim (some-part (one label) labels) [
     | inl same ↦ inl (subst (Contains labels) (sym same) is)
     | inr none ↦ absurd (omega arith)
   ]
+]
+
+-- a list of numbers is another or is not
+pub same_list_or_not : (xs ys : List ℕ) → (xs ≡ ys) ⊎ (xs ≢ ys)
+same_list_or_not xs ys = elim (one-cases xs ys) [ inl same ↦ inl same | inr none ↦ inr (λ same. omega (arith, one-same xs ys same, none)) ]
+
+pub list_or_not : (lists : List (List ℕ)) (list : List ℕ) → Contains lists list ⊎ (Contains lists list → ⊥)
+list_or_not lists list = elim (one-found list lists) [
+  | inl there ↦ inl there
+  | inr none ↦ inr (λ held. omega (arith, one-held list lists held, none))
 ]
 
 cover-weight : (roots : List (List ℕ)) (kids : List ℕ → List (List ℕ)) (labels : List (List ℕ)) → Covers roots kids labels → (weight : List ℕ → ℕ)

@@ -20,3 +20,8 @@ pub Counts-some : {A : Type 0} (Has Also : List A → Type 0) (sequences : List 
 Counts-some Has Also [] n none some all = absurd (omega arith)
 Counts-some Has Also (s ∷ sequences) n (inl p) some all = (s.items, p.0, all.0)
 Counts-some Has Also (s ∷ sequences) n (inr p) some all = Counts-some Has Also sequences n p.1 some all.1
+
+pub Counts-one : {A : Type 0} (Has : List A → Type 0) (sequences : List (Sequence A)) (n : ℕ) → Counts Has sequences n → 1 ≤ n → (items : List A) × Has items
+Counts-one Has [] n none some = absurd (omega arith)
+Counts-one Has (s ∷ sequences) n (inl p) some = (s.items, p.0)
+Counts-one Has (s ∷ sequences) n (inr p) some = Counts-one Has sequences n p.1 some

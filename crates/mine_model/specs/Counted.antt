@@ -1,17 +1,17 @@
 -- The counted work of a run: the pairs of a sequence and one of its candidates. The candidates are those of
 -- the DESQ article.
-use Rattle.std.specs.Prelude.{◌≡◌, ◌≢◌, ℕ, ◌+◌, ◌-◌, ◌^◌, ◌↔◌, min, List, [], ◌∷◌, length, AllPairs, Contains}
+use Rattle.std.specs.Prelude.{◌≡◌, ◌≢◌, ℕ, ◌+◌, ◌↔◌, min, List, [], ◌∷◌, length, AllPairs, Contains}
 use Rattle.mine_model.specs.declared.mined.Work.{Work}
+use Rattle.mine_model.specs.Limits.{most_told_pairs}
 use Rattle.mine_model.specs.Support.{Sequence}
 use Rattle.mine_model.specs.Answer.{Data}
-use Rattle.mine_model.specs.Ranks.{IsFrequentItem, IsCandidateOf}
+use Rattle.mine_model.specs.Candidates.{IsCandidate}
 
 -- the items have so many candidates: patterns of frequent items that the expression generates from them
 pub record HasCandidates {A : Type 0} (d : Data A) (items : List A) (count : ℕ) : Type 0 where
   pub candidates : List (List A)
   pub once : AllPairs (λ first second. first ≢ second) candidates
-  pub exact : (pattern : List A) → Contains candidates pattern
-      ↔ IsCandidateOf d.links d.expression (IsFrequentItem d.links d.sequences d.threshold) items pattern
+  pub exact : (pattern : List A) → Contains candidates pattern ↔ IsCandidate d items pattern
   pub counted : length candidates ≡ count
 
 -- n is the number of pairs of one of these sequences and one of its candidates
@@ -21,12 +21,16 @@ HasPairs d (sequence ∷ sequences) n =
     (first : ℕ) × (rest : ℕ) × (n ≡ first + rest)
     × HasCandidates d sequence.items first × HasPairs d sequences rest
 
--- the number that is told: what is above the greatest of 64 bits is told as that
+-- the number that is told: a greater one than the most is told as that
 abbrev pub told_of : ℕ → ℕ
-told_of n = min n (2 ^ 64 - 1)
+told_of n = min n most_told_pairs
+
+-- it is what is told of the number that has the property
+abbrev pub IsTold : (ℕ → Type 0) → ℕ → Type 0
+IsTold Has told = (n : ℕ) × Has n × (told ≡ told_of n)
 
 -- the work of a run that counts candidates: there is no search tree
 pub record IsCountingWork {A : Type 0} (d : Data A) (work : Work) : Type 0 where
   pub nodes : work.nodes ≡ 0
   pub parts : work.parts ≡ 0
-  pub pairs : (n : ℕ) × HasPairs d d.sequences n × (work.candidates ≡ told_of n)
+  pub pairs : IsTold (HasPairs d d.sequences) work.candidates

@@ -2,7 +2,7 @@
 use Rattle.std.specs.Prelude.{◌≡◌, ◌≢◌, ℕ, ◌≤◌, Bool, true, false, ◌⊎◌, List, [], ◌∷◌, ◌++◌, length, Option, IfSome}
 use Rattle.std.specs.List.{AllByRecursion, flat_map}
 use Rattle.mine_model.specs.Hierarchy.{Link, IsAncestor}
-use Rattle.mine_model.specs.Expression.{Leaf, under, exact, climb, forced, any, any_climb, not_under, not_exact, Tree, leaf, cat, alt, rep, cap}
+use Rattle.mine_model.specs.Expression.{Leaf, under, exact, climb, forced, any_climb, not_under, not_exact, Tree, leaf, cat, alt, rep, cap}
 
 -- the leaf matches t
 abbrev pub Matches : {A : Type 0} → List (Link A) → Leaf A → A → Type 0

@@ -5,7 +5,7 @@ use Rattle.mine_model.specs.declared.mined.Work.{Work}
 use Rattle.mine_model.specs.Generation.{IsPatternOf}
 use Rattle.mine_model.specs.Support.{Sequence}
 use Rattle.mine_model.specs.Answer.{Data}
-use Rattle.mine_model.specs.Ranks.{IsFrequentItem}
+use Rattle.mine_model.specs.Candidates.{IsFrequentItem}
 
 -- the sequences that have the property weigh n or more together
 abbrev pub WeighAtLeast : {A : Type 0} → (List A → Type 0) → List (Sequence A) → ℕ → Type 0

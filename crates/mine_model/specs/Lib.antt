@@ -10,6 +10,7 @@ pub mod Generation
 pub mod Support
 pub mod Answer
 pub mod AnswerText
+pub mod Candidates
 pub mod Counted
 pub mod Growth
 pub mod First
@@ -25,6 +26,7 @@ pub mod Ranks
 pub mod SearchTree
 pub mod Cover
 pub mod Faults
+pub mod Slots
 -- what the proofs keep
 pub mod Machine
 pub mod Holding

@@ -1,5 +1,5 @@
 -- The limits of this program, each number once.
-use Rattle.std.specs.Prelude.{ℕ}
+use Rattle.std.specs.Prelude.{ℕ, ◌-◌, ◌^◌}
 
 -- bytes of a file, its byte order mark included
 abbrev pub most_file_bytes : ℕ
@@ -48,6 +48,10 @@ most_leaves = 1024
 -- a greater number of leaves is told as this
 abbrev pub most_told_leaves : ℕ
 most_told_leaves = 1000000
+
+-- a greater number of pairs of a sequence and a candidate is told as this
+abbrev pub most_told_pairs : ℕ
+most_told_pairs = 2 ^ 64 - 1
 
 -- brackets that are open at once, and postfix signs in a row
 abbrev pub most_nested : ℕ

@@ -28,7 +28,11 @@ tree_of (Alt' p left q right) = alt (tree_of left) (tree_of right)
 tree_of (Rep' p inner least most) = rep (tree_of inner) least most
 tree_of (Cap' p inner) = cap (tree_of inner)
 
+-- no two of the rows have one pattern
+abbrev pub PatternsDiffer : List Row → Type 0
+PatternsDiffer rows = AllPairs (λ first second. first.pattern ≢ second.pattern) rows
+
 -- the rows are exactly the frequent patterns, each once, in any order
 pub record AreFrequent (d : Data Item) (rows : List Row) : Type 0 where
-  pub once : AllPairs (λ first second. first.pattern ≢ second.pattern) rows
+  pub once : PatternsDiffer rows
   pub frequent : (row : Row) → Contains rows row ↔ IsFrequent d row.pattern row.support

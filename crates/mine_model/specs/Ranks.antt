@@ -1,31 +1,15 @@
--- Frequent items and their ranks, the f-list of the DESQ article. The order of items of one frequency is own.
+-- The ranks of frequent items, the f-list of the DESQ article. The order of items of one frequency is own.
 use Rattle.std.specs.Prelude.{◌≡◌, ◌≢◌, ℕ, ◌-◌, ◌^◌, ◌≤◌, ◌<◌, ◌↔◌, List, [], ◌∷◌, length, All, AllPairs, Contains}
-use Rattle.std.specs.List.{AllByRecursion, slice_get, slice_index}
+use Rattle.std.specs.List.{slice_get, slice_index}
 use Rattle.std.specs.Ordering.{nat_cmp}
 use Rattle.std.specs.Cmp.Lexicographic.{slice_cmp}
 use Rattle.std.specs.declared.cmp.Ordering.TheVariants.{Less}
 use Rattle.std.specs.declared.option.Option.TheVariants.{Some}
 use Rattle.mine_model.specs.declared.item.Item.{Item}
 use Rattle.mine_model.specs.Hierarchy.{Link}
-use Rattle.mine_model.specs.Expression.{Tree}
-use Rattle.mine_model.specs.Generation.{IsPatternOf}
+use Rattle.mine_model.specs.Candidates.{IsFrequentItem}
 use Rattle.mine_model.specs.Names.{name_of}
 use Rattle.mine_model.specs.Support.{Sequence, HasFrequency}
-
--- the words of the promise
-
--- the frequency of the item reaches the threshold
-pub record IsFrequentItem {A : Type 0} (links : List (Link A)) (sequences : List (Sequence A)) (threshold : ℕ)
-    (w : A) : Type 0 where
-  pub frequency : ℕ
-  pub exact : HasFrequency links sequences w frequency
-  pub enough : threshold ≤ frequency
-
--- a pattern of the sequence all of whose items have the property, as that of being frequent
-pub record IsCandidateOf {A : Type 0} (links : List (Link A)) (expression : Tree A) (Allowed : A → Type 0)
-    (sequence pattern : List A) : Type 0 where
-  pub generated : IsPatternOf links expression sequence pattern
-  pub allowed : AllByRecursion Allowed pattern
 
 -- items in an order, and a frequency for each item, by its number
 pub record Ranking : Type 0 where

@@ -7,7 +7,8 @@ ghost use Rattle.mine_model.specs.Hierarchy.{Link};
 ghost use Rattle.mine_model.specs.Expression.{Tree};
 ghost use Rattle.mine_model.specs.Generation.{IsPatternOf};
 ghost use Rattle.mine_model.specs.Support.{Sequence, Counts, HasSupport, HoldsUnder, HasFrequency};
-ghost use Rattle.mine_model.specs.Ranks.{IsFrequentItem, IsCandidateOf};
+ghost use Rattle.mine_model.specs.Answer.{Data};
+ghost use Rattle.mine_model.specs.Candidates.{IsFrequentItem, IsCandidate};
 
 /// A pattern is no longer than a sequence that generates it, and each of its items is an item of the sequence
 /// or stands above one.
@@ -30,15 +31,11 @@ pub fn support_is_at_most_a_frequency()
 /// Where each item has a frequency, a pattern whose support reaches the threshold has frequent items alone,
 /// and its support is what is counted of it as a pattern of frequent items.
 pub fn frequent_items_suffice()
-    ensures items { (links : List (Link Item)) (expression : Tree Item) (sequences : List (Sequence Item))
-        → ((w : Item) → (m : ℕ) × HasFrequency links sequences w m)
-        → (threshold : ℕ) (pattern : List Item) (n : ℕ)
-        → HasSupport links expression sequences pattern n → threshold ≤ n
-        → AllByRecursion (IsFrequentItem links sequences threshold) pattern }
-    ensures counted { (links : List (Link Item)) (expression : Tree Item) (sequences : List (Sequence Item))
-        → ((w : Item) → (m : ℕ) × HasFrequency links sequences w m)
-        → (threshold : ℕ) (pattern : List Item) (n : ℕ) → 1 ≤ threshold → threshold ≤ n
-        → (HasSupport links expression sequences pattern n ↔ Counts
-        (λ items. IsCandidateOf links expression (IsFrequentItem links sequences threshold) items pattern)
-        sequences n) }
+    ensures items { (d : Data Item) → ((w : Item) → (m : ℕ) × HasFrequency d.links d.sequences w m)
+        → (pattern : List Item) (n : ℕ) → HasSupport d.links d.expression d.sequences pattern n
+        → d.threshold ≤ n → AllByRecursion (IsFrequentItem d.links d.sequences d.threshold) pattern }
+    ensures counted { (d : Data Item) → ((w : Item) → (m : ℕ) × HasFrequency d.links d.sequences w m)
+        → (pattern : List Item) (n : ℕ) → 1 ≤ d.threshold → d.threshold ≤ n
+        → (HasSupport d.links d.expression d.sequences pattern n
+        ↔ Counts (λ items. IsCandidate d items pattern) d.sequences n) }
 {}

@@ -2,12 +2,14 @@
 
 ghost use Rattle.std.specs.Prelude.{◌≡◌, ℕ, List};
 ghost use Rattle.mine_model.specs.Answer.{Data, NamedRow, IsAnswer};
+ghost use Rattle.mine_model.specs.Counted.{IsCountingWork};
 ghost use Rattle.mine_model.specs.Support.{HasSupport};
 ghost use Rattle.mine_model.specs.Expression.{Tree};
 ghost use Rattle.mine_model.specs.Tokens.{Placed, AreTokens};
 ghost use Rattle.mine_model.specs.Grammar.{Part, Use, Reads, ReadsAs};
 ghost use Rattle.mine_model.specs.Refusal.{IsExpressionRefusal};
 ghost use Rattle.mine_model.specs.declared.fault.Fault.{Fault};
+ghost use Rattle.mine_model.specs.declared.mined.Work.{Work};
 
 /// There is at most one answer.
 pub fn at_most_one_answer()
@@ -20,6 +22,12 @@ pub fn at_most_one_support()
     ensures { (data_of_run : Data (List ℕ)) (pattern : List (List ℕ)) (m n : ℕ)
         → HasSupport data_of_run.links data_of_run.expression data_of_run.sequences pattern m
         → HasSupport data_of_run.links data_of_run.expression data_of_run.sequences pattern n → m ≡ n }
+{}
+
+/// At most one work is the counting work of the data of a run.
+pub fn at_most_one_work()
+    ensures { (data_of_run : Data (List ℕ)) (first second : Work)
+        → IsCountingWork data_of_run first → IsCountingWork data_of_run second → first ≡ second }
 {}
 
 /// Tokens read as at most one tree.

@@ -1,6 +1,7 @@
 use super::item::Pattern;
 
-/// A line of the answer: a pattern with the number of sequences that generate it.
+/// A line of the answer: a pattern with its support, the sum of the weights of the sequences that generate
+/// it.
 #[derive(Debug, Drop)]
 pub struct Row {
     pub pattern: Pattern,

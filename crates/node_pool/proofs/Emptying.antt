@@ -10,7 +10,7 @@ use Rattle.node_pool.specs.declared.rule.Hand.{Hand}
 use Rattle.node_pool.specs.Rule.{Got}
 use Rattle.node_pool.specs.Opening.{Owner}
 use Rattle.node_pool.specs.Closing.{given_weight, got_weight, HaveParts}
-use Rattle.node_pool.proofs.Lists.{get_last}
+use Rattle.mine_model.proofs.ElementLemmas.{get_last}
 use Rattle.node_pool.proofs.Kept.{kept_none}
 
 module _ {T G : Type 0} (label : T → List ℕ) (ground_of : T → G) where

@@ -1,7 +1,7 @@
 -- Lists read by `slice_get`, after one element changed.
 use Rattle.std.proofs.Common.{◌≡◌, ◌≢◌, ℕ, zero, suc, ◌+◌, ◌⊎◌, inl, inr, List, [], ◌∷◌, ◌++◌, set, sym, refl, ap, ◌∙◌, arith, map, length, subst, Some, flat_map, slice_get}
 use Rattle.std.proofs.lemmas.Option.{same_Some}
-use Rattle.mine_model.proofs.ElementLemmas.{get-left}
+use Rattle.mine_model.proofs.ElementLemmas.{get-left, get_snoc, get_last}
 
 module _ {X : Type 0} where
   pub get_set : (xs : List X) (i : ℕ) (y : X) (k : ℕ) (z : X) → slice_get (set xs i y) k ≡ Some z → ((k ≡ i) × (y ≡ z)) ⊎ ((k ≢ i) × (slice_get xs k ≡ Some z))
@@ -22,12 +22,6 @@ module _ {X : Type 0} where
   flat_map_kept f (z ∷ xs) zero x y e same = let is : z ≡ x = cc in ap (λ a. a ++ flat_map f xs) (same ∙ ap f (sym is))
   flat_map_kept f (z ∷ xs) (suc i) x y e same = ap (λ a. f z ++ a) (flat_map_kept f xs i x y e same)
 
-  pub get_snoc : (xs : List X) (y : X) (k : ℕ) (z : X) → slice_get (xs ++ y ∷ []) k ≡ Some z → (slice_get xs k ≡ Some z) ⊎ ((k ≡ length xs) × (y ≡ z))
-  get_snoc [] y zero z e = inr (refl, cc)
-  get_snoc [] y (suc k) z e = absurd (cc)
-  get_snoc (x ∷ xs) y zero z e = inl e
-  get_snoc (x ∷ xs) y (suc k) z e = elim (get_snoc xs y k z e) [ inl t ↦ inl t | inr t ↦ inr (ap suc t.0, t.1) ]
-
   -- what holds of each element, at its index
   abbrev pub Everywhere : (ℕ → X → Type 0) → List X → Type 0
   Everywhere F xs = (k : ℕ) (x : X) → slice_get xs k ≡ Some x → F k x
@@ -38,25 +32,9 @@ module _ {X : Type 0} where
   pub everywhere_set : (F G : ℕ → X → Type 0) (xs : List X) (i : ℕ) (y : X) → Everywhere F xs → G i y → ((k : ℕ) (x : X) → k ≢ i → F k x → G k x) → Everywhere G (set xs i y)
   everywhere_set F G xs i y old new others k z e = elim (get_set xs i y k z e) [ inl t ↦ subst (λ (p : ℕ × X). G p.0 p.1) (λ j. (sym t.0 j, t.1 j)) new | inr t ↦ others k z t.0 (old k z t.1) ]
 
-  pub get_last : (xs : List X) (y : X) → slice_get (xs ++ y ∷ []) (length xs) ≡ Some y
-  get_last [] y = refl
-  get_last (x ∷ xs) y = get_last xs y
-
   -- what holds of each element holds of a list's front
   pub everywhere_front : (F : ℕ → X → Type 0) (xs : List X) (y : X) → Everywhere F (xs ++ y ∷ []) → Everywhere F xs × F (length xs) y
   everywhere_front F xs y all = ((λ k z e. all k z (get-left xs (y ∷ []) k z e)), all (length xs) y (get_last xs y))
-
-  pub get_set_same : (xs : List X) (i : ℕ) (x y : X) → slice_get xs i ≡ Some x → slice_get (set xs i y) i ≡ Some y
-  get_set_same [] i x y e = absurd (cc)
-  get_set_same (z ∷ xs) zero x y e = refl
-  get_set_same (z ∷ xs) (suc i) x y e = get_set_same xs i x y e
-
-  pub get_set_other : (xs : List X) (i k : ℕ) (y : X) → k ≢ i → slice_get (set xs i y) k ≡ slice_get xs k
-  get_set_other [] i k y other = refl
-  get_set_other (z ∷ xs) zero zero y other = absurd (other refl)
-  get_set_other (z ∷ xs) zero (suc k) y other = refl
-  get_set_other (z ∷ xs) (suc i) zero y other = refl
-  get_set_other (z ∷ xs) (suc i) (suc k) y other = get_set_other xs i k y (λ e. other (ap suc e))
 
   -- lists of one length that agree at each index
   pub same_lists : (xs ys : List X) → length xs ≡ length ys → ((k : ℕ) (x : X) → slice_get xs k ≡ Some x → slice_get ys k ≡ Some x) → xs ≡ ys

@@ -10,7 +10,8 @@ use Rattle.node_pool.specs.declared.way.Way.{Way}
 use Rattle.node_pool.specs.Opening.{Owner}
 use Rattle.node_pool.specs.Closing.{CanReturn, Returned, AllCanReturn, AllReturned, given_weight, got_weight, stolen_weight}
 use Rattle.std.proofs.lemmas.List.Sums.{sum_by-cons, sum_by-append}
-use Rattle.node_pool.proofs.Lists.{Everywhere, everywhere_front, get_set_same, get_set_other}
+use Rattle.node_pool.proofs.Lists.{Everywhere, everywhere_front}
+use Rattle.mine_model.proofs.ElementLemmas.{get_set_same, get_set_other}
 
 module _ {T G : Type 0} where
   -- the passes of the ways that are left have yet to come back

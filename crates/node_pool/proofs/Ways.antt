@@ -13,7 +13,8 @@ use Rattle.node_pool.specs.Ways.{share, AreRights}
 use Rattle.std.proofs.lemmas.List.{length-map}
 use Rattle.std.proofs.lemmas.Option.{slice_get_within, slice_get_read}
 use Rattle.mine_model.proofs.ElementLemmas.{flat_map_set}
-use Rattle.node_pool.proofs.Lists.{get_set, get_set_same, get_set_other, map_kept, flat_map_kept}
+use Rattle.node_pool.proofs.Lists.{get_set, map_kept, flat_map_kept}
+use Rattle.mine_model.proofs.ElementLemmas.{get_set_same, get_set_other}
 use mathlib.Core.Logic.{dite}
 use native.Mathlib.Decide.{ℕ_discrete}
 

@@ -1,4 +1,3 @@
-mod CountedLemmas
 mod HashLemmas
 mod ListsLemmas
 mod SumLemmas

@@ -10,6 +10,8 @@ use Rattle.std.proofs.lemmas.List.{length_push, get_or_push, get_or_append_left,
 use Rattle.std.proofs.lemmas.Option.{none-some, same_Some, slice_get-get_or, slice_get_within, get_or_from_slice_get}
 use Rattle.std.proofs.lemmas.Slice.Eq.{slice_eq-Decides}
 use Rattle.mine_model.proofs.ListLemmas.{Contains-cases, Contains-first, Contains-other, Contains-none}
+use Rattle.mine_model.proofs.NameLemmas.{AreDistinct-push}
+use Rattle.mine_model.proofs.OnceLemmas.{list_or_not}
 use Rattle.mine_model.specs.Names.{AreDistinct}
 use Rattle.pattern_counts.specs.Tally.{Tally, IsTally, sum_in, sum_of, Adds, AddsAll}
 
@@ -25,21 +27,8 @@ by_test xs ys false d = inr ((λ e. let wrong : false ≡ true = d.1 e in cc), r
 same_or_not : (xs ys : List ℕ) → ((xs ≡ ys) × (pointwise nat_eq xs ys ≡ true)) ⊎ ((xs ≢ ys) × (pointwise nat_eq xs ys ≡ false))
 same_or_not xs ys = by_test xs ys (pointwise nat_eq xs ys) (decides xs ys)
 
-list_or_not : (lists : List (List ℕ)) (list : List ℕ) → Contains lists list ⊎ (Contains lists list → ⊥)
-list_or_not [] list = inr (Contains-none list)
-list_or_not (first ∷ lists) list = elim (same_or_not first list) [
-  | inl same ↦ inl (subst (Contains (first ∷ lists)) same.0 (Contains-first first lists))
-  | inr apart ↦ elim (list_or_not lists list) [
-    | inl there ↦ inl (Contains-other first lists list there)
-    | inr none ↦ inr (λ h. elim (Contains-cases first lists list h) [ inl same ↦ apart.0 (sym same) | inr later ↦ none later ])
-  ]
-]
-
 contained_at : {X : Type 0} (xs : List X) (x : X) → Contains xs x → (number : ℕ) × (slice_get xs number ≡ Some x)
 contained_at xs x (number, below, is) = (number, slice_get-get_or xs number x below ∙ ap (λ y. Some y) is)
-
-pub at_contained : {X : Type 0} (xs : List X) (x : X) (number : ℕ) → slice_get xs number ≡ Some x → Contains xs x
-at_contained xs x number at = (number, slice_get_within xs number x at, get_or_from_slice_get xs number x x at)
 
 -- Lists that differ
 
@@ -51,30 +40,6 @@ same_number lists i j list d at too =
 
 tail_distinct : (first : List ℕ) (lists : List (List ℕ)) → AreDistinct (first ∷ lists) → AreDistinct lists
 tail_distinct first lists d = λ i j i_in j_in same. omega (arith, d (suc i) (suc j) (omega arith) (omega arith) same)
-
--- lists that differ, and one that is none of them
-AreDistinct-push : (lists : List (List ℕ)) (list : List ℕ) → AreDistinct lists → (Contains lists list → ⊥) → AreDistinct (lists ++ list ∷ [])
-AreDistinct-push lists list distinct new i j i_in j_in same =
-    let more = length_push lists list in
-    elim (cases_lt i (length lists)) [
-      | inl i_old ↦ elim (cases_lt j (length lists)) [
-        | inl j_old ↦ distinct i j i_old j_old (sym (old i i_old) ∙ same ∙ old j j_old)
-        | inr j_last ↦ absurd (is_new i i_old (sym (old i i_old) ∙ same ∙ last j (omega (arith, more, j_in))))
-      ]
-      | inr i_last ↦ elim (cases_lt j (length lists)) [
-        | inl j_old ↦ absurd (is_new j j_old (sym (old j j_old) ∙ sym same ∙ last i (omega (arith, more, i_in))))
-        | inr j_last ↦ omega (arith, more, i_in, j_in)
-      ]
-    ]
-  where
-    old : (k : ℕ) → k < length lists → get_or (lists ++ list ∷ []) k [] ≡ get_or lists k []
-    old k within = get_or_append_left lists (list ∷ []) [] k within
-
-    last : (k : ℕ) → length lists ≡ k → get_or (lists ++ list ∷ []) k [] ≡ list
-    last k is = get_or_push lists list [] k is
-
-    is_new : (k : ℕ) → k < length lists → get_or lists k [] ≡ list → ⊥
-    is_new k within is = new (k, within, get_or_default lists k list [] within ∙ is)
 
 -- The sum of a list
 

@@ -5,30 +5,12 @@ use Rattle.std.proofs.lemmas.Bool.{cases_eq, cases_lt}
 use Rattle.std.proofs.lemmas.List.{length-map, length_push, get_or-map, get_or_default, get_or_push, get_or_append_left, get_or_past, get_or-replicate, length-replicate}
 use Rattle.std.proofs.lemmas.List.Sums.{sum_by-set, sum_by-cons}
 use Rattle.std.proofs.lemmas.Option.{slice_get_within, slice_get-get_or, get_or_from_slice_get}
+use Rattle.mine_model.specs.Slots.{IsMet}
+use Rattle.mine_model.proofs.SlotLemmas.{met_either, weigh, all_taken, stays_taken}
 use Rattle.pattern_counts.specs.declared.table.Slot.{Slot}
 use Rattle.pattern_counts.specs.Hashes.{hash_of}
-use Rattle.pattern_counts.specs.Table.{home_of, slot_at, IsMet, IsSlot, IsPlace, HoldOnce, IsTable, AreFrom}
+use Rattle.pattern_counts.specs.Table.{home_of, slot_at, IsSlot, IsPlace, IsTable}
 use Rattle.pattern_counts.specs.Searching.{IsOther, AreOthers, IsFirstFree}
-
--- of two slots a search meets one before the other
-met_either : (home at other : ℕ) → at ≢ other → IsMet home at other ⊎ IsMet home other at
-met_either home at other apart =
-    elim (cases_lt at home) [
-      | inl low ↦ elim (cases_lt other home) [
-        | inl below ↦ elim (cases_lt other at) [
-          | inl before ↦ inl (inr (low, inr before))
-          | inr behind ↦ inr (inr (below, inr (omega arith)))
-        ]
-        | inr above ↦ inl (inr (low, inl above))
-      ]
-      | inr high ↦ elim (cases_lt other home) [
-        | inl below ↦ inr (inr (below, inl high))
-        | inr above ↦ elim (cases_lt other at) [
-          | inl before ↦ inl (inl (above, before))
-          | inr behind ↦ inr (inl (high, omega arith))
-        ]
-      ]
-    ]
 
 -- Where a list is sought
 
@@ -89,32 +71,12 @@ module _ (lists : List (List ℕ)) (slots : List Slot) (list : List ℕ) (hash :
           | inr above ↦ ahead place above found.within
         ])
 
--- a list that stands at a number is held
-pub is_held : (lists : List (List ℕ)) (list : List ℕ) (number : ℕ) → slice_get lists number ≡ Some list → Contains lists list
-is_held lists list number is = (number, slice_get_within lists number list is, get_or_from_slice_get lists number list list is)
-
--- the last list stands at the number of those before it
-pub stands_last : (lists : List (List ℕ)) (list : List ℕ) (number : ℕ) → number ≡ length lists → slice_get (lists ++ list ∷ []) number ≡ Some list
-stands_last lists list number is =
-    slice_get-get_or (lists ++ list ∷ []) number [] (omega (arith, is, length_push lists list)) ∙ ap Some (get_or_push lists list [] number (sym is))
-
 -- Tables that grow
-
-abbrev weigh : List Slot → ℕ
-weigh slots = sum_by (λ slot. min slot.held 1) slots
-
--- slots that are all taken are as many as lists
-all_taken : (slots : List Slot) → ((at : ℕ) → at < length slots → 0 < (slot_at slots at).held) → weigh slots ≡ length slots
-all_taken [] all = refl
-all_taken (slot ∷ slots) all =
-    let first = all 0 (omega arith) in
-    let others = all_taken slots (λ at within. all (suc at) (omega arith)) in
-    omega (arith, sum_by-cons (λ (s : Slot). min s.held 1) slot slots, first, others)
 
 -- a table whose slots are all taken has as many lists as slots
 pub no_room : (hashes : List ℕ) (slots : List Slot) → IsTable hashes slots → length hashes < length slots
     → ((at : ℕ) → at < length slots → 0 < (slot_at slots at).held) → ⊥
-no_room hashes slots table room all = omega (arith, all_taken slots all, table.taken, room)
+no_room hashes slots table room all = omega (arith, all_taken (λ (slot : Slot). slot.held) (record { hash = 0; held = 0 }) slots all, table.taken, room)
 
 IsSlot-more : (hashes : List ℕ) (hash : ℕ) (slot : Slot) → IsSlot hashes slot → IsSlot (hashes ++ hash ∷ []) slot
 IsSlot-more hashes hash slot is = record {
@@ -131,23 +93,11 @@ IsSlot-new hashes hash slot same held = record {
 -- one more list in the free slot that a search for its hash meets first
 module _ (hashes : List ℕ) (slots : List Slot) (hash : ℕ) (at : ℕ) (new : Slot) (table : IsTable hashes slots) (first : IsFirstFree slots hash at)
     (same : new.hash ≡ hash) (held : new.held ≡ length hashes + 1) where
-  length-placed : length (set slots at new) ≡ length slots
-  length-placed = length-set slots at new
-
   here : slot_at (set slots at new) at ≡ new
   here = get_or-set_same slots at new (record { hash = 0; held = 0 }) first.within
 
   elsewhere : (other : ℕ) → other ≢ at → slot_at (set slots at new) other ≡ slot_at slots other
   elsewhere other apart = get_or-set_other slots at other new (record { hash = 0; held = 0 }) apart
-
-  -- a slot that was taken, or the new one, is taken
-  stays_taken : (other : ℕ) → ((other ≢ at) → 0 < (slot_at slots other).held) → 0 < (slot_at (set slots at new) other).held
-  stays_taken other before =
-      let P : Slot → Type 0 = λ slot. 0 < slot.held in
-      elim (cases_eq other at) [
-        | inl is ↦ subst (λ n. P (slot_at (set slots at new) n)) (sym is) (subst P (sym here) (omega (arith, held)))
-        | inr apart ↦ subst P (sym (elsewhere other apart)) (before apart)
-      ]
 
   slots_after : (other : ℕ) → IsSlot (hashes ++ hash ∷ []) (slot_at (set slots at new) other)
   slots_after other =
@@ -161,18 +111,18 @@ module _ (hashes : List ℕ) (slots : List Slot) (hash : ℕ) (at : ℕ) (new : 
   place_kept k number place is =
       let apart : place ≢ at = λ e. let P : ℕ → Type 0 = λ n. (slot_at slots n).held ≡ number + 1 in omega (arith, subst P e is.holds, first.free) in
       record {
-        within = omega (arith, length-placed, is.within);
+        within = omega (arith, (length-set slots at new), is.within);
         holds = ap (λ (slot : Slot). slot.held) (elsewhere place apart) ∙ is.holds;
         reached = λ other within met.
-            stays_taken other (λ _. is.reached other (omega (arith, length-placed, within)) (subst (λ n. IsMet (home_of n k) place other) length-placed met));
+            stays_taken (λ (slot : Slot). slot.held) (record { hash = 0; held = 0 }) slots at new first.within (omega (arith, held)) other (λ _. is.reached other (omega (arith, (length-set slots at new), within)) (subst (λ n. IsMet (home_of n k) place other) (length-set slots at new) met));
       }
 
   place_made : IsPlace (set slots at new) hash (length hashes) at
   place_made = record {
-    within = omega (arith, length-placed, first.within);
+    within = omega (arith, (length-set slots at new), first.within);
     holds = ap (λ (slot : Slot). slot.held) here ∙ held;
     reached = λ other within met.
-        stays_taken other (λ _. first.first other (omega (arith, length-placed, within)) (subst (λ n. IsMet (home_of n hash) at other) length-placed met));
+        stays_taken (λ (slot : Slot). slot.held) (record { hash = 0; held = 0 }) slots at new first.within (omega (arith, held)) other (λ _. first.first other (omega (arith, (length-set slots at new), within)) (subst (λ n. IsMet (home_of n hash) at other) (length-set slots at new) met));
   }
 
   places_after : (number : ℕ) → number < length (hashes ++ hash ∷ []) → (place : ℕ) × IsPlace (set slots at new) (get_or (hashes ++ hash ∷ []) number 0) number place
@@ -187,32 +137,10 @@ module _ (hashes : List ℕ) (slots : List Slot) (hash : ℕ) (at : ℕ) (new : 
             (at, subst (λ k. IsPlace (set slots at new) k number at) (sym found) (subst (λ n. IsPlace (set slots at new) hash n at) (sym last) place_made))
       ]
 
-  held_here : (other : ℕ) → other ≡ at → (slot_at (set slots at new) other).held ≡ length hashes + 1
-  held_here other is = subst (λ n. (slot_at (set slots at new) n).held ≡ length hashes + 1) (sym is) (ap (λ (slot : Slot). slot.held) here ∙ held)
-
-  held_elsewhere : (other : ℕ) → other ≢ at → (slot_at (set slots at new) other).held ≡ (slot_at slots other).held
-  held_elsewhere other apart = ap (λ (slot : Slot). slot.held) (elsewhere other apart)
-
-  once_after : HoldOnce (set slots at new)
-  once_after first second taken same =
-      elim (cases_eq first at) [
-        | inl first_is ↦ elim (cases_eq second at) [
-          | inl second_is ↦ first_is ∙ sym second_is
-          | inr second_apart ↦ absurd (omega (arith, same, held_here first first_is, held_elsewhere second second_apart, (table.slots second).within))
-        ]
-        | inr first_apart ↦ elim (cases_eq second at) [
-          | inl second_is ↦ absurd (omega (arith, same, held_here second second_is, held_elsewhere first first_apart, (table.slots first).within))
-          | inr second_apart ↦
-              table.once first second (omega (arith, taken, held_elsewhere first first_apart))
-              (sym (held_elsewhere first first_apart) ∙ same ∙ held_elsewhere second second_apart)
-        ]
-      ]
-
   pub IsTable-placed : IsTable (hashes ++ hash ∷ []) (set slots at new)
   IsTable-placed = record {
     slots = slots_after;
     places = places_after;
-    once = once_after;
     taken =
         let step = sum_by-set (λ (slot : Slot). min slot.held 1) slots at new (record { hash = 0; held = 0 }) first.within in
         omega (arith, step, table.taken, held, first.free, length_push hashes hash);
@@ -220,7 +148,7 @@ module _ (hashes : List ℕ) (slots : List Slot) (hash : ℕ) (at : ℕ) (new : 
 
 -- Slots that are all free
 
-none_taken : (slots : List Slot) → ((at : ℕ) → (slot_at slots at).held ≡ 0) → weigh slots ≡ 0
+none_taken : (slots : List Slot) → ((at : ℕ) → (slot_at slots at).held ≡ 0) → weigh (λ (slot : Slot). slot.held) (record { hash = 0; held = 0 }) slots ≡ 0
 none_taken [] free = refl
 none_taken (slot ∷ slots) free =
     let first = free 0 in
@@ -231,7 +159,6 @@ pub IsTable-emptied : (slots : List Slot) → ((at : ℕ) → (slot_at slots at)
 IsTable-emptied slots free = record {
   slots = λ at. record { within = omega (arith, free at); hash = λ taken. absurd (omega (arith, taken, free at)) };
   places = λ number within. absurd (omega (arith, within));
-  once = λ at other taken same. absurd (omega (arith, taken, free at));
   taken = none_taken slots free;
 }
 
@@ -247,74 +174,3 @@ IsTable-free size =
     IsTable-emptied (replicate size (record { hash = 0; held = 0 })) (free_within (replicate size (record { hash = 0; held = 0 })) (λ at inside.
     ap (λ (slot : Slot). slot.held) (get_or-replicate size at (record { hash = 0; held = 0 }) (record { hash = 0; held = 0 })
     (omega (arith, inside, length-replicate {A = Slot} size (record { hash = 0; held = 0 }))))))
-
--- Slots that are freed one by one
-
--- the lists before this number have no slot any more
-pub record IsLeft (count number : ℕ) (slots : List Slot) : Type 0 where
-  pub once : HoldOnce slots
-  pub from : AreFrom number slots
-  pub within : (at : ℕ) → (slot_at slots at).held ≤ count
-
-pub left_first : (hashes : List ℕ) (slots : List Slot) → IsTable hashes slots → IsLeft (length hashes) 0 slots
-left_first hashes slots table = record {
-  once = table.once;
-  from = λ at. elim (cases_lt 0 (slot_at slots at).held) [ inl taken ↦ inr taken | inr free ↦ inl (omega (arith, free)) ];
-  within = λ at. (table.slots at).within;
-}
-
-pub left_next : (count number held : ℕ) (old new : List Slot) → held ≡ number + 1 → ((at : ℕ) → (slot_at new at).held ≢ held)
-    → ((at : ℕ) → (slot_at new at ≡ slot_at old at) ⊎ ((slot_at new at).held ≡ 0)) → IsLeft count number old → IsLeft count (number + 1) new
-left_next count number held old new is gone others left = record {
-  once = λ at other taken same. left.once at other (omega (arith, taken, same_held at taken)) (sym (same_held at taken) ∙ same ∙ same_held other (omega (arith, taken, same)));
-  from = λ at. elim (cases_lt 0 (slot_at new at).held) [
-    | inl taken ↦ elim (left.from at) [
-      | inl free ↦ absurd (omega (arith, free, taken, same_held at taken))
-      | inr later ↦ elim (cases_eq (slot_at new at).held held) [
-        | inl this ↦ absurd (gone at this)
-        | inr other ↦ inr (omega (arith, later, other, is, same_held at taken))
-      ]
-    ]
-    | inr free ↦ inl (omega (arith, free))
-  ];
-  within = λ at. elim (cases_lt 0 (slot_at new at).held) [
-    | inl taken ↦ omega (arith, same_held at taken, left.within at)
-    | inr free ↦ omega (arith, free)
-  ];
-}
-  where
-    same_held : (at : ℕ) → 0 < (slot_at new at).held → (slot_at new at).held ≡ (slot_at old at).held
-    same_held at taken = elim (others at) [
-      | inl same ↦ ap (λ (slot : Slot). slot.held) same
-      | inr free ↦ absurd (omega (arith, free, taken))
-    ]
-
-pub left_last : (count number : ℕ) (slots : List Slot) → count ≤ number → IsLeft count number slots → IsTable [] slots
-left_last count number slots all left = IsTable-emptied slots (λ at. elim (left.from at) [
-  | inl free ↦ free
-  | inr later ↦ absurd (omega (arith, later, all, left.within at))
-])
-
--- the one slot of a number is freed
-module _ (slots : List Slot) (at held : ℕ) (once : HoldOnce slots) (some : 0 < held) (within : at < length slots) (holds : (slot_at slots at).held ≡ held) where
-  freed_here : slot_at (set slots at (record { hash = 0; held = 0 })) at ≡ record { hash = 0; held = 0 }
-  freed_here = get_or-set_same slots at (record { hash = 0; held = 0 }) (record { hash = 0; held = 0 }) within
-
-  freed_elsewhere : (other : ℕ) → other ≢ at → slot_at (set slots at (record { hash = 0; held = 0 })) other ≡ slot_at slots other
-  freed_elsewhere other apart = get_or-set_other slots at other (record { hash = 0; held = 0 }) (record { hash = 0; held = 0 }) apart
-
-  pub release_gone : (other : ℕ) → (slot_at (set slots at (record { hash = 0; held = 0 })) other).held ≢ held
-  release_gone other is = elim (cases_eq other at) [
-    | inl here ↦
-        let free : (slot_at (set slots at (record { hash = 0; held = 0 })) other).held ≡ 0 = subst (λ n. (slot_at (set slots at (record { hash = 0; held = 0 })) n).held ≡ 0) (sym here) (ap (λ (slot : Slot). slot.held) freed_here) in
-        omega (arith, free, is, some)
-    | inr apart ↦
-        let old : (slot_at slots other).held ≡ held = sym (ap (λ (slot : Slot). slot.held) (freed_elsewhere other apart)) ∙ is in
-        apart (once other at (omega (arith, old, some)) (old ∙ sym holds))
-  ]
-
-  pub release_others : (other : ℕ) → (slot_at (set slots at (record { hash = 0; held = 0 })) other ≡ slot_at slots other) ⊎ ((slot_at (set slots at (record { hash = 0; held = 0 })) other).held ≡ 0)
-  release_others other = elim (cases_eq other at) [
-    | inl here ↦ inr (subst (λ n. (slot_at (set slots at (record { hash = 0; held = 0 })) n).held ≡ 0) (sym here) (ap (λ (slot : Slot). slot.held) freed_here))
-    | inr apart ↦ inl (freed_elsewhere other apart)
-  ]

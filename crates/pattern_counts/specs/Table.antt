@@ -1,6 +1,7 @@
 -- How a table finds the number of a list: from the home of its hash on, round all slots, up to a free one.
 use Rattle.std.specs.Prelude.{◌≡◌, ℕ, ◌+◌, ◌-◌, ◌<◌, ◌≤◌, ◌⊎◌, min, List, length, slice_index_or, bit_and}
 use Rattle.std.specs.List.{sum_by}
+use Rattle.mine_model.specs.Slots.{IsMet}
 use Rattle.pattern_counts.specs.declared.table.Slot.{Slot}
 
 -- where a search for a hash begins, among so many slots
@@ -10,10 +11,6 @@ home_of count hash = bit_and hash (count - 1)
 -- the slot, which is free past the last
 abbrev pub slot_at : List Slot → ℕ → Slot
 slot_at slots at = slice_index_or slots at (record { hash = 0; held = 0 })
-
--- a search that begins at home meets the slot before it meets the slot at the end
-abbrev pub IsMet : ℕ → ℕ → ℕ → Type 0
-IsMet home end at = ((home ≤ at) × (at < end)) ⊎ ((end < home) × ((home ≤ at) ⊎ (at < end)))
 
 -- the slot is free or has the number and the hash of a list
 pub record IsSlot (hashes : List ℕ) (slot : Slot) : Type 0 where
@@ -32,21 +29,9 @@ pub record IsPlace (slots : List Slot) (hash : ℕ) (number at : ℕ) : Type 0 w
   pub holds : (slot_at slots at).held ≡ number + 1
   pub reached : IsReached slots hash at
 
--- no two slots have one number
-abbrev pub HoldOnce : List Slot → Type 0
-HoldOnce slots =
-    (at other : ℕ) → 0 < (slot_at slots at).held → (slot_at slots at).held ≡ (slot_at slots other).held
-    → at ≡ other
-
 -- each list with one of these hashes has a slot, and no other slot is taken
 pub record IsTable (hashes : List ℕ) (table : List Slot) : Type 0 where
   pub slots : (at : ℕ) → IsSlot hashes (slot_at table at)
   pub places : (number : ℕ) → number < length hashes
       → (at : ℕ) × IsPlace table (slice_index_or hashes number 0) number at
-  pub once : HoldOnce table
   pub taken : sum_by (λ slot. min slot.held 1) table ≡ length hashes
-
--- only slots with numbers from this one on are taken
-abbrev pub AreFrom : ℕ → List Slot → Type 0
-AreFrom number slots =
-    (at : ℕ) → ((slot_at slots at).held ≡ 0) ⊎ (number < (slot_at slots at).held)

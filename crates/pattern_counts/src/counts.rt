@@ -7,7 +7,7 @@ ghost use Rattle.pattern_counts.specs.Hashes.{hash_of};
 ghost use Rattle.pattern_counts.specs.Counted.{HasRoom};
 
 use super::lists::Lists;
-use super::table::{Slot, find, make_room, place, release_all};
+use super::table::{Slot, find, free_all, make_room, place};
 use mine_model::NoMemory;
 use std::alloc::Global;
 use std::marker::Model;
@@ -65,7 +65,7 @@ impl Counts {
         if self.slots.len() / MOST_SPARSE > self.hashes.len() {
             self.slots = Vec::new(*self.slots.allocator());
         } else {
-            release_all(self.hashes.as_slice(), &mut self.slots);
+            free_all(&mut self.slots);
         }
         self.lists.clear();
         self.sums.clear();

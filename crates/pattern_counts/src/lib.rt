@@ -42,7 +42,8 @@ impl PatternCounts {
         }
     }
 
-    /// Forgets all lists. Keeps the memory, and takes time by the lists that were held.
+    /// Forgets all lists. Keeps the memory, but for a table of which little was used; takes time by the lists
+    /// that were held.
     pub fn clear(&mut self)
         ensures { self.new ≡ no_lists }
     {

@@ -2,7 +2,7 @@
 
 ghost use Rattle.std.specs.Prelude.{◌≡◌, ◌≢◌, ℕ, ◌+◌, ◌-◌, ◌≤◌, ◌<◌, ◌⊎◌, ◌↔◌, List, [], ◌∷◌, ◌++◌, map, length, slice_get, slice_index_or, Contains, Some, IsNone, IsTrue, IfSome, IfOk, OnOk, MatchOption};
 ghost use Rattle.pattern_counts.specs.Hashes.{hash_of};
-ghost use Rattle.pattern_counts.specs.Table.{home_of, slot_at, HoldOnce, IsSlot, IsTable};
+ghost use Rattle.pattern_counts.specs.Table.{home_of, slot_at, IsSlot, IsTable};
 ghost use Rattle.pattern_counts.specs.Searching.{Ends, IsFirstFree};
 
 use super::lists::Lists;
@@ -184,81 +184,12 @@ fn first_free(slots: &[Slot], from: usize, to: usize) -> Option<usize>
     None
 }
 
-/// Frees all slots of the lists with these hashes: one by one where they are few among the slots.
-pub(crate) fn release_all(hashes: &[u32], slots: &mut Vec<Slot>)
-    requires table { IsTable hashes.now slots.old.items }
-    requires few { length hashes.now < 4294967296 }
-    ensures size { length slots.new.items ≡ length slots.old.items }
-    ensures table { IsTable [] slots.new.items }
-{
-    if slots.len() / 8 <= hashes.len() {
-        free_all(slots);
-    } else {
-        release_each(hashes, slots);
-    }
-}
-
-fn free_all(slots: &mut Vec<Slot>)
+/// Frees all slots.
+pub(crate) fn free_all(slots: &mut Vec<Slot>)
     ensures size { length slots.new.items ≡ length slots.old.items }
     ensures table { IsTable [] slots.new.items }
 {
     for slot in slots.iter_mut() {
         *slot = FREE;
     }
-}
-
-fn release_each(hashes: &[u32], slots: &mut Vec<Slot>)
-    requires table { IsTable hashes.now slots.old.items }
-    requires few { length hashes.now < 4294967296 }
-    ensures size { length slots.new.items ≡ length slots.old.items }
-    ensures table { IsTable [] slots.new.items }
-{
-    for number in 0..hashes.len() {
-        release(slots, hashes[number], number as u32 + 1);
-    }
-}
-
-/// Frees the slot with this number, counted from 1. It stands as near to the home of its hash as when it was
-/// taken, but slots before it may be free by now.
-fn release(slots: &mut Vec<Slot>, hash: u32, held: u32)
-    requires once { HoldOnce slots.old.items }
-    requires held { 0 < held }
-    ensures size { length slots.new.items ≡ length slots.old.items }
-    ensures gone { (at : ℕ) → (slot_at slots.new.items at).held ≢ held }
-    ensures others { (at : ℕ) → (slot_at slots.new.items at ≡ slot_at slots.old.items at)
-        ⊎ ((slot_at slots.new.items at).held ≡ 0) }
-{
-    if let Some(at) = slot_of(slots.as_slice(), hash, held) {
-        slots[at] = FREE;
-    }
-}
-
-/// The slot with this number, sought from the home of the hash on.
-fn slot_of(slots: &[Slot], hash: u32, held: u32) -> Option<usize>
-    requires { 0 < held }
-    ensures { MatchOption result ((at : ℕ) → (slot_at slots.now at).held ≢ held)
-        (λ at. (at < length slots.now) × ((slot_at slots.now at).held ≡ held)) }
-{
-    if slots.is_empty() {
-        return None;
-    }
-    let home = home_in(slots, hash);
-    match first_with(slots, held, home, slots.len()) {
-        Some(at) => Some(at),
-        None => first_with(slots, held, 0, home),
-    }
-}
-
-/// The first slot with this number from `from` to before `to`.
-fn first_with(slots: &[Slot], held: u32, from: usize, to: usize) -> Option<usize>
-    requires { to ≤ length slots.now }
-    ensures { MatchOption result ((at : ℕ) → from ≤ at → at < to → (slot_at slots.now at).held ≢ held)
-        (λ at. (from ≤ at) × (at < to) × ((slot_at slots.now at).held ≡ held)) }
-{
-    for at in from..to {
-        if slots[at].held == held {
-            return Some(at);
-        }
-    }
-    None
 }

@@ -1,4 +1,4 @@
-ghost use Rattle.std.specs.Prelude.{◌≡◌, ℕ, Option, List, map, All, IfOk};
+ghost use Rattle.std.specs.Prelude.{◌≡◌, ℕ, Option, List, map, All, IfOk, OnOk};
 ghost use Rattle.mine_model.specs.declared.row.Row.{Row};
 
 use mine_model::{Grown, NoMemory};
@@ -8,6 +8,9 @@ use std::alloc::Global;
 pub trait Grow {
     /// A node of the tree, which is not grown yet.
     type Node: Drop;
+
+    /// Room that growing uses again, node after node.
+    type Room: Drop;
 
     // The label of a node.
     ghost label_of: { Self → Self.Node → List ℕ };
@@ -24,14 +27,28 @@ pub trait Grow {
     // The nodes that this tree handed out, and can grow.
     ghost IsOwn: { Self → Self.Node → Type 0 };
 
+    // The room is large enough for this tree.
+    ghost IsRoomy: { Self → Self.Room → Type 0 };
+
+    /// Room for growing.
+    fn room(&self, alloc: Global) -> Result<Self::Room, NoMemory>
+        ensures { IfOk result (IsRoomy self.now) };
+
     /// The roots.
     fn roots(&self, alloc: Global) -> Result<Vec<Self::Node>, NoMemory>
         ensures labels { IfOk result (λ nodes. map (label_of self.now) nodes.items ≡ roots_of self.now) }
         ensures own { IfOk result (λ nodes. All (IsOwn self.now) nodes.items) };
 
     /// What the node grows into. After `NoMemory` the node is dropped.
-    fn grow(&self, alloc: Global, node: Self::Node) -> Result<Grown<Self::Node>, NoMemory>
-        requires { IsOwn self.now node }
+    fn grow(
+        &self,
+        alloc: Global,
+        node: Self::Node,
+        room: &mut Self::Room,
+    ) -> Result<Grown<Self::Node>, NoMemory>
+        requires own { IsOwn self.now node }
+        requires room { IsRoomy self.now room.old }
+        ensures room { OnOk result (IsRoomy self.now room.new) }
         ensures label { IfOk result (λ grown. grown.label ≡ label_of self.now node) }
         ensures answer { IfOk result (λ grown. grown.row ≡ row_of self.now (label_of self.now node)) }
         ensures kids { IfOk result (λ grown.

@@ -40,6 +40,7 @@ pub fn run_schedule<G: Grow>(
     ensures rows { IfOk result (λ posted.
         posted.rows.items ≡ filter_map (G.row_of g.now) posted.labels.items) }
 {
+    let mut room = g.room(alloc)?;
     let mut machine = Machine::new(alloc, g, workers)?;
     let mut left = choices;
     'events: loop {
@@ -47,7 +48,7 @@ pub fn run_schedule<G: Grow>(
         let Some(event) = machine.chosen(choice) else {
             return Ok(machine.into_posted());
         };
-        step(alloc, &mut machine, g, event)?;
+        step(alloc, &mut machine, g, event, &mut room)?;
         left = later;
     }
 }

@@ -42,9 +42,12 @@ fn perform<G: Grow>(
     machine: &mut Machine<G::Node>,
     g: &G,
     event: Event,
+    room: &mut G::Room,
 ) -> Result<(), NoMemory>
+    requires room { G.IsRoomy g.now room.old }
     requires enabled { MayStep event machine.old.workers.items }
     requires own { IsOwned (G.IsOwn g.now) machine.old }
+    ensures room { OnOk result (G.IsRoomy g.now room.new) }
     ensures done { OnOk result
         (Step (G.kids_of g.now) event
         (seen (G.label_of g.now) machine.old) (seen (G.label_of g.now) machine.new)) }
@@ -54,7 +57,7 @@ fn perform<G: Grow>(
 {
     match event {
         Event::Post { w } => post(machine, w),
-        Event::Grow { w } => machine.workers[w as usize].grow(alloc, g),
+        Event::Grow { w } => machine.workers[w as usize].grow(alloc, g, room),
         Event::Put { w } => machine.workers[w as usize].put(),
         Event::Take { w } => machine.workers[w as usize].take(),
         Event::Steal { w, from } => steal(machine, w, from),
@@ -68,8 +71,11 @@ pub fn step<G: Grow>(
     machine: &mut Machine<G::Node>,
     g: &G,
     event: Event,
+    room: &mut G::Room,
 ) -> Result<bool, NoMemory>
-    requires { IsOwned (G.IsOwn g.now) machine.old }
+    requires own { IsOwned (G.IsOwn g.now) machine.old }
+    requires room { G.IsRoomy g.now room.old }
+    ensures room { OnOk result (G.IsRoomy g.now room.new) }
     ensures enabled { IfOk result (λ done.
         IsTrue done ↔ IsEnabled (G.kids_of g.now) event (seen (G.label_of g.now) machine.old)) }
     ensures done { IfOk result (λ done. IsTrue done →
@@ -86,6 +92,6 @@ pub fn step<G: Grow>(
     if !machine.enables(event) {
         return Ok(false);
     }
-    perform(alloc, machine, g, event)?;
+    perform(alloc, machine, g, event, room)?;
     Ok(true)
 }

@@ -66,6 +66,8 @@ struct Empty;
 impl Grow for Empty {
     type Node = Numbers;
 
+    type Room = ();
+
     ghost use Rattle.std.specs.Prelude.{[], None};
 
     ghost label_of = { λ _ node. node.items };
@@ -78,11 +80,22 @@ impl Grow for Empty {
 
     ghost IsOwn = { λ _ node. Unit {0} };
 
+    ghost IsRoomy = { λ _ room. Unit {0} };
+
+    fn room(&self, _alloc: Global) -> Result<(), NoMemory> {
+        Ok(())
+    }
+
     fn roots(&self, alloc: Global) -> Result<Vec<Numbers>, NoMemory> {
         Ok(Vec::new(alloc))
     }
 
-    fn grow(&self, alloc: Global, node: Numbers) -> Result<Grown<Numbers>, NoMemory> {
+    fn grow(
+        &self,
+        alloc: Global,
+        node: Numbers,
+        _room: &mut (),
+    ) -> Result<Grown<Numbers>, NoMemory> {
         Ok(Grown {
             label: Label::new(node),
             row: None,
@@ -96,6 +109,8 @@ struct Small;
 
 impl Grow for Small {
     type Node = Numbers;
+
+    type Room = ();
 
     ghost use Rattle.std.specs.Prelude.{[], ◌∷◌};
     ghost use Rattle.mine_model.proofs.GrowthLemmas.{kids_of as kids_by};
@@ -111,11 +126,22 @@ impl Grow for Small {
 
     ghost IsOwn = { λ _ node. Unit {0} };
 
+    ghost IsRoomy = { λ _ room. Unit {0} };
+
+    fn room(&self, _alloc: Global) -> Result<(), NoMemory> {
+        Ok(())
+    }
+
     fn roots(&self, alloc: Global) -> Result<Vec<Numbers>, NoMemory> {
         root(alloc)
     }
 
-    fn grow(&self, alloc: Global, node: Numbers) -> Result<Grown<Numbers>, NoMemory> {
+    fn grow(
+        &self,
+        alloc: Global,
+        node: Numbers,
+        _room: &mut (),
+    ) -> Result<Grown<Numbers>, NoMemory> {
         let ranks = small_ranks(node.as_slice());
         grown(alloc, node, ranks)
     }
@@ -142,6 +168,8 @@ struct Large;
 impl Grow for Large {
     type Node = Numbers;
 
+    type Room = ();
+
     ghost use Rattle.std.specs.Prelude.{[], ◌∷◌};
     ghost use Rattle.mine_model.proofs.GrowthLemmas.{kids_of as kids_by};
     ghost use Rattle.pool_schedule.specs.Trial.{row_by, large_ranks};
@@ -156,11 +184,22 @@ impl Grow for Large {
 
     ghost IsOwn = { λ _ node. Unit {0} };
 
+    ghost IsRoomy = { λ _ room. Unit {0} };
+
+    fn room(&self, _alloc: Global) -> Result<(), NoMemory> {
+        Ok(())
+    }
+
     fn roots(&self, alloc: Global) -> Result<Vec<Numbers>, NoMemory> {
         root(alloc)
     }
 
-    fn grow(&self, alloc: Global, node: Numbers) -> Result<Grown<Numbers>, NoMemory> {
+    fn grow(
+        &self,
+        alloc: Global,
+        node: Numbers,
+        _room: &mut (),
+    ) -> Result<Grown<Numbers>, NoMemory> {
         let ranks = large_ranks(node.as_slice());
         grown(alloc, node, ranks)
     }
@@ -233,7 +272,15 @@ fn a_thief_posts_in_depth(rt: HostRuntime) -> Result<(), Fail> {
     assert!(rt; has_labels(posted.labels.as_slice(), &IN_DEPTH));
     let mut machine = Machine::new(alloc, &Small, 3)?;
     assert_eq!(rt; machine.chosen(1), Some(Event::Steal { w: 1, from: 0 }));
-    assert!(rt; step(alloc, &mut machine, &Small, Event::Steal { w: 1, from: 0 })?);
+    assert!(rt;
+        step(
+            alloc,
+            &mut machine,
+            &Small,
+            Event::Steal { w: 1, from: 0 },
+            &mut ()
+        )?
+    );
     let mut posts = 0u64;
     for _ in 0..100u64 {
         let Some(event) = machine.chosen(0) else {
@@ -243,7 +290,7 @@ fn a_thief_posts_in_depth(rt: HostRuntime) -> Result<(), Fail> {
         if matches!(event, Event::Post { .. }) {
             posts += 1;
         }
-        assert!(rt; step(alloc, &mut machine, &Small, event)?);
+        assert!(rt; step(alloc, &mut machine, &Small, event, &mut ())?);
     }
     assert!(rt; machine.quiet());
     assert_eq!(rt; posts, 7);
@@ -254,8 +301,8 @@ fn a_thief_posts_in_depth(rt: HostRuntime) -> Result<(), Fail> {
 fn an_event_is_enabled_or_not(rt: HostRuntime) -> Result<(), Fail> {
     let alloc = rt.alloc();
     let mut machine = Machine::new(alloc, &Small, 1)?;
-    assert!(rt; !step(alloc, &mut machine, &Small, Event::Grow { w: 0 })?);
-    assert!(rt; step(alloc, &mut machine, &Small, Event::Take { w: 0 })?);
+    assert!(rt; !step(alloc, &mut machine, &Small, Event::Grow { w: 0 }, &mut ())?);
+    assert!(rt; step(alloc, &mut machine, &Small, Event::Take { w: 0 }, &mut ())?);
     let mut machine = Machine::new(alloc, &Small, 2)?;
     for event in [
         Event::Post { w: 2 },
@@ -265,11 +312,19 @@ fn an_event_is_enabled_or_not(rt: HostRuntime) -> Result<(), Fail> {
         Event::Steal { w: 2, from: 0 },
         Event::Steal { w: 0, from: 2 },
     ] {
-        assert!(rt; !step(alloc, &mut machine, &Small, event)?);
+        assert!(rt; !step(alloc, &mut machine, &Small, event, &mut ())?);
     }
     assert!(rt; !machine.quiet());
-    assert!(rt; step(alloc, &mut machine, &Small, Event::Steal { w: 1, from: 0 })?);
-    assert!(rt; step(alloc, &mut machine, &Small, Event::Put { w: 1 })?);
+    assert!(rt;
+        step(
+            alloc,
+            &mut machine,
+            &Small,
+            Event::Steal { w: 1, from: 0 },
+            &mut ()
+        )?
+    );
+    assert!(rt; step(alloc, &mut machine, &Small, Event::Put { w: 1 }, &mut ())?);
     Ok(())
 }
 

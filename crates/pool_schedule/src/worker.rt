@@ -90,14 +90,21 @@ impl<N: Drop> Worker<N> {
     }
 
     /// Grows the last node of the hand, and puts its kids there in order.
-    pub(crate) fn grow<G: Grow<Node = N>>(&mut self, alloc: Global, g: &G) -> Result<(), NoMemory>
+    pub(crate) fn grow<G: Grow<Node = N>>(
+        &mut self,
+        alloc: Global,
+        g: &G,
+        room: &mut G::Room,
+    ) -> Result<(), NoMemory>
         requires some { 0 < length self.old.hand.items }
         requires own { All (G.IsOwn g.now) self.old.hand.items }
-        ensures { OnOk result (GrowsNode
+        requires room { G.IsRoomy g.now room.old }
+        ensures room { OnOk result (G.IsRoomy g.now room.new) }
+        ensures grown { OnOk result (GrowsNode
             (G.label_of g.now) (G.kids_of g.now) (G.row_of g.now) (G.IsOwn g.now) self.old self.new) }
     {
         if let Some(node) = self.hand.pop_back() {
-            let grown = g.grow(alloc, node)?;
+            let grown = g.grow(alloc, node, room)?;
             self.hand.append(&mut VecDeque::from_vec(grown.kids))?;
             self.pending = Some(Pending {
                 label: grown.label,

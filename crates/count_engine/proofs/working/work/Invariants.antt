@@ -1,7 +1,8 @@
 use Rattle.std.proofs.Common.{◌≡◌, map}
 use Rattle.count_shards.specs.Shard.{entry_of}
 use Rattle.count_shards.specs.Shards.{ArePassesOf}
-use Rattle.count_engine.specs.Shares.{share_of, HasBlockPairs, IsTold}
+use Rattle.mine_model.specs.Counted.{IsTold}
+use Rattle.count_engine.specs.Shares.{share_of, HasBlockPairs}
 use Rattle.count_engine.proofs.MadeLemmas.{MadeMore}
 use Rattle.count_engine.proofs.working.work.Given as goal
 

@@ -4,6 +4,6 @@ use Rattle.count_shards.proofs.block.add_each.Given as goal
 
 abbrev pub invariant-loop-i : goal.invariant-loop-i
 invariant-loop-i l = record {
-  sixteen : length l.homes.items ≡ 16;
+  all : length l.homes.items ≡ 16;
   added : AddsEach (take l.i l.candidates.listed) l.weight l.fn.homes.items l.homes.items;
 }

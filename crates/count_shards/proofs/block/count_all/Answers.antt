@@ -43,7 +43,7 @@ loop-number-preserved c =
     let told : c.saturating_add-pairs.result ≡ told_of (c.loop-number.pairs + length listed) = c.saturating_add-pairs.ensures ∙ ap (λ m. told_of (c.loop-number.pairs + m)) c.len.ensures in
     record {
       problem = c.fill.ensures.problem ∙ c.loop-number.invariant.problem;
-      sixteen = c.add_each.ensures.sixteen;
+      all = c.add_each.ensures.all;
       tallied = tallied_more problem done next n listed c.loop-number.homes.items c.add_each.new.homes.items more are adds c.loop-number.invariant.tallied;
       pairs = pairs_more problem done next s c.loop-number.pairs c.saturating_add-pairs.result (length listed) more told (candidates_listed problem n listed c.db-db.ensures.whole are) c.loop-number.invariant.pairs;
     }

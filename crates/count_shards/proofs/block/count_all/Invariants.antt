@@ -6,7 +6,7 @@ use Rattle.count_shards.proofs.block.count_all.Given as goal
 abbrev pub invariant-loop-number : goal.invariant-loop-number
 invariant-loop-number l = record {
   problem : l.candidates.problem ≡ l.job;
-  sixteen : length l.homes.items ≡ 16;
+  all : length l.homes.items ≡ 16;
   tallied : AreTallied l.job (sequences_between l.job.sequences (256 * l.block) l.number) l.homes.items;
   pairs : ArePairs l.job (sequences_between l.job.sequences (256 * l.block) l.number) l.pairs;
 }

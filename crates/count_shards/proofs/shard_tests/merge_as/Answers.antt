@@ -30,4 +30,4 @@ returns-clause-added g c =
     let are : ArePassesOf shards new.items = rw is c.merge.ensures.passes in
     let at : slice_get lists c.args.worker ≡ Some old = slice_get-get_or lists c.args.worker old c.requires.worker ∙ ap (λ (l : PassList). Some l) (sym c.index_mut-list.ensures.value) in
     let told = rw c.as_mut_slice.ensures.value at c.merge.ensures.made in
-    on_ok_weaker c.merge.result (λ e. turn_added shards lists c.args.worker old new c.args.counts.now.number c.requires.lists at are c.requires.shards.sixteen (ap (map made) is ∙ e)) told
+    on_ok_weaker c.merge.result (λ e. turn_added shards lists c.args.worker old new c.args.counts.now.number c.requires.lists at are c.requires.shards.all (ap (map made) is ∙ e)) told

@@ -1,11 +1,12 @@
-use Rattle.std.proofs.Common.{◌≡◌, ◌∙◌, ap, subst, length, All}
+use Rattle.std.proofs.Common.{◌≡◌, ◌∙◌, sym, ap, subst, length, All}
 use Rattle.std.specs.List.{AllByRecursion}
 use Rattle.std.proofs.lemmas.List.Sorted.{All-permutation}
 use Rattle.mine_model.specs.declared.item.Item.{Item}
 use Rattle.mine_model.specs.declared.row.Row.{Row}
 use Rattle.mine_model.specs.Numbered.{tree_of, AreFrequent}
 use Rattle.mine_model.specs.Names.{HasName}
-use Rattle.desq_run.proofs.RowLemmas.{rows-named, rows-ordered, written_back}
+use Rattle.mine_model.proofs.ListLemmas.{written_back}
+use Rattle.desq_run.proofs.RowLemmas.{rows-named, rows-ordered}
 use Rattle.desq_run.proofs.rows.ordered_rows.Goals as goal
 
 pub order-requires-clause-named : goal.order-requires-clause-named
@@ -15,8 +16,8 @@ order-requires-clause-named g c =
 
 pub returns-clause-rows : goal.returns-clause-rows
 returns-clause-rows g c =
-    let back = written_back c.order.new.rows c.in_ok-rows.field-0.rows.items c.in_ok-rows.field-0.rows.len c.in_ok-rows.field-0.rows.ok.0
-    (c.order.auto.rows ∙ ap length c.as_mut_slice.ensures.value) in
+    let back = written_back c.order.new.rows c.in_ok-rows.field-0.rows.items c.in_ok-rows.field-0.rows.len
+    (c.in_ok-rows.field-0.rows.ok.0 ∙ sym (c.order.auto.rows ∙ ap length c.as_mut_slice.ensures.value)) in
     let same = rw c.as_mut_slice.ensures.value at c.order.ensures.same_rows in
     let compiled = rw c.new-job.ensures at c.in_ok-rows.ensures.frequent in
     let frequent : AreFrequent (record { links = c.args.hierarchy.links; sequences = c.args.db; expression = tree_of c.args.expression.now; threshold = c.args.command.now.support })
@@ -29,8 +30,8 @@ returns-clause-rows g c =
 
 pub returns-clause-named : goal.returns-clause-named
 returns-clause-named g c =
-    let back = written_back c.order.new.rows c.in_ok-rows.field-0.rows.items c.in_ok-rows.field-0.rows.len c.in_ok-rows.field-0.rows.ok.0
-    (c.order.auto.rows ∙ ap length c.as_mut_slice.ensures.value) in
+    let back = written_back c.order.new.rows c.in_ok-rows.field-0.rows.items c.in_ok-rows.field-0.rows.len
+    (c.in_ok-rows.field-0.rows.ok.0 ∙ sym (c.order.auto.rows ∙ ap length c.as_mut_slice.ensures.value)) in
     let same = rw c.as_mut_slice.ensures.value at c.order.ensures.same_rows in
     let items = rw c.new-job.ensures at c.in_ok-rows.ensures.items in
     rw back

@@ -4,7 +4,8 @@ use Rattle.fst_simulate.specs.declared.kinds.Kind.{Kind}
 use Rattle.fst_simulate.specs.Grids.{Reads}
 use Rattle.fst_simulate.specs.Tables.{IsClassOf}
 use Rattle.fst_simulate.specs.Kinds.{Goes, Needs, AreKinds}
-use Rattle.fst_simulate.proofs.KindLemmas.{AreKinds-grow, AreKinds-more, Extends-nothing, KindsGrow-nothing, entered_below, IsClassFor-of, IsKind-of, slice_get-last}
+use Rattle.mine_model.proofs.ElementLemmas.{stands_last}
+use Rattle.fst_simulate.proofs.KindLemmas.{AreKinds-grow, AreKinds-more, Extends-nothing, KindsGrow-nothing, entered_below, IsClassFor-of, IsKind-of}
 use Rattle.fst_simulate.proofs.kinds.kind_of.Goals as goal
 
 pub returns-in_err-push_outputs-clause-kinds : goal.returns-in_err-push_outputs-clause-kinds
@@ -51,7 +52,7 @@ returns-clause-kind c =
     let base : c.len-base.result ≡ length c.args.kinds.now.ends.items = omega (arith, c.len-base.ensures) in
     let kind : Kind = record { class = c.in_ok-class.class; base = c.len-base.result } in (
       kind,
-      (rw c.in_ok-push.ensures.items (slice_get-last c.args.kinds.now.kinds.items kind c.in_ok-number.number number)),
+      (rw c.in_ok-push.ensures.items (stands_last c.args.kinds.now.kinds.items kind c.in_ok-number.number number)),
       IsKind-of c.args.job.now c.args.bound c.class_number.new.self.classes c.push_outputs.new.ends.items c.push_outputs.new.ranks.items c.args.t kind (length c.args.kinds.now.ends.items) base
           c.in_ok-push_outputs.ensures.row class found
           (IsClassFor-of c.args.job.now c.args.bound c.args.t class c.push_outputs.new.scratch.silent.items c.push_outputs.new.scratch.goes.items c.push_outputs.new.scratch.needs.items of

@@ -2,9 +2,9 @@ use Rattle.std.proofs.Common.{◌≡◌, [], ◌∷◌, ◌++◌, map, subst, sy
 use Rattle.std.proofs.lemmas.List.{map_push, length-map}
 use Rattle.mine_model.specs.Names.{AreDistinct}
 use Rattle.mine_model.proofs.ListLemmas.{of_both}
+use Rattle.mine_model.proofs.NameLemmas.{AreDistinct-push}
 use Rattle.item_names.specs.Table.{key_of, AreBytes}
 use Rattle.item_names.proofs.KeyLemmas.{AreBytes-from}
-use Rattle.item_names.proofs.NamesLemmas.{AreDistinct-push}
 use Rattle.item_names.proofs.Names.append.Goals as goal
 
 distinct : (c : goal.After-place) → AreDistinct c.push.new.self

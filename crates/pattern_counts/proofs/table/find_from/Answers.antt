@@ -1,5 +1,6 @@
 use Rattle.std.proofs.Common.{true≢false, refl}
-use Rattle.pattern_counts.proofs.TableLemmas.{not_held_ahead, not_held_round, not_held_full, is_held}
+use Rattle.pattern_counts.proofs.TableLemmas.{not_held_ahead, not_held_round, not_held_full}
+use Rattle.mine_model.proofs.ElementLemmas.{get-held}
 use Rattle.pattern_counts.proofs.table.find_from.Goals as goal
 
 pub returns-in-Free-clause-none : goal.returns-in-Free-clause-none
@@ -11,7 +12,7 @@ returns-in-Free-clause-none c =
 
 pub returns-in-Held-search-clause-none : goal.returns-in-Held-search-clause-none
 returns-in-Held-search-clause-none c =
-    (λ none. absurd (true≢false none), λ absent. absurd (absent (is_held c.args.lists.now.lists c.args.list.now _ c.in-Held-search.ensures)))
+    (λ none. absurd (true≢false none), λ absent. absurd (absent (get-held c.args.lists.now.lists _ c.args.list.now c.in-Held-search.ensures)))
 
 pub returns-in-Free-search-clause-none : goal.returns-in-Free-search-clause-none
 returns-in-Free-search-clause-none c =

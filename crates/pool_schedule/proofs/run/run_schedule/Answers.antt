@@ -9,6 +9,7 @@ use Rattle.pool_schedule.proofs.run.run_schedule.Goals as goal
 
 pub events-init : goal.events-init
 events-init g c = record {
+  room = c.in_ok-room.ensures;
   own = c.in_ok-machine.ensures.own;
   rows = c.in_ok-machine.ensures.rows;
   balance = c.in_ok-machine.ensures.balance;
@@ -46,6 +47,7 @@ events-preserved g c =
     let step = picked_step (g.G.Grow.kids_of c.args.g.now) c.in-Some.event (seen (g.G.Grow.label_of c.args.g.now) c.events.machine) (seen (g.G.Grow.label_of c.args.g.now) c.step.new.machine)
     c.next_choice-choice.result.0 c.in_ok-step.field-0 (c.in-Some.ensures (g.G.Grow.label_of c.args.g.now)) c.in_ok-step.ensures.done c.in_ok-step.ensures.enabled in
     record {
+      room = c.in_ok-step.ensures.room;
       own = c.in_ok-step.ensures.own;
       rows = c.in_ok-step.ensures.rows c.events.invariant.rows;
       balance = c.in_ok-step.ensures.balance (g.G.Grow.roots_of c.args.g.now) c.events.invariant.balance;

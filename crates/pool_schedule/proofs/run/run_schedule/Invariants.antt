@@ -6,6 +6,7 @@ use Rattle.pool_schedule.proofs.run.run_schedule.Given as goal
 
 abbrev pub invariant-events : goal.invariant-events
 invariant-events g l = record {
+  room : g.G.Grow.IsRoomy l.g l.room;
   own : IsOwned (g.G.Grow.IsOwn l.g) l.machine;
   rows : HasRows (g.G.Grow.row_of l.g) l.machine;
   balance : IsBalanced (g.G.Grow.roots_of l.g) (g.G.Grow.kids_of l.g) (seen (g.G.Grow.label_of l.g) l.machine);
