@@ -75,6 +75,15 @@ module _ (Has : List Item → Type 0) where
   counts_skip s xs hasnt n (inl p) = absurd (hasnt p.0)
   counts_skip s xs hasnt n (inr p) = p.1
 
+  weigh_first : (s : Sequence Item) (xs ys : List (Sequence Item)) → ((m : ℕ) → WeighAtLeast Has xs m → WeighAtLeast Has ys m)
+      → (m : ℕ) → WeighAtLeast Has (s ∷ xs) m → WeighAtLeast Has (s ∷ ys) m
+  weigh_first s xs ys rest m (inl p) = inl (p.0, rest (m - s.weight) p.1)
+  weigh_first s xs ys rest m (inr p) = inr (rest m p)
+
+  weigh_skip : (s : Sequence Item) (xs : List (Sequence Item)) → (Has s.items → ⊥) → (m : ℕ) → WeighAtLeast Has (s ∷ xs) m → WeighAtLeast Has xs m
+  weigh_skip s xs hasnt m (inl p) = absurd (hasnt p.0)
+  weigh_skip s xs hasnt m (inr p) = p
+
   -- the numbers are those of some of the sequences, among them all that have the property
   record AreNumbers (from : ℕ) (sequences : List (Sequence Item)) (numbers : List ℕ) : Type 0 where
     rising : AllPairs (λ low high. low < high) numbers
@@ -109,7 +118,8 @@ module _ (Has : List Item → Type 0) where
   part_from : (from : ℕ) (sequences : List (Sequence Item)) (numbers : List ℕ) → AreNumbers from sequences numbers
       → ((n : ℕ) → Counts Has (map (numbered from sequences) numbers) n → Counts Has sequences n)
       × ((n : ℕ) → Counts Has sequences n → Counts Has (map (numbered from sequences) numbers) n)
-  part_from from [] [] are = ((λ n c. c), (λ n c. c))
+      × ((m : ℕ) → WeighAtLeast Has sequences m → WeighAtLeast Has (map (numbered from sequences) numbers) m)
+  part_from from [] [] are = ((λ n c. c), (λ n c. c), (λ m w. w))
   part_from from [] (i ∷ numbers) are =
       absurd (omega (arith, are.least i (Contains-first i numbers), are.most i (Contains-first i numbers)))
   part_from from (s ∷ sequences) [] are =
@@ -117,6 +127,7 @@ module _ (Has : List Item → Type 0) where
       let hasnt : Has s.items → ⊥ = λ has. Contains-none from (are.all from (omega arith) (omega arith) (subst (λ (t : Sequence Item). Has t.items) (sym (first_is from s sequences)) has)) in (
         (λ n c. inr (hasnt, rest.0 n c)),
         (λ n c. rest.1 n (counts_skip s sequences hasnt n c)),
+        (λ m w. rest.2 m (weigh_skip s sequences hasnt m w)),
       )
   part_from from (s ∷ sequences) (i ∷ numbers) are = elim (cases_eq i from) [
     | inl here ↦
@@ -128,6 +139,7 @@ module _ (Has : List Item → Type 0) where
         let same : map (numbered from (s ∷ sequences)) (i ∷ numbers) ≡ s ∷ map (numbered (suc from) sequences) numbers = (λ j. first j ∷ numbers_later from s sequences numbers above j) in (
           (λ n c. counts_first s (map (numbered (suc from) sequences) numbers) sequences rest.0 n (subst (λ l. Counts Has l n) same c)),
           (λ n c. subst (λ l. Counts Has l n) (sym same) (counts_first s sequences (map (numbered (suc from) sequences) numbers) rest.1 n c)),
+          (λ m w. subst (λ l. WeighAtLeast Has l m) (sym same) (weigh_first s sequences (map (numbered (suc from) sequences) numbers) rest.2 m w)),
         )
     | inr other ↦
         let above : (k : ℕ) → Contains (i ∷ numbers) k → from < k = λ k held. (elim (Contains-cases i numbers k held) [
@@ -139,8 +151,24 @@ module _ (Has : List Item → Type 0) where
         let same : map (numbered from (s ∷ sequences)) (i ∷ numbers) ≡ map (numbered (suc from) sequences) (i ∷ numbers) = numbers_later from s sequences (i ∷ numbers) above in (
           (λ n c. inr (hasnt, rest.0 n (subst (λ l. Counts Has l n) same c))),
           (λ n c. subst (λ l. Counts Has l n) (sym same) (rest.1 n (counts_skip s sequences hasnt n c))),
+          (λ m w. subst (λ l. WeighAtLeast Has l m) (sym same) (rest.2 m (weigh_skip s sequences hasnt m w))),
         )
   ]
+
+  numbers_of : (sequences : List (Sequence Item)) (numbers : List ℕ) → AllPairs (λ low high. low < high) numbers
+      → ((i : ℕ) → Contains numbers i → i < length sequences)
+      → ((i : ℕ) → i < length sequences → Has (sequence_at sequences i).items → Contains numbers i)
+      → AreNumbers 0 sequences numbers
+  numbers_of sequences numbers rising within all = record {
+    rising = rising;
+    least = λ i held. omega arith;
+    most = λ i held. omega (arith, within i held);
+    all = λ i above below has. all i (omega (arith, below)) (let e : i - 0 ≡ i = omega arith in subst (λ k. Has (sequence_at sequences k).items) e has);
+  }
+
+  numbered_all : (sequences : List (Sequence Item)) (numbers : List ℕ) → map (numbered 0 sequences) numbers ≡ map (λ i. sequence_at sequences i) numbers
+  numbered_all sequences numbers =
+      map-same (numbered 0 sequences) (λ i. sequence_at sequences i) numbers (λ i held. (let e : i - 0 ≡ i = omega arith in ap (sequence_at sequences) e))
 
   -- A part has the sequences with these numbers. Where it has all sequences with the property, these weigh in it
   -- what they weigh among all.
@@ -149,17 +177,19 @@ module _ (Has : List Item → Type 0) where
       → ((i : ℕ) → i < length sequences → Has (sequence_at sequences i).items → Contains numbers i)
       → (n : ℕ) → Counts Has (map (λ i. sequence_at sequences i) numbers) n ↔ Counts Has sequences n
   Counts-part sequences numbers rising within all n =
-      let both = part_from 0 sequences numbers (record {
-        rising = rising;
-        least = λ i held. omega arith;
-        most = λ i held. omega (arith, within i held);
-        all = λ i above below has. all i (omega (arith, below)) (let e : i - 0 ≡ i = omega arith in subst (λ k. Has (sequence_at sequences k).items) e has);
-      }) in
-      let same : map (numbered 0 sequences) numbers ≡ map (λ i. sequence_at sequences i) numbers =
-      map-same (numbered 0 sequences) (λ i. sequence_at sequences i) numbers (λ i held. (let e : i - 0 ≡ i = omega arith in ap (sequence_at sequences) e)) in (
-        (λ c. both.0 n (subst (λ l. Counts Has l n) (sym same) c)),
-        (λ c. subst (λ l. Counts Has l n) same (both.1 n c)),
+      let parts = part_from 0 sequences numbers (numbers_of sequences numbers rising within all) in (
+        (λ c. parts.0 n (subst (λ l. Counts Has l n) (sym (numbered_all sequences numbers)) c)),
+        (λ c. subst (λ l. Counts Has l n) (numbered_all sequences numbers) (parts.1 n c)),
       )
+
+  -- and in it they weigh at least what they weigh at least among all
+  pub WeighAtLeast-part : (sequences : List (Sequence Item)) (numbers : List ℕ) → AllPairs (λ low high. low < high) numbers
+      → ((i : ℕ) → Contains numbers i → i < length sequences)
+      → ((i : ℕ) → i < length sequences → Has (sequence_at sequences i).items → Contains numbers i)
+      → (m : ℕ) → WeighAtLeast Has sequences m → WeighAtLeast Has (map (λ i. sequence_at sequences i) numbers) m
+  WeighAtLeast-part sequences numbers rising within all m weigh =
+      subst (λ l. WeighAtLeast Has l m) (numbered_all sequences numbers)
+      ((part_from 0 sequences numbers (numbers_of sequences numbers rising within all)).2 m weigh)
 
 -- Prefixes
 

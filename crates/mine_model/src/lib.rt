@@ -37,7 +37,8 @@ pub use item::{Item, Name, Pattern};
 pub use label::{Grown, Label};
 pub use laws::{
     at_most_one_answer, at_most_one_expression_refusal, at_most_one_list_of_tokens,
-    at_most_one_reading, at_most_one_support, at_most_one_tree, at_most_one_work,
+    at_most_one_reading, at_most_one_search_work, at_most_one_support, at_most_one_tree,
+    at_most_one_work,
 };
 pub use memory::NoMemory;
 pub use mined::{Mined, Work};
