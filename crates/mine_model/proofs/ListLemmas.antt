@@ -211,9 +211,9 @@ rising_same (x ∷ xs) (y ∷ ys) left right there back =
     λ i. first i ∷ rest i
 
 -- a list is empty or has a last element
-pub snoc-view : {X : Type 0} (xs : List X) → (xs ≡ []) ⊎ ((front : List X) × (last : X) × (xs ≡ front ++ last ∷ []))
-snoc-view [] = inl refl
-snoc-view (x ∷ xs) = elim (snoc-view xs) [
+pub last-cases : {X : Type 0} (xs : List X) → (xs ≡ []) ⊎ ((front : List X) × (last : X) × (xs ≡ front ++ last ∷ []))
+last-cases [] = inl refl
+last-cases (x ∷ xs) = elim (last-cases xs) [
   | inl none ↦ inr ([], x, ap (λ l. x ∷ l) none)
   | inr some ↦ (let (front, last, same) = some in inr (x ∷ front, last, ap (λ l. x ∷ l) same))
 ]

@@ -15,7 +15,7 @@ use Rattle.mine_model.specs.Answer.{Data}
 use Rattle.mine_model.specs.Growth.{IsAlive}
 use Rattle.mine_model.specs.Cover.{GrowByOne, Covers, AreApart, IsOnce, IsTree, down_to}
 use Rattle.mine_model.specs.SearchTree.{IsWithinPivot, label_of, IsAliveLabel, AreKids, IsRowAt, IsRowOf, AreRootsOf, SearchTree, IsSearchTree}
-use Rattle.mine_model.proofs.ListLemmas.{Contains-cases, Contains-first, Contains-other, Contains-none, Contains-by, Contains-from, AllByRecursion-contained, AllByRecursion-weaker, AllPairs-head, AllPairs-tail, rising_same, snoc-view}
+use Rattle.mine_model.proofs.ListLemmas.{Contains-cases, Contains-first, Contains-other, Contains-none, Contains-by, Contains-from, AllByRecursion-contained, AllByRecursion-weaker, AllPairs-head, AllPairs-tail, rising_same, last-cases}
 use Rattle.mine_model.proofs.SupportLemmas.{Counts-unique}
 use Rattle.mine_model.proofs.RankedLemmas.{ranked-same, ranked-split, ranked-length}
 use Rattle.mine_model.proofs.AboveLemmas.{pattern-shorter}
@@ -147,7 +147,7 @@ module _ (d : Data Item) (order : List Item) where
     -- its labels are those of the pivots and their alive prefixes
     pub search-tree : IsTree tree.roots tree.kids (IsNode pivots)
     search-tree label = (
-      (λ node. let (pivot, ranks, inside, same, alive) = node in elim (snoc-view ranks) [
+      (λ node. let (pivot, ranks, inside, same, alive) = node in elim (last-cases ranks) [
         | inl none ↦ inl (subst (Contains tree.roots) (sym (same ∙ ap (label_of pivot) none))
             (alive-root pivots tree.roots is.roots pivot inside (subst (IsAliveLabel d order pivot) none alive)))
         | inr some ↦
