@@ -13,4 +13,4 @@ mod view;
 mod walk;
 
 pub use listing::CandidateList;
-pub use patterns::{candidates, pattern_of};
+pub use patterns::candidates;

@@ -1,7 +1,7 @@
 use Rattle.std.proofs.Common.{take, get_or}
 use Rattle.std.proofs.lemmas.List.{take_more}
 use Rattle.mine_model.proofs.RankedLemmas.{ranked-push}
-use Rattle.candidate_gen.proofs.patterns.pattern_of.Goals as goal
+use Rattle.frequency_list.proofs.patterns.pattern_of.Goals as goal
 
 pub loop-rank-preserved : goal.loop-rank-preserved
 loop-rank-preserved c =
