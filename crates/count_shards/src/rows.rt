@@ -2,7 +2,7 @@ ghost use Rattle.std.specs.Prelude.{◌≡◌, ◌≢◌, ℕ, ◌≤◌, List, 
 ghost use Rattle.pattern_counts.specs.Tally.{sum_of};
 ghost use Rattle.count_shards.specs.Rows.{Appends, IsCountedRow};
 
-use candidate_gen::pattern_of;
+use frequency_list::pattern_of;
 use mine_model::{NoMemory, Ranks, Row};
 use pattern_counts::PatternCounts;
 use std::alloc::Global;

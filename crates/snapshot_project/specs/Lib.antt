@@ -2,3 +2,5 @@
 pub mod Runs
 pub mod Snapshots
 pub mod Extensions
+-- what the proofs keep
+pub mod Live

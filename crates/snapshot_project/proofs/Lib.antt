@@ -1,0 +1,7 @@
+pub mod RunLemmas
+pub mod NeedLemmas
+pub mod SnapshotLemmas
+pub mod LiveLemmas
+pub mod ExtensionLemmas
+pub mod SumLemmas
+pub mod GroupLemmas
