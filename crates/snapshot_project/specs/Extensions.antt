@@ -5,7 +5,7 @@ use Rattle.mine_model.specs.Numbered.{tree_of}
 use Rattle.mine_model.specs.Database.{sequence_at}
 use Rattle.mine_model.specs.Generation.{IsPatternOf}
 use Rattle.mine_model.specs.Support.{Sequence, Counts}
-use Rattle.mine_model.specs.Growth.{HasPatternBehind}
+use Rattle.mine_model.specs.Growth.{WeighAtLeast, HasPatternBehind}
 use Rattle.mine_model.specs.Ranks.{AreRanked}
 use Rattle.mine_model.specs.SearchTree.{IsWithin}
 use Rattle.fst_simulate.specs.Problems.{data_of}
@@ -39,6 +39,6 @@ CanFollow part ranks rank weight = Counts (GrowsBehind part (ranks ++ rank ∷ [
 pub record AreNextRanks (part : GridList) (ranks : List ℕ) (least : ℕ) (found : List NextRank) : Type 0 where
   pub rising : AllPairs (λ low high. low.rank < high.rank) found
   pub right : (next : NextRank) → Contains found next
-      → (least ≤ next.support) × CanFollow part ranks next.rank next.support
-  pub all : (rank weight : ℕ) → CanFollow part ranks rank weight → least ≤ weight
+      → (least ≤ next.weight) × CanFollow part ranks next.rank next.weight
+  pub all : (rank : ℕ) → WeighAtLeast (GrowsBehind part (ranks ++ rank ∷ [])) (sequences_of part) least
       → (next : NextRank) × Contains found next × (next.rank ≡ rank)
