@@ -7,11 +7,10 @@ mod listing;
 mod patterns;
 mod place;
 mod rank_lists;
-mod successors;
 #[cfg(test)]
 mod tests;
 mod view;
 mod walk;
 
 pub use listing::CandidateList;
-pub use patterns::{candidates, pattern_of};
+pub use patterns::candidates;

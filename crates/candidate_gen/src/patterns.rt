@@ -1,10 +1,11 @@
 ghost use Rattle.std.specs.Prelude.{◌≡◌, ◌≤◌, ◌<◌, length, All, IfOk};
-ghost use Rattle.mine_model.specs.Ranks.{AreRanked, AreAllRanked};
+ghost use Rattle.mine_model.specs.Ranks.{AreAllRanked};
 ghost use Rattle.candidate_gen.specs.Candidates.{AreCandidates};
 
 use super::listing::CandidateList;
+use frequency_list::pattern_of;
 use fst_simulate::Job;
-use mine_model::{NoMemory, Pattern, Ranks};
+use mine_model::{NoMemory, Pattern};
 use std::alloc::Global;
 
 /// The candidates of a sequence, rising by their ranks.
@@ -46,16 +47,4 @@ fn patterns_of(alloc: Global, job: &Job, list: &CandidateList) -> Result<Vec<Pat
         patterns.push(pattern)?;
     }
     Ok(patterns)
-}
-
-/// The pattern of the items with these ranks.
-pub fn pattern_of(alloc: Global, ranks: &Ranks, list: &[u32]) -> Result<Pattern, NoMemory>
-    requires { All (λ rank. (1 ≤ rank) × (rank ≤ length ranks.now.order)) list.now }
-    ensures { IfOk result (λ pattern. AreRanked ranks.now.order pattern list.now) }
-{
-    let mut items = Vec::with_capacity(alloc, list.len())?;
-    for rank in list {
-        items.push(ranks.item(*rank))?;
-    }
-    Ok(Pattern::new(items))
 }

@@ -10,7 +10,7 @@ use Rattle.mine_model.specs.Counted.{told_of}
 use Rattle.count_shards.specs.Shards.{ShardPass, PassLists}
 use Rattle.count_engine.specs.declared.hands.Hand.{Hand}
 use Rattle.count_engine.specs.declared.hands.Done.{Done}
-use Rattle.count_engine.specs.Shares.{AreHandsOf, AreListsOf, pairs_told}
+use Rattle.count_engine.specs.Hands.{AreHandsOf, AreListsOf, pairs_told}
 
 pub hands_more : (lists : PassLists) (hands : List Hand) (passes : Vec ShardPass Global) (worker : ℕ) → AreHandsOf lists hands → worker ≡ length hands
     → AreHandsOf (lists ++ passes ∷ []) (hands ++ (record { worker = worker; passes = passes }) ∷ [])

@@ -1,12 +1,12 @@
 -- What all workers together gave back.
-use Rattle.std.proofs.Common.{◌≡◌, ℕ, zero, suc, ◌+◌, ◌*◌, ◌%◌, ◌<◌, ◌≤◌, List, [], ◌∷◌, ◌++◌, map, length, take, drop, Option, Some, None, Result, Ok, Err, slice_get, get_or, refl, sym, subst, ap, ◌∙◌, arith, All, sum_by}
+use Rattle.std.proofs.Common.{◌≡◌, ℕ, zero, suc, ◌+◌, ◌*◌, ◌%◌, ◌<◌, ◌≤◌, List, [], ◌∷◌, ◌++◌, map, length, take, drop, Option, Some, None, Result, Ok, Err, IfOk, slice_get, get_or, refl, sym, subst, ap, ◌∙◌, arith, All, sum_by}
 use Rattle.std.specs.List.{flat_map, range_with_len, filter_map, cons_option}
 use Rattle.std.specs.declared.alloc.Global.{Global}
 use Rattle.std.specs.declared.vec.Vec.{Vec}
 use Rattle.std.proofs.lemmas.List.{map-append}
 use Rattle.std.proofs.lemmas.List.Sums.{sum_by-append, sum_by-cons}
 use Rattle.std.proofs.lemmas.List.Elements.{All-head, All-tail}
-use Rattle.std.proofs.lemmas.Option.{slice_get-get_or, same_Some}
+use Rattle.std.proofs.lemmas.Option.{slice_get-get_or, slice_get_within, get_or_from_slice_get, same_Some}
 use Rattle.mine_model.specs.declared.item.Item.{Item}
 use Rattle.mine_model.specs.declared.memory.NoMemory.{NoMemory}
 use Rattle.mine_model.specs.Answer.{Data}
@@ -16,11 +16,13 @@ use Rattle.mine_model.specs.Support.{Sequence}
 use Rattle.fst_simulate.specs.Problems.{Problem, data_of}
 use Rattle.turn_lock.specs.Passes.{made, pass_count}
 use Rattle.count_shards.specs.declared.shards.Shards.{Shards}
-use Rattle.count_shards.specs.Blocks.{sequences_in, block_count, SumsBy}
+use Rattle.count_shards.specs.Blocks.{home_count, sequences_in, block_count, SumsBy}
 use Rattle.count_shards.specs.Shard.{entry_of}
 use Rattle.count_shards.specs.Shards.{Lock, ShardPass, PassLists, ArePassesOf, AreShardsOf, AreAllLists, column, AddedEachOnce}
+use Rattle.count_engine.specs.declared.hands.Hand.{Hand}
 use Rattle.count_engine.specs.declared.hands.Done.{Done}
-use Rattle.count_engine.specs.Shares.{share_of, HasBlockPairs, IsDone, AreListsOf, pairs_told}
+use Rattle.count_engine.specs.Shares.{share_of, HasBlockPairs}
+use Rattle.count_engine.specs.Hands.{AreHandsOf, IsDone, AreListsOf, pairs_told}
 use Rattle.count_shards.proofs.BlockSums.{sums_more, sums_reordered, sums_laid}
 use Rattle.count_engine.proofs.ShareLemmas.{all_shares_of, shares_are_all, share_with, sums-append, sums-flat, told-left, told-right}
 
@@ -35,8 +37,8 @@ AreDone problem shards workers from results =
 module _ (problem : Problem) (shards : Shards) (workers : ℕ) where
   -- ---- passes
 
-  column_made : (home from : ℕ) (lists : PassLists) → home < 16
-      → ((k : ℕ) (list : Vec ShardPass Global) → slice_get lists k ≡ Some list → (length list.items ≡ 16)
+  column_made : (home from : ℕ) (lists : PassLists) → home < home_count
+      → ((k : ℕ) (list : Vec ShardPass Global) → slice_get lists k ≡ Some list → (length list.items ≡ home_count)
       × All (λ pass. made pass ≡ map entry_of (share_of (from + k) workers (block_count problem))) list.items)
       → flat_map made (column home lists) ≡ flat_map (λ w. map entry_of (share_of w workers (block_count problem))) (range_with_len from (length lists))
   column_made home from [] within each = refl
@@ -104,6 +106,18 @@ module _ (problem : Problem) (shards : Shards) (workers : ℕ) where
       each = λ k d below. (done_at k (get_or lists k d) (slice_get-get_or lists k d below)).0;
       all = subst (λ (n : ℕ). All (λ (lock : Lock). pass_count lock ≡ n) shards.locks.items) (few ∙ sym (given.all ∙ all)) are.all;
     }
+
+  -- what each worker gave back, by its number
+  pub all_done : (lists : PassLists) (hands : List Hand) (results : List (Result Done NoMemory)) → length results ≡ length hands → AreHandsOf lists hands
+      → ((k : ℕ) (d : Result Done NoMemory) → k < length hands
+      → (hand : Hand) × (get_or hands k hand ≡ hand) × IfOk (get_or results k d) (IsDone problem shards workers hand.worker))
+      → AreDone problem shards workers 0 results
+  all_done lists hands results many handed each k done at =
+      let within : k < length hands = omega (arith, many, slice_get_within results k (Ok done) at) in
+      let (hand, is, does) = each k (Ok done) within in
+      let own : IsDone problem shards workers hand.worker done = subst (λ r. IfOk r (IsDone problem shards workers hand.worker)) (get_or_from_slice_get results k (Ok done) (Ok done) at) does in
+      let there : slice_get hands k ≡ Some hand = slice_get-get_or hands k hand within ∙ ap (λ (h : Hand). Some h) is in
+      subst (λ w. IsDone problem shards workers w done) ((handed.each k hand there).0 ∙ omega arith) own
 
   -- ---- pairs
 

@@ -5,6 +5,7 @@ ghost use Rattle.std.specs.Prelude.{◌≡◌, ◌≤◌, ◌<◌, length, IfOk}
 ghost use Rattle.std.specs.List.{AllByRecursion};
 ghost use Rattle.mine_model.specs.Ranks.{AreRanks, AreTiesByName};
 
+mod patterns;
 mod pieces;
 mod ranking;
 mod tally;
@@ -15,6 +16,8 @@ use pieces::frequencies;
 use ranking::ranked;
 use std::alloc::Global;
 use std::thread::Threads;
+
+pub use patterns::pattern_of;
 
 /// The frequency of each item of the hierarchy, and the ranks of those whose frequency reaches the support:
 /// by falling frequency, and those of one frequency by their names in byte order, a proper prefix first.

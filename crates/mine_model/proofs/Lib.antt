@@ -35,3 +35,6 @@ pub mod TestedLists
 pub mod ApartLemmas
 pub mod SumLemmas
 pub mod SlotLemmas
+pub mod AliveLemmas
+pub mod SearchTreeLemmas
+pub mod SearchAnswerLemmas

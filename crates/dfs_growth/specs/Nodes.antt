@@ -1,0 +1,23 @@
+-- Nodes of the search tree.
+use Rattle.std.specs.Prelude.{ℕ, List, [], ◌∷◌, ◌++◌}
+use Rattle.mine_model.specs.SearchTree.{label_of}
+use Rattle.fst_simulate.specs.Problems.{Problem}
+
+-- what a node says: the problem, its pivot or 0, and the ranks of its prefix
+pub record Prefix : Type 0 where
+  pub problem : Problem
+  pub pivot : ℕ
+  pub ranks : List ℕ
+
+-- the label of the node
+abbrev pub label_at : Prefix → List ℕ
+label_at prefix = label_of prefix.pivot prefix.ranks
+
+-- the node with the label
+abbrev pub prefix_at : Problem → List ℕ → Prefix
+prefix_at problem [] = record { problem = problem; pivot = 0; ranks = [] }
+prefix_at problem (pivot ∷ ranks) = record { problem = problem; pivot = pivot; ranks = ranks }
+
+-- the node whose prefix is longer by the rank
+abbrev pub longer_by : Prefix → ℕ → Prefix
+longer_by prefix rank = record prefix { ranks = prefix.ranks ++ rank ∷ [] }

@@ -1,0 +1,42 @@
+-- What a node keeps of its prefix: a part and the snapshots in it, the projected database of the DESQ article.
+use Rattle.std.specs.Prelude.{◌≡◌, ℕ, List, [], length}
+use Rattle.std.specs.Arc.{arc_value}
+use Rattle.fst_simulate.specs.declared.part_seed.PartSeed.{PartSeed}
+use Rattle.fst_simulate.specs.Problems.{Problem}
+use Rattle.fst_simulate.specs.Grids.{GridList}
+use Rattle.fst_simulate.specs.Parts.{pivot_of, IsComplete}
+use Rattle.snapshot_project.specs.Snapshots.{SnapshotList, AreSnapshots, bound_of}
+use Rattle.dfs_growth.specs.declared.state.State.{State}
+use Rattle.dfs_growth.specs.declared.state.State.TheVariants.{Root, Projected}
+use Rattle.dfs_growth.specs.Nodes.{Prefix}
+
+-- the part of the sequences of the seed
+abbrev pub part_of : Problem → PartSeed → GridList
+part_of problem seed = record {
+  problem = problem;
+  bound = bound_of (length problem.ranking.order) seed.pivot;
+  sequences = seed.sequences.items;
+}
+
+-- the part of a complete seed with the pivot, or 0
+pub record IsPartBy (problem : Problem) (pivot : ℕ) (part : GridList) : Type 0 where
+  pub seed : PartSeed
+  pub complete : IsComplete problem seed
+  pub pivot_is : pivot_of seed.pivot ≡ pivot
+  pub part_is : part ≡ part_of problem seed
+
+-- the part is that of the pivot, and the snapshots are those of the prefix
+pub record IsProjection (prefix : Prefix) (part : GridList) (list : SnapshotList) : Type 0 where
+  pub part_by : IsPartBy prefix.problem prefix.pivot part
+  pub snapshots : AreSnapshots part prefix.ranks list
+
+-- the seed is that of the pivot, and the prefix is empty
+pub record IsRootOf (prefix : Prefix) (seed : PartSeed) : Type 0 where
+  pub complete : IsComplete prefix.problem seed
+  pub pivot_is : pivot_of seed.pivot ≡ prefix.pivot
+  pub empty : prefix.ranks ≡ []
+
+-- the state is that of the node
+abbrev pub IsStateOf : Prefix → State → Type 0
+IsStateOf prefix (Root seed) = IsRootOf prefix seed
+IsStateOf prefix (Projected part list) = IsProjection prefix (arc_value part) list

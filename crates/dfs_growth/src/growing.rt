@@ -1,0 +1,151 @@
+//! What a node grows into.
+
+ghost use Rattle.std.specs.Prelude.{◌≡◌, ℕ, ◌≤◌, ◌<◌, Some, map, length, slice_get, All, AllPairs, IfOk};
+ghost use Rattle.std.specs.Arc.{arc_value};
+ghost use Rattle.mine_model.specs.SearchTree.{IsRowOf, AreKids};
+ghost use Rattle.fst_simulate.specs.Problems.{data_of};
+ghost use Rattle.snapshot_project.specs.declared.next_rank.NextRank.{NextRank as Next};
+ghost use Rattle.snapshot_project.specs.Snapshots.{SnapshotList};
+ghost use Rattle.dfs_growth.specs.Nodes.{Prefix, label_at, prefix_at, longer_by};
+ghost use Rattle.dfs_growth.specs.Projections.{IsProjection, IsStateOf};
+
+use super::node::Node;
+use super::state::State;
+use frequency_list::pattern_of;
+use fst_simulate::Job;
+use mine_model::{Grown, Label, NoMemory, Row};
+use snapshot_project::{NextRank, Part, Room, Snapshots, advance_all, next_ranks, start, support};
+use std::alloc::Global;
+use std::sync::Arc;
+
+/// What the node grows into: its label, its row where its prefix is frequent, and its kids.
+pub fn expand<'a>(
+    alloc: Global,
+    node: Node<'a>,
+    room: &mut Room,
+) -> Result<Grown<Node<'a>>, NoMemory>
+    requires room { length node.problem.ranking.order ≤ room.old }
+    ensures room { room.new ≡ room.old }
+    ensures label { IfOk result (λ grown. grown.label ≡ label_at node) }
+    ensures row { IfOk result (λ grown.
+        IsRowOf (data_of node.problem) node.problem.ranking.order node.pivot node.ranks grown.row) }
+    ensures kids { IfOk result (λ grown.
+        AreKids (data_of node.problem) node.problem.ranking.order node.pivot node.ranks
+        (map label_at grown.kids.items)) }
+    ensures ground { IfOk result (λ grown.
+        All (λ (kid : Prefix). kid.problem ≡ node.problem) grown.kids.items) }
+{
+    let Node { job, label, state } = node;
+    let (part, snapshots) = projection(alloc, job, label.as_slice(), state)?;
+    let row = row_of(alloc, job, label.as_slice(), &part, &snapshots)?;
+    let kids = kids_of(alloc, job, label.as_slice(), &part, &snapshots, room)?;
+    Ok(Grown {
+        label: Label::new(label),
+        row,
+        kids,
+    })
+}
+
+// The part of the node with this label, and the snapshots of its prefix.
+fn projection<'a>(
+    alloc: Global,
+    job: &'a Job,
+    label: &[u32],
+    state: State<'a>,
+) -> Result<(Arc<Part<'a>>, Snapshots), NoMemory>
+    requires { IsStateOf (prefix_at job.now label.now) state }
+    ensures { IfOk result (λ p. IsProjection (prefix_at job.now label.now) (arc_value p.0) p.1) }
+{
+    let _ = label;
+    match state {
+        State::Root(seed) => {
+            let part = Part::new(alloc, job, seed.pivot, seed.sequences.as_slice())?;
+            let snapshots = start(alloc, &part)?;
+            Ok((Arc::new(alloc, part)?, snapshots))
+        }
+        State::Projected(part, snapshots) => Ok((part, snapshots)),
+    }
+}
+
+// The row of the label, where its prefix is frequent.
+fn row_of(
+    alloc: Global,
+    job: &Job,
+    label: &[u32],
+    part: &Part,
+    snapshots: &Snapshots,
+) -> Result<Option<Row>, NoMemory>
+    requires some { 1 ≤ length label.now }
+    requires projection { IsProjection (prefix_at job.now label.now) part.now snapshots.now }
+    ensures { IfOk result (λ row. let prefix = prefix_at job.now label.now in
+        IsRowOf (data_of job.now) job.now.ranking.order prefix.pivot prefix.ranks row) }
+{
+    let ranks = &label[1..];
+    if ranks.is_empty() {
+        return Ok(None);
+    }
+    let support = support(part, snapshots);
+    if support < job.support() {
+        return Ok(None);
+    }
+    let pattern = pattern_of(alloc, job.ranks(), ranks)?;
+    Ok(Some(Row { pattern, support }))
+}
+
+// The kids of the label.
+fn kids_of<'a>(
+    alloc: Global,
+    job: &'a Job,
+    label: &[u32],
+    part: &Arc<Part<'a>>,
+    snapshots: &Snapshots,
+    room: &mut Room,
+) -> Result<Vec<Node<'a>>, NoMemory>
+    requires some { 1 ≤ length label.now }
+    requires projection { IsProjection (prefix_at job.now label.now) (arc_value part.now) snapshots.now }
+    requires room { length job.now.ranking.order ≤ room.old }
+    ensures room { room.new ≡ room.old }
+    ensures problem { IfOk result (λ kids. All (λ (kid : Prefix). kid.problem ≡ job.now) kids.items) }
+    ensures kids { IfOk result (λ kids. let prefix = prefix_at job.now label.now in
+        AreKids (data_of job.now) job.now.ranking.order prefix.pivot prefix.ranks (map label_at kids.items)) }
+{
+    let next = next_ranks(alloc, part, snapshots, job.support(), room)?;
+    let longer = advance_all(alloc, part, snapshots, next.as_slice(), room)?;
+    nodes(alloc, job, label, part, next.as_slice(), longer)
+}
+
+// The nodes whose prefixes are longer by these ranks, with the snapshots of each.
+fn nodes<'a>(
+    alloc: Global,
+    job: &'a Job,
+    label: &[u32],
+    part: &Arc<Part<'a>>,
+    next: &[NextRank],
+    longer: Vec<Snapshots>,
+) -> Result<Vec<Node<'a>>, NoMemory>
+    requires some { 1 ≤ length label.now }
+    requires count { length longer.items ≡ length next.now }
+    requires each { (i : ℕ) (n : Next) (list : SnapshotList) → slice_get next.now i ≡ Some n
+        → slice_get longer.items i ≡ Some list
+        → IsProjection (longer_by (prefix_at job.now label.now) n.rank) (arc_value part.now) list }
+    ensures { IfOk result (λ kids. kids.items
+        ≡ map (λ (n : Next). longer_by (prefix_at job.now label.now) n.rank) next.now) }
+{
+    let mut kids = Vec::with_capacity(alloc, next.len())?;
+    'kids: for snapshots in longer {
+        let label = longer_label(alloc, label, next[kids.len()].rank)?;
+        let state = State::Projected(part.clone()?, snapshots);
+        kids.push(Node { job, label, state })?;
+    }
+    Ok(kids)
+}
+
+// The label with the rank behind it.
+fn longer_label(alloc: Global, label: &[u32], rank: u32) -> Result<Vec<u32>, NoMemory>
+    ensures { IfOk result (λ longer. longer.items ≡ label.now ++ rank ∷ []) }
+{
+    let mut longer = Vec::with_capacity(alloc, label.len() + 1)?;
+    longer.extend_from_slice(label)?;
+    longer.push(rank)?;
+    Ok(longer)
+}

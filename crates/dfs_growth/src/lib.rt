@@ -1,0 +1,13 @@
+//! Growth of prefixes: what each node of the search tree stands for, and the nodes that it grows into.
+#![tactic(auto)]
+
+mod growing;
+mod node;
+mod seeds;
+mod state;
+#[cfg(test)]
+mod tests;
+
+pub use growing::expand;
+pub use node::Node;
+pub use seeds::{roots, whole};
