@@ -4,10 +4,10 @@ use Rattle.std.specs.List.{slice_get}
 use Rattle.std.proofs.lemmas.Option.{slice_get_within, same_Some}
 use Rattle.state_bits.specs.Members.{Has}
 use Rattle.mine_model.specs.declared.item.Item.{Item}
-use Rattle.fst_compile.specs.Transducer.{Leads}
 use Rattle.fst_compile.proofs.RowLemmas.{Has-none}
 use Rattle.fst_simulate.specs.declared.bound.Bound.{Bound}
 use Rattle.fst_simulate.specs.Problems.{Problem, IsWhole}
+use Rattle.fst_simulate.specs.Successors.{LeadsFrom}
 use Rattle.fst_simulate.specs.Grids.{HoldsNeeded, Completes, Reads, WritesRank}
 use Rattle.snapshot_project.specs.Snapshots.{HasSnapshot}
 use Rattle.snapshot_project.specs.Live.{IsLive, AreLive, GoesOn, AreCarried, CompletesWith, WritesNext}
@@ -48,7 +48,7 @@ module _ (problem : Problem) (whole : IsWhole problem) (bound : Bound) (items pr
   -- what silent edges lead to behind the item at the position
   pub carried-step : (position live carried : ℕ) (t : Item) (seen : Bool) → AreLive problem bound items prefix position live → slice_get items position ≡ Some t
       → IsTrue seen ↔ HoldsNeeded problem.ranking bound.need prefix
-      → ((state : ℕ) → Has carried state ↔ (((from : ℕ) × Has live from × Leads problem.machine from state) × Reads problem t state []
+      → ((state : ℕ) → Has carried state ↔ (LeadsFrom problem.machine live state × Reads problem t state []
       × Completes problem bound (drop (position + 1) items) state seen))
       → AreCarried problem bound items prefix (position + 1) carried
   carried-step position live carried t seen lives here says steps state =
@@ -94,7 +94,7 @@ module _ (problem : Problem) (whole : IsWhole problem) (bound : Bound) (items pr
   -- by the edges from the live states
   pub writes-live : (position live : ℕ) (t : Item) → AreLive problem bound items prefix position live → slice_get items position ≡ Some t
       → (rank state : ℕ) → WritesNext problem bound items prefix rank position state
-      ↔ (((from : ℕ) × Has live from × Leads problem.machine from state) × WritesRank problem bound t state rank
+      ↔ (LeadsFrom problem.machine live state × WritesRank problem bound t state rank
       × CompletesWith problem bound prefix rank (drop (position + 1) items) state)
   writes-live position live t lives here rank state = (
     (λ (u, from, there, alive, leads, writes, completes). (
