@@ -1,6 +1,6 @@
 -- What all workers together gave back.
-use Rattle.std.proofs.Common.{◌≡◌, ℕ, zero, suc, ◌+◌, ◌*◌, ◌%◌, ◌<◌, ◌≤◌, List, [], ◌∷◌, ◌++◌, map, length, take, drop, Option, Some, None, Result, Ok, Err, IfOk, slice_get, get_or, refl, sym, subst, ap, ◌∙◌, arith, All, sum_by}
-use Rattle.std.specs.List.{flat_map, range_with_len, filter_map, cons_option}
+use Rattle.std.proofs.Common.{◌≡◌, ℕ, suc, ◌+◌, ◌%◌, ◌<◌, ◌≤◌, List, [], ◌∷◌, ◌++◌, map, length, Option, Some, Result, Ok, Err, IfOk, slice_get, get_or, refl, sym, subst, ap, ◌∙◌, arith, All, sum_by}
+use Rattle.std.specs.List.{flat_map, range_with_len, cons_option}
 use Rattle.std.specs.declared.alloc.Global.{Global}
 use Rattle.std.specs.declared.vec.Vec.{Vec}
 use Rattle.std.proofs.lemmas.List.{map-append}
@@ -11,7 +11,6 @@ use Rattle.mine_model.specs.declared.item.Item.{Item}
 use Rattle.mine_model.specs.declared.memory.NoMemory.{NoMemory}
 use Rattle.mine_model.specs.Answer.{Data}
 use Rattle.mine_model.specs.Counted.{HasPairs, told_of, IsTold}
-use Rattle.mine_model.specs.Labels.{SameLabels}
 use Rattle.mine_model.specs.Support.{Sequence}
 use Rattle.mine_model.proofs.ElementLemmas.{get-some, get-held}
 use Rattle.fst_simulate.specs.Problems.{Problem, data_of}
@@ -25,7 +24,7 @@ use Rattle.count_engine.specs.declared.hands.Done.{Done}
 use Rattle.count_engine.specs.Shares.{share_of, HasBlockPairs}
 use Rattle.count_engine.specs.Hands.{AreHandsOf, IsDone, AreListsOf, pairs_told}
 use Rattle.count_shards.proofs.BlockSums.{sums_more, sums_reordered, sums_laid}
-use Rattle.count_engine.proofs.ShareLemmas.{all_shares_of, shares_are_all, share_with, sums-append, sums-flat, told-left, told-right}
+use Rattle.count_engine.proofs.ShareLemmas.{all_shares_of, shares_are_all, share_with, sums-flat}
 
 Results : Type 0
 Results = List (Result Done NoMemory)
