@@ -56,7 +56,7 @@ pub fn mine<R: Threads + Wait + Sync, G: Gate>(
     gate: &G,
 ) -> Result<Mined, NoMemory>
     requires workers { 1 ≤ workers }
-    requires most { workers ≤ most_workers }
+    requires few { workers ≤ most_workers }
     ensures frequent { IfOk result (λ mined. AreFrequent (data_of job.now) mined.rows.items) }
     ensures items { IfOk result (λ mined. (row : Row) → Contains mined.rows.items row
         → AllByRecursion (λ t. t.0 < job.now.hierarchy.items) row.pattern) }

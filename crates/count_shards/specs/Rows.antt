@@ -34,4 +34,5 @@ pub record IsRowOf (problem : Problem) (home : ℕ) (row : Row) : Type 0 where
 -- the rows of all homes from this one on, each once
 pub record AreRowsFrom (problem : Problem) (home : ℕ) (rows : List Row) : Type 0 where
   pub once : PatternsDiffer rows
-  pub exact : (row : Row) → Contains rows row ↔ ((at : ℕ) × (home ≤ at) × (at < home_count) × IsRowOf problem at row)
+  pub exact : (row : Row) → Contains rows row
+      ↔ ((at : ℕ) × (home ≤ at) × (at < home_count) × IsRowOf problem at row)

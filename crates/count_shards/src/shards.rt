@@ -35,7 +35,7 @@ impl Shards {
         workers: u32,
     ) -> Result<(Shards, Vec<Vec<Pass<Shard>>>), NoMemory>
         requires workers { 1 ≤ workers }
-        requires most { workers ≤ most_workers }
+        requires few { workers ≤ most_workers }
         ensures shards { IfOk result (λ r. AreShardsOf job.now r.0) }
         ensures workers { IfOk result (λ r. length r.1.items ≡ workers) }
         ensures all { IfOk result (λ r. AreAllLists r.0 r.1.items) }

@@ -18,7 +18,7 @@ use Rattle.mine_model.proofs.RankedLemmas.{ranked-same, ranked-bounds}
 use Rattle.mine_model.proofs.AliveLemmas.{IsAlive-counted}
 use Rattle.mine_model.proofs.SearchAnswerLemmas.{ranked-items}
 use Rattle.fst_simulate.specs.Problems.{Problem, IsWhole, data_of}
-use Rattle.dfs_growth.specs.Tree.{all_ranks, are_within, grows, generates, weight_of, is_alive, roots_by, kids_by, row_by, search_tree}
+use Rattle.dfs_growth.specs.Tree.{all_ranks, are_within, grows, generates, weight_of, support_of, is_alive, roots_by, kids_by, row_by, search_tree}
 use Rattle.dfs_growth.proofs.TestLemmas.{range-back, range-rises, within-Decides}
 use Rattle.dfs_growth.proofs.OutputLemmas.{grows-forth, grows-back, generates-forth, generates-back}
 
@@ -104,7 +104,7 @@ module _ (problem : Problem) (whole : IsWhole problem) where
       }
 
   made : (pattern : List Item) (ranks : List ℕ) → AreRanked problem.ranking.order pattern ranks
-      → Counts (λ items. IsPatternOf problem.hierarchy.links (tree_of problem.machine.expression) items pattern) problem.sequences (weight_of (generates problem ranks) problem.sequences)
+      → Counts (λ items. IsPatternOf problem.hierarchy.links (tree_of problem.machine.expression) items pattern) problem.sequences (support_of problem ranks)
   made pattern ranks ranked = weight-counted (generates problem ranks) (λ items. IsPatternOf problem.hierarchy.links (tree_of problem.machine.expression) items pattern) decides problem.sequences
     where
       decides : (items : List Item) → Decides (generates problem ranks items) (IsPatternOf problem.hierarchy.links (tree_of problem.machine.expression) items pattern)
@@ -119,16 +119,16 @@ module _ (problem : Problem) (whole : IsWhole problem) where
   abbrev row_with : List ℕ → Row
   row_with ranks = record {
     pattern = map (item_of_rank problem.ranking.order) ranks;
-    support = weight_of (generates problem ranks) problem.sequences;
+    support = support_of problem ranks;
   }
 
   abbrev passes : ℕ → List ℕ → Bool
-  passes pivot ranks = are_within pivot ranks && leb problem.threshold (weight_of (generates problem ranks) problem.sequences)
+  passes pivot ranks = are_within pivot ranks && leb problem.threshold (support_of problem ranks)
 
   row_forth : (pivot : ℕ) (ranks : List ℕ) → passes pivot ranks ≡ true → IsRowAt (data_of problem) problem.ranking.order pivot ranks (row_with ranks)
   row_forth pivot ranks does =
-      let both = and_parts (are_within pivot ranks) (leb problem.threshold (weight_of (generates problem ranks) problem.sequences)) does in
-      let enough : problem.threshold ≤ weight_of (generates problem ranks) problem.sequences = leb-true problem.threshold (weight_of (generates problem ranks) problem.sequences) both.1 in
+      let both = and_parts (are_within pivot ranks) (leb problem.threshold (support_of problem ranks)) does in
+      let enough : problem.threshold ≤ support_of problem ranks = leb-true problem.threshold (support_of problem ranks) both.1 in
       let (items, has) = weight-some (generates problem ranks) problem.sequences (omega (arith, whole.least, enough)) in
       let (pattern, is, generated) = generates-forth problem whole ranks items has in
       let same : pattern ≡ map (item_of_rank problem.ranking.order) ranks = sym (ranked-items problem.ranking.order pattern ranks is) in
@@ -143,13 +143,13 @@ module _ (problem : Problem) (whole : IsWhole problem) where
 
   row_back : (pivot : ℕ) (ranks : List ℕ) (row : Row) → IsRowAt (data_of problem) problem.ranking.order pivot ranks row → passes pivot ranks ≡ true
   row_back pivot ranks row is =
-      let same : row.support ≡ weight_of (generates problem ranks) problem.sequences =
-      Counts-unique (λ items. IsPatternOf problem.hierarchy.links (tree_of problem.machine.expression) items row.pattern) problem.sequences row.support (weight_of (generates problem ranks) problem.sequences)
+      let same : row.support ≡ support_of problem ranks =
+      Counts-unique (λ items. IsPatternOf problem.hierarchy.links (tree_of problem.machine.expression) items row.pattern) problem.sequences row.support (support_of problem ranks)
       is.frequent.exact (made row.pattern ranks is.ranked) in
       let enough : problem.threshold ≤ row.support = is.frequent.enough in
-      and_from (are_within pivot ranks) (leb problem.threshold (weight_of (generates problem ranks) problem.sequences))
+      and_from (are_within pivot ranks) (leb problem.threshold (support_of problem ranks))
       ((within-Decides problem.ranking.order whole.ranks.once pivot row.pattern ranks is.ranked).1 is.within)
-      (le-leb problem.threshold (weight_of (generates problem ranks) problem.sequences) (omega (arith, enough, same)))
+      (le-leb problem.threshold (support_of problem ranks) (omega (arith, enough, same)))
 
   row_is : (pivot : ℕ) (ranks : List ℕ) → IsRowOf (data_of problem) problem.ranking.order pivot ranks (row_by problem (label_of pivot ranks))
   unfolding row_by

@@ -115,13 +115,16 @@ kids_by problem [] = []
 kids_by problem (pivot ∷ ranks) = map (λ rank. label_of pivot (ranks ++ rank ∷ []))
     (filter (λ rank. is_alive problem pivot (ranks ++ rank ∷ [])) (all_ranks problem))
 
+abbrev pub support_of : Problem → List ℕ → ℕ
+support_of problem ranks = weight_of (generates problem ranks) problem.sequences
+
 unfoldable pub row_by : Problem → List ℕ → Option Row
 row_by problem [] = None
 row_by problem (pivot ∷ ranks) = cond
-    (are_within pivot ranks && nat_le problem.threshold (weight_of (generates problem ranks) problem.sequences))
+    (are_within pivot ranks && nat_le problem.threshold (support_of problem ranks))
     (Some (record {
       pattern = map (item_of_rank problem.ranking.order) ranks;
-      support = weight_of (generates problem ranks) problem.sequences;
+      support = support_of problem ranks;
     }))
     None
 

@@ -3,8 +3,7 @@
 ghost use Rattle.std.specs.Prelude.{◌≡◌, ℕ, ◌*◌, ◌≤◌, ◌<◌, ◌⊎◌, ◌↔◌, length, slice_index, IfOk};
 ghost use Rattle.state_bits.specs.Members.{Has};
 ghost use Rattle.fst_compile.specs.Transducer.{Leads};
-ghost use Rattle.candidate_gen.specs.Successors.{AreSuccessors};
-ghost use Rattle.candidate_gen.specs.Widths.{AreOf};
+ghost use Rattle.fst_simulate.specs.Successors.{AreSuccessors, AreSuccessorsOf, AreNeighbours};
 
 use fst_compile::{Fst, State};
 use mine_model::NoMemory;
@@ -13,15 +12,15 @@ use std::alloc::Global;
 
 /// For each state those to which edges lead from it, in sets of the least width that has room for all states.
 #[derive(Drop)]
-pub(crate) enum Successors {
+pub enum Successors {
     One(Vec<StateSet<1>>),
     Four(Vec<StateSet<4>>),
     Wide(Vec<StateSet<17>>),
 }
 
 /// The successors of each state of the transducer.
-pub(crate) fn successors_of(alloc: Global, fst: &Fst) -> Result<Successors, NoMemory>
-    ensures { IfOk result (AreOf fst.now) }
+pub fn successors_of(alloc: Global, fst: &Fst) -> Result<Successors, NoMemory>
+    ensures { IfOk result (AreSuccessorsOf fst.now) }
 {
     let states = fst.states();
     if states <= 64 {
@@ -59,19 +58,16 @@ fn add_targets<const W: usize>(fst: &Fst, state: u32, targets: &mut StateSet<W>)
     }
 }
 
-/// The states to which edges lead from one of these.
-pub(crate) fn targets_of<const W: usize>(
-    successors: &[StateSet<W>],
-    states: &StateSet<W>,
-) -> StateSet<W>
+/// The states that stand in the rows of these: with the successors of each state those to which edges lead
+/// from one of them.
+pub fn neighbours<const W: usize>(rows: &[StateSet<W>], states: &StateSet<W>) -> StateSet<W>
     requires width { W ≤ 17 }
-    requires within { (from : ℕ) → Has states.now from → from < length successors.now }
-    ensures { (to : ℕ) → Has result to
-        ↔ ((from : ℕ) × Has states.now from × Has (slice_index successors.now from) to) }
+    requires within { (from : ℕ) → Has states.now from → from < length rows.now }
+    ensures { AreNeighbours rows.now states.now result }
 {
-    let mut targets = StateSet::new();
+    let mut found = StateSet::new();
     for state in states.iter() {
-        targets.union_with(&successors[state as usize]);
+        found.union_with(&rows[state as usize]);
     }
-    targets
+    found
 }

@@ -1,6 +1,6 @@
 use Rattle.std.proofs.Common.{arith}
-use Rattle.candidate_gen.proofs.SuccessorLemmas.{first-none, first-more, first-all}
-use Rattle.candidate_gen.proofs.successors.sets_of.Goals as goal
+use Rattle.fst_simulate.proofs.SuccessorLemmas.{first-none, first-more, first-all}
+use Rattle.fst_simulate.proofs.successors.sets_of.Goals as goal
 
 pub loop-state-init : goal.loop-state-init
 loop-state-init g c = rw c.new-sets.ensures.items (first-none c.args.fst.now)

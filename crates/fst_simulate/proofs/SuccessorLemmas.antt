@@ -10,18 +10,12 @@ use Rattle.mine_model.proofs.ListLemmas.{Contains-cases, Contains-first, Contain
 use Rattle.fst_compile.specs.declared.edge.Edge.{Edge}
 use Rattle.fst_compile.specs.Transducer.{Transducer, Leads, Enters, edges_from}
 use Rattle.fst_compile.proofs.RowLemmas.{Has-none}
-use Rattle.candidate_gen.specs.Successors.{AreSuccessors}
-use Rattle.candidate_gen.specs.Views.{LeadsFrom}
+use Rattle.fst_simulate.specs.Successors.{AreSuccessors, AreNeighbours, LeadsFrom}
 
 -- the states to which the first edges of a state lead were added
 abbrev pub AreAdded : List Edge → ℕ → ℕ → ℕ → Type 0
 AreAdded edges before after count =
     (to : ℕ) → Has after to ↔ (Has before to ⊎ ((edge : Edge) × Contains (take count edges) edge × (edge.to.0 ≡ to)))
-
--- what the first states of a set are related to, where the others are left
-pub record AreTargetsSoFar (Related : ℕ → ℕ → Type 0) (states : ℕ) (done left : List ℕ) (targets : ℕ) : Type 0 where
-  pub members : (state : ℕ) → Contains (done ++ left) state ↔ Has states state
-  pub leads : (to : ℕ) → Has targets to ↔ ((from : ℕ) × Contains done from × Related from to)
 
 module _ (edges : List Edge) (before : ℕ) where
   pub added-none : AreAdded edges before before 0
@@ -62,47 +56,55 @@ module _ (edges : List Edge) (before : ℕ) where
       → (to : ℕ) → Has after to ↔ (Has before to ⊎ ((edge : Edge) × Contains edges edge × (edge.to.0 ≡ to)))
   added-all after index so_far over = subst (λ (l : List Edge). (to : ℕ) → Has after to ↔ (Has before to ⊎ ((edge : Edge) × Contains l edge × (edge.to.0 ≡ to)))) (take_all index edges over) so_far
 
-module _ (Related : ℕ → ℕ → Type 0) (states : ℕ) where
-  pub targets-none : (left : List ℕ) → ((state : ℕ) → Contains left state ↔ Has states state) → AreTargetsSoFar Related states [] left 0
-  targets-none left members = record {
-    members = members;
-    leads = λ to. ((λ has. absurd (Has-none to has)), (λ h. let (from, inside, leads) = h in absurd (Contains-none from inside)));
-  }
+-- ---- the rows of the first so many states of a set
 
-  -- the next state is one of the set
-  pub next-state : (done left : List ℕ) (targets state : ℕ) (later : List ℕ) → AreTargetsSoFar Related states done left targets → left ≡ state ∷ later → Has states state
-  next-state done left targets state later so_far next =
-      (so_far.members state).0 (Contains-append_right done left state (subst (λ l. Contains l state) (sym next) (Contains-first state later)))
+pub record AreNeighboursSoFar (rows : List ℕ) (all found : ℕ) (done left : List ℕ) : Type 0 where
+  pub exact : (q : ℕ) → Has found q ↔ ((k : ℕ) × Has (get_or rows k 0) q × Contains done k)
+  pub members : (k : ℕ) → Contains (done ++ left) k ↔ Has all k
 
-  pub targets-more : (done left : List ℕ) (targets state : ℕ) (later : List ℕ) (now : ℕ) → AreTargetsSoFar Related states done left targets → left ≡ state ∷ later
-      → ((to : ℕ) → Has now to ↔ (Has targets to ⊎ Related state to)) → AreTargetsSoFar Related states (done ++ state ∷ []) later now
-  targets-more done left targets state later now so_far next add =
-      let same : done ++ left ≡ (done ++ state ∷ []) ++ later = ap (λ l. done ++ l) next ∙ sym (append_assoc done (state ∷ []) later) in
-      record {
-        members = subst (λ (l : List ℕ). (k : ℕ) → Contains l k ↔ Has states k) same so_far.members;
-        leads = λ to. (
-          (λ has. elim ((add to).0 has) [
-            | inl had ↦ let (from, inside, leads) = (so_far.leads to).0 had in (from, Contains-append_left done (state ∷ []) from inside, leads)
-            | inr leads ↦ (state, Contains-append_right done (state ∷ []) state (Contains-first state []), leads)
-          ]),
-          (λ h. let (from, inside, leads) = h in elim (Contains-append_cases done (state ∷ []) from inside) [
-            | inl early ↦ (add to).1 (inl ((so_far.leads to).1 (from, early, leads)))
-            | inr last ↦ elim (Contains-cases state [] from last) [
-              | inl is ↦ (add to).1 (inr (subst (λ s. Related s to) is leads))
-              | inr none ↦ absurd (Contains-none from none)
-            ]
-          ]),
-        );
-      }
+pub AreNeighboursSoFar-none : (rows : List ℕ) (members : ℕ) (left : List ℕ) → ((k : ℕ) → Contains left k ↔ Has members k) → AreNeighboursSoFar rows members 0 [] left
+AreNeighboursSoFar-none rows members left are = record {
+  exact = λ q. ((λ has. absurd (Has-none q has)), (λ h. let (k, before, in_none) = h in absurd (Contains-none k in_none)));
+  members = are;
+}
 
-  pub targets-all : (done left : List ℕ) (targets : ℕ) → AreTargetsSoFar Related states done left targets → left ≡ [] → (to : ℕ) → Has targets to ↔ ((from : ℕ) × Has states from × Related from to)
-  targets-all done left targets so_far none to =
-      let same : done ++ left ≡ done = ap (λ l. done ++ l) none ∙ append-nil done in (
-        (λ has. let (from, inside, leads) = (so_far.leads to).0 has in
-            (from, (so_far.members from).0 (subst (λ l. Contains l from) (sym same) inside), leads)),
-        (λ h. let (from, has, leads) = h in
-            (so_far.leads to).1 (from, subst (λ l. Contains l from) same ((so_far.members from).1 has), leads)),
-      )
+pub AreNeighboursSoFar-more : (rows : List ℕ) (members found after : ℕ) (done left later : List ℕ) (state row : ℕ) → AreNeighboursSoFar rows members found done left
+    → left ≡ state ∷ later → row ≡ get_or rows state 0 → ((q : ℕ) → Has after q ↔ (Has found q ⊎ Has row q))
+    → AreNeighboursSoFar rows members after (done ++ state ∷ []) later
+AreNeighboursSoFar-more rows members found after done left later state row so_far next is step =
+    let same : done ++ left ≡ (done ++ state ∷ []) ++ later = rw next (sym (append_assoc done (state ∷ []) later)) in
+    record {
+      exact = λ q. (
+        (λ has. elim ((step q).0 has) [
+          | inl had ↦ let (k, before, inside) = (so_far.exact q).0 had in (k, before, Contains-append_left done (state ∷ []) k inside)
+          | inr new ↦ (state, subst (λ (x : ℕ). Has x q) is new, Contains-append_right done (state ∷ []) state (Contains-first state []))
+        ]),
+        (λ h. let (k, before, inside) = h in elim (Contains-append_cases done (state ∷ []) k inside) [
+          | inl earlier ↦ (step q).1 (inl ((so_far.exact q).1 (k, before, earlier)))
+          | inr last ↦ elim (Contains-cases state [] k last) [
+            | inl this ↦ (step q).1 (inr (subst (λ (x : ℕ). Has x q) (sym is) (subst (λ (x : ℕ). Has (get_or rows x 0) q) this before)))
+            | inr none ↦ absurd (Contains-none k none)
+          ]
+        ]),
+      );
+      members = subst (λ (xs : List ℕ). (k : ℕ) → Contains xs k ↔ Has members k) same so_far.members;
+    }
+
+pub AreNeighboursSoFar-all : (rows : List ℕ) (members found : ℕ) (done left : List ℕ) → AreNeighboursSoFar rows members found done left → left ≡ []
+    → AreNeighbours rows members found
+AreNeighboursSoFar-all rows members found done left so_far none =
+    let same : done ++ left ≡ done = rw none (append-nil done) in
+    let are : (k : ℕ) → Contains done k ↔ Has members k = subst (λ (xs : List ℕ). (k : ℕ) → Contains xs k ↔ Has members k) same so_far.members in
+    λ q. (
+      (λ has. let (k, before, inside) = (so_far.exact q).0 has in (k, before, (are k).0 inside)),
+      (λ h. let (k, before, member) = h in (so_far.exact q).1 (k, before, (are k).1 member)),
+    )
+
+-- the next state of a walk is a member
+pub next_neighbour : {rows : List ℕ} {all found : ℕ} {done left : List ℕ} (state : ℕ) (later : List ℕ) → AreNeighboursSoFar rows all found done left
+    → left ≡ state ∷ later → Has all state
+next_neighbour {done = done} {left = left} state later so_far next =
+    (so_far.members state).0 (Contains-append_right done left state (rw next (Contains-first state later)))
 
 -- an edge that is labelled leads to a state of the transducer other than the start
 pub leads-within : (machine : Transducer) → ((state : ℕ) (edge : Edge) → Contains (edges_from machine state) edge → Enters machine.labels edge)
@@ -154,9 +156,9 @@ first-all width machine sets count so_far whole room = record {
 -- the states that the successors of live states have are those to which edges lead from them
 pub leads-from : (width : ℕ) (machine : Transducer) (sets : List ℕ) (live targets : ℕ) → AreSuccessors width machine sets
     → ((from : ℕ) → Has live from → from ≤ length machine.labels)
-    → ((to : ℕ) → Has targets to ↔ ((from : ℕ) × Has live from × Has (get_or sets from 0) to))
+    → AreNeighbours sets live targets
     → (to : ℕ) → Has targets to ↔ LeadsFrom machine live to
 leads-from width machine sets live targets are within exact to = (
-  (λ has. let (from, alive, held) = (exact to).0 has in (from, alive, (are.leads from to (within from alive)).0 held)),
-  (λ h. let (from, alive, leads) = h in (exact to).1 (from, alive, (are.leads from to (within from alive)).1 leads)),
+  (λ has. let (from, held, alive) = (exact to).0 has in (from, alive, (are.leads from to (within from alive)).0 held)),
+  (λ h. let (from, alive, leads) = h in (exact to).1 (from, (are.leads from to (within from alive)).1 leads, alive)),
 )

@@ -5,8 +5,8 @@ use Rattle.std.proofs.lemmas.List.Elements.{Contains-get_or}
 use Rattle.state_bits.specs.Members.{Has}
 use Rattle.fst_compile.specs.declared.edge.Edge.{Edge}
 use Rattle.fst_compile.specs.Transducer.{Enters}
-use Rattle.candidate_gen.proofs.SuccessorLemmas.{added-more, added-all}
-use Rattle.candidate_gen.proofs.successors.add_targets.Goals as goal
+use Rattle.fst_simulate.proofs.SuccessorLemmas.{added-more, added-all}
+use Rattle.fst_simulate.proofs.successors.add_targets.Goals as goal
 
 pub add-requires : goal.add-requires
 add-requires g c =
