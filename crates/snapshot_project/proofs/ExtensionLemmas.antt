@@ -1,5 +1,5 @@
 -- What may follow a prefix, by its snapshots.
-use Rattle.std.proofs.Common.{◌≡◌, ◌↔◌, ℕ, zero, suc, ◌+◌, ◌≤◌, ◌<◌, List, [], ◌∷◌, ◌++◌, drop, refl, sym, ap, ◌∙◌, subst, arith, append_assoc}
+use Rattle.std.proofs.Common.{◌≡◌, ◌↔◌, ℕ, zero, suc, ◌+◌, ◌≤◌, ◌<◌, List, [], ◌∷◌, ◌++◌, drop, refl, ap, ◌∙◌, subst, arith, append_assoc}
 use Rattle.std.specs.List.{AllByRecursion, Contains}
 use Rattle.mine_model.specs.declared.item.Item.{Item}
 use Rattle.mine_model.specs.Generation.{IsPatternOf}
@@ -8,11 +8,10 @@ use Rattle.mine_model.specs.Numbered.{tree_of}
 use Rattle.mine_model.specs.Ranks.{Ranking, HasRank, AreRanked}
 use Rattle.mine_model.specs.SearchTree.{IsWithin}
 use Rattle.mine_model.proofs.ListLemmas.{front_of_both, back_of_both, of_both}
-use Rattle.mine_model.proofs.RankedLemmas.{ranked-same, ranked-push}
+use Rattle.mine_model.proofs.RankedLemmas.{item_rank, ranked-same, ranked-push, ranked-split}
 use Rattle.fst_simulate.specs.declared.bound.Bound.{Bound}
 use Rattle.fst_simulate.specs.Problems.{IsWhole, items_of, data_of}
 use Rattle.fst_simulate.specs.Grids.{GridList, IsAllowed, HoldsNeeded, Ends}
-use Rattle.fst_simulate.proofs.KindLemmas.{rank_unique}
 use Rattle.snapshot_project.specs.declared.snapshot.Snapshot.{Snapshot}
 use Rattle.snapshot_project.specs.Snapshots.{HasSnapshot, IsSnapshotOf, SnapshotList, AreSnapshots}
 use Rattle.snapshot_project.specs.Extensions.{GrowsBehind, GeneratesWithin}
@@ -27,15 +26,6 @@ ranked-allowed ranking bound [] ranks ranked top = tt
 ranked-allowed ranking bound (v ∷ items) [] ranked top = absurd ranked
 ranked-allowed ranking bound (v ∷ items) (rank ∷ ranks) ranked top = ((rank, ranked.0, top.0), ranked-allowed ranking bound items ranks ranked.1 top.1)
 
--- the items of ranks that follow each other follow each other
-pub ranked-cut : (order items : List Item) (ranks more : List ℕ) → AreRanked order items (ranks ++ more)
-    → (front : List Item) × (back : List Item) × (items ≡ front ++ back) × AreRanked order front ranks × AreRanked order back more
-ranked-cut order items [] more ranked = ([], items, refl, tt, ranked)
-ranked-cut order [] (rank ∷ ranks) more ranked = absurd ranked
-ranked-cut order (v ∷ items) (rank ∷ ranks) more ranked =
-    let (front, back, cut, first, second) = ranked-cut order items ranks more ranked.1 in
-    (v ∷ front, back, ap (λ (l : List Item). v ∷ l) cut, (ranked.0, first), second)
-
 -- the item of one rank
 ranked-one : (order items : List Item) (rank : ℕ) → AreRanked order items (rank ∷ []) → (w : Item) × (items ≡ w ∷ []) × HasRank order w rank
 ranked-one order [] rank ranked = absurd ranked
@@ -46,7 +36,7 @@ module _ (part : GridList) (whole : IsWhole part.problem) where
   -- what grows with more grows with less
   pub grows-shorter : (ranks more : List ℕ) (items : List Item) → GrowsBehind part (ranks ++ more) items → GrowsBehind part ranks items
   grows-shorter ranks more items (longer, ranked, behind) =
-      let (front, back, cut, first, second) = ranked-cut part.problem.ranking.order longer ranks more ranked in
+      let (front, back, cut, first, second) = ranked-split part.problem.ranking.order longer ranks more ranked in
       let (rest, pattern, within) = subst
       (λ (l : List Item). HasPatternBehind (data_of part.problem) (IsWithin part.problem.ranking.order part.bound.top part.bound.need) l items) cut behind in
       let e : (front ++ back) ++ rest ≡ front ++ (back ++ rest) = append_assoc front back rest in (
@@ -91,7 +81,7 @@ module _ (part : GridList) (whole : IsWhole part.problem) where
     -- the rank of an item that is allowed is within the bound
     rank-few : (w : Item) (rank : ℕ) → HasRank part.problem.ranking.order w rank → IsAllowed part.problem.ranking part.bound w → rank ≤ part.bound.top
     rank-few w rank has (other, others, few) =
-        let same : rank ≡ other = rank_unique part.problem.ranking.order w rank other whole.ranks.once has others in omega arith
+        let same : rank ≡ other = item_rank part.problem.ranking.order whole.ranks.once w rank other has others in omega arith
 
     module _ (rank : ℕ) where
       next-by : (w : Item) → HasRank part.problem.ranking.order w rank → rank ≤ part.bound.top → (position state : ℕ)
@@ -109,7 +99,7 @@ module _ (part : GridList) (whole : IsWhole part.problem) where
       next-from : GrowsBehind part (ranks ++ rank ∷ []) items
           → (position : ℕ) × (state : ℕ) × WritesNext part.problem part.bound items prefix rank position state
       next-from (longer, longer_ranked, (more, pattern, within)) =
-          let (front, back, cut, first, second) = ranked-cut part.problem.ranking.order longer ranks (rank ∷ []) longer_ranked in
+          let (front, back, cut, first, second) = ranked-split part.problem.ranking.order longer ranks (rank ∷ []) longer_ranked in
           let (w, one, has) = ranked-one part.problem.ranking.order back rank second in
           let same : longer ≡ prefix ++ w ∷ [] =
           cut ∙ ap (λ (l : List Item). l ++ back) (ranked-same part.problem.ranking.order front prefix ranks first ranked) ∙ ap (λ (l : List Item). prefix ++ l) one in

@@ -5,3 +5,5 @@ pub mod LiveLemmas
 pub mod ExtensionLemmas
 pub mod SumLemmas
 pub mod GroupLemmas
+pub mod WalkLemmas
+pub mod ListedLemmas

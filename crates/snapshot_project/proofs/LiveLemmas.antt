@@ -1,21 +1,20 @@
 -- The live states of a prefix, position by position, and the snapshots of the prefixes that are longer by one.
-use Rattle.std.proofs.Common.{◌≡◌, ◌↔◌, ℕ, zero, suc, ◌+◌, ◌-◌, ◌≤◌, ◌<◌, ◌⊎◌, inl, inr, IsTrue, Some, List, [], ◌∷◌, ◌++◌, length, take, drop, refl, sym, ap, ◌∙◌, subst, arith, append_assoc}
+use Rattle.std.proofs.Common.{◌≡◌, ◌↔◌, ℕ, zero, suc, ◌+◌, ◌-◌, ◌≤◌, ◌<◌, ◌⊎◌, inl, inr, Some, List, [], ◌∷◌, ◌++◌, length, take, drop, refl, sym, ap, ◌∙◌, subst, arith, append_assoc}
 use Rattle.std.specs.List.{slice_get}
 use Rattle.std.proofs.lemmas.List.{append-nil, length-append, length-take-le, same_from_push, take-append-drop, take_more, drop_more}
 use Rattle.std.proofs.lemmas.Option.{get_or_from_slice_get, slice_get_within, same_Some}
 use Rattle.state_bits.specs.Members.{Has}
 use Rattle.mine_model.specs.declared.item.Item.{Item}
 use Rattle.mine_model.specs.Ranks.{HasRank}
-use Rattle.fst_compile.specs.Transducer.{Leads}
 use Rattle.fst_simulate.specs.declared.bound.Bound.{Bound}
 use Rattle.fst_simulate.specs.Problems.{Problem, IsWhole}
 use Rattle.fst_simulate.specs.Grids.{IsAllowed, HoldsNeeded, Reads}
 use Rattle.fst_simulate.proofs.KindLemmas.{nil-not-cons}
 use Rattle.fst_simulate.proofs.GridLemmas.{item_there}
 use Rattle.snapshot_project.specs.Runs.{IsStep, IsRun}
-use Rattle.snapshot_project.specs.Snapshots.{IsReached, CompletesBehind, IsSnapshotAt, HasSnapshot}
+use Rattle.snapshot_project.specs.Snapshots.{CompletesBehind, IsSnapshotAt, HasSnapshot}
 use Rattle.snapshot_project.specs.Live.{IsLiveAt, IsLive, GoesOn, WritesNext}
-use Rattle.snapshot_project.proofs.RunLemmas.{step-reads, step-run, path-runs, runs-path, runs-join, run-state, silent-last, silent-first, writing-first}
+use Rattle.snapshot_project.proofs.RunLemmas.{step-reads, step-run, path-runs, runs-path, runs-join, run-state, silent-last, writing-first}
 use Rattle.snapshot_project.proofs.NeedLemmas.{needed-append, needed-decided, completes-longer}
 use Rattle.snapshot_project.proofs.SnapshotLemmas.{push-not-nil, reached-run, reached-cut, snapshot-placed, snapshot-state}
 
@@ -211,6 +210,10 @@ module _ (problem : Problem) (whole : IsWhole problem) (bound : Bound) (items pr
     (λ (inside, snapshot). (inside, snapshot-live problem bound prefix [] items state snapshot)),
   )
 
+  -- a snapshot is live
+  pub live-snapshot : (position state : ℕ) → HasSnapshot problem bound items prefix position state → IsLive problem bound items prefix position state
+  live-snapshot position state (inside, snapshot) = (inside, snapshot-live problem bound prefix (take position items) (drop position items) state snapshot)
+
   live-from : (position state : ℕ) → IsLive problem bound items prefix (position + 1) state
       → HasSnapshot problem bound items prefix (position + 1) state ⊎ GoesOn problem bound items prefix position state
   live-from position state (inside, live) =
@@ -248,24 +251,28 @@ module _ (problem : Problem) (whole : IsWhole problem) (bound : Bound) (items pr
   live-next position state = (
     live-from position state,
     (λ h. elim h [
-      | inl (inside, snapshot) ↦ (inside, snapshot-live problem bound prefix (take (position + 1) items) (drop (position + 1) items) state snapshot)
+      | inl snapshot ↦ live-snapshot (position + 1) state snapshot
       | inr goes ↦ live-to position state goes
     ]),
   )
 
   -- where nothing is live and no snapshot comes behind, nothing is live any more
-  pub live-gone : (position : ℕ) → ((state : ℕ) → IsLive problem bound items prefix position state → ⊥)
-      → ((later state : ℕ) → position < later → HasSnapshot problem bound items prefix later state → ⊥)
-      → (later state : ℕ) → position ≤ later → IsLive problem bound items prefix later state → ⊥
-  live-gone position none no_more later state behind live = by (later - position) later state (omega arith) live
+  pub live-gone : (position later : ℕ) → position ≤ later → ((state : ℕ) → IsLive problem bound items prefix position state → ⊥)
+      → ((between state : ℕ) → position < between → between ≤ later → HasSnapshot problem bound items prefix between state → ⊥)
+      → (state : ℕ) → IsLive problem bound items prefix later state → ⊥
+  live-gone position later behind none no_more state live = by (later - position) later state (omega arith) no_more live
     where
-      by : (distance later state : ℕ) → later ≡ position + distance → IsLive problem bound items prefix later state → ⊥
-      by zero later state is live = let same : later ≡ position = omega arith in none state (subst (λ (k : ℕ). IsLive problem bound items prefix k state) same live)
-      by (suc distance) later state is live =
+      by : (distance later state : ℕ) → later ≡ position + distance
+          → ((between state : ℕ) → position < between → between ≤ later → HasSnapshot problem bound items prefix between state → ⊥)
+          → IsLive problem bound items prefix later state → ⊥
+      by zero later state is no_more live =
+          let same : later ≡ position = omega arith in none state (subst (λ (k : ℕ). IsLive problem bound items prefix k state) same live)
+      by (suc distance) later state is no_more live =
           let next : later ≡ (position + distance) + 1 = omega arith in
           elim ((live-next (position + distance) state).0 (subst (λ (k : ℕ). IsLive problem bound items prefix k state) next live)) [
-            | inl snapshot ↦ no_more ((position + distance) + 1) state (omega arith) snapshot
-            | inr (t, from, here, before, leads, reads, completes) ↦ by distance (position + distance) from refl before
+            | inl snapshot ↦ no_more ((position + distance) + 1) state (omega arith) (omega arith) snapshot
+            | inr (t, from, here, before, leads, reads, completes) ↦
+                by distance (position + distance) from refl (λ between state least most. no_more between state least (omega arith)) before
           ]
 
   module _ (w : Item) where

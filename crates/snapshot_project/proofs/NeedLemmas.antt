@@ -1,7 +1,8 @@
 -- Whether a prefix holds what is needed, and what completes behind it.
-use Rattle.std.proofs.Common.{◌≡◌, ◌↔◌, ℕ, zero, suc, ◌-◌, ◌⊎◌, inl, inr, Bool, true, false, ◌||◌, IsTrue, Option, Some, None, List, [], ◌∷◌, ◌++◌, refl, sym, ap, ◌∙◌, subst, arith, rules, length}
-use Rattle.std.specs.List.{AllByRecursion, Contains, slice_get}
+use Rattle.std.proofs.Common.{◌≡◌, ◌↔◌, ℕ, zero, suc, ◌-◌, ◌⊎◌, inl, inr, Bool, true, false, true≢false, IsTrue, Option, Some, None, List, [], ◌∷◌, ◌++◌, refl, sym, ap, ◌∙◌, subst, arith, rules}
+use Rattle.std.specs.List.{slice_get}
 use Rattle.std.specs.Prelude.{IfSome}
+use Rattle.std.proofs.lemmas.Bool.{cases_Bool}
 use Rattle.std.proofs.lemmas.Bool.Decides.{same_from_decides}
 use Rattle.std.proofs.lemmas.List.Elements.{Contains-append_left, Contains-append_right, Contains-append_cases}
 use Rattle.std.proofs.lemmas.Option.{same_Some}
@@ -9,12 +10,12 @@ use Rattle.mine_model.specs.declared.item.Item.{Item}
 use Rattle.mine_model.specs.Ranks.{Ranking, HasRank}
 use Rattle.mine_model.specs.SearchTree.{HoldsRank}
 use Rattle.mine_model.proofs.ListLemmas.{Contains-cases, Contains-first, Contains-other, Contains-none}
+use Rattle.mine_model.proofs.RankedLemmas.{item_rank}
 use Rattle.mine_model.proofs.ApartLemmas.{item_eq, item_eq-Decides}
 use Rattle.fst_simulate.specs.declared.bound.Bound.{Bound}
 use Rattle.fst_simulate.specs.Problems.{Problem, IsWhole}
 use Rattle.fst_simulate.specs.Grids.{IsNeeded, HoldsNeeded, Completes}
 use Rattle.fst_simulate.specs.Kinds.{IsNeededRank}
-use Rattle.fst_simulate.proofs.KindLemmas.{rank_unique, or_cases}
 use Rattle.fst_simulate.proofs.GridLemmas.{both_ways}
 use Rattle.snapshot_project.specs.Snapshots.{CompletesBehind}
 use Rattle.snapshot_project.specs.Live.{HoldsNeededWith, CompletesWith}
@@ -59,19 +60,20 @@ pub needed-decided : (ranking : Ranking) (need : Option ℕ) (items : List Item)
 needed-decided ranking need [] = (false, ((λ no'. absurd (search rules)), (λ h. absurd (needed-none ranking need h))))
 needed-decided ranking need (v ∷ items) =
     let (here, says) = needed-one ranking need v in
-    let (behind, tells) = needed-decided ranking need items in (
-      here || behind,
-      (
-        (λ h. elim ((or_cases here behind).0 h) [
-          | inl first ↦ (v, Contains-first v items, says.0 first)
-          | inr later ↦ let (w, held, is) = tells.0 later in (w, Contains-other v items w held, is)
-        ]),
-        (λ (w, held, is). elim (Contains-cases v items w held) [
-          | inl same ↦ (or_cases here behind).1 (inl (says.1 (subst (IsNeeded ranking need) same is)))
-          | inr later ↦ (or_cases here behind).1 (inr (tells.1 (w, later, is)))
-        ]),
-      ),
-    )
+    let (behind, tells) = needed-decided ranking need items in
+    elim (cases_Bool here) [
+      | inl yes' ↦ (true, ((λ any. (v, Contains-first v items, says.0 yes')), (λ any. refl)))
+      | inr no' ↦ (
+        behind,
+        (
+          (λ later. let (w, held, is) = tells.0 later in (w, Contains-other v items w held, is)),
+          (λ (w, held, is). elim (Contains-cases v items w held) [
+            | inl same ↦ absurd (true≢false (sym (says.1 (subst (IsNeeded ranking need) same is)) ∙ no'))
+            | inr later ↦ tells.1 (w, later, is)
+          ]),
+        ),
+      )
+    ]
 
 -- a list that is not empty holds what is needed where it holds the rank that is
 pub needed-within : (ranking : Ranking) (need : Option ℕ) (v : Item) (items : List Item)
@@ -85,7 +87,7 @@ module _ (problem : Problem) where
     rank-tells : (need : Option ℕ) (w : Item) (rank : ℕ) → HasRank problem.ranking.order w rank → IsNeeded problem.ranking need w ↔ IsNeededRank need rank
     rank-tells None w rank has = ((λ any. tt), (λ any. tt))
     rank-tells (Some need) w rank has = (
-      (λ is. rank_unique problem.ranking.order w rank need whole.ranks.once has is),
+      (λ is. item_rank problem.ranking.order whole.ranks.once w rank need has is),
       (λ same. subst (HasRank problem.ranking.order w) same has),
     )
 

@@ -1,7 +1,6 @@
 -- Snapshots, and what they say of patterns.
-use Rattle.std.proofs.Common.{◌≡◌, ◌≢◌, ◌↔◌, ℕ, ◌+◌, ◌≤◌, ◌⊎◌, inl, inr, Bool, IsTrue, true, false, List, [], ◌∷◌, ◌++◌, length, take, drop, refl, sym, ap, ◌∙◌, subst, arith, rules, append_assoc}
-use Rattle.std.specs.Prelude.{IfSome}
-use Rattle.std.specs.List.{AllByRecursion, Contains}
+use Rattle.std.proofs.Common.{◌≡◌, ◌≢◌, ◌↔◌, ℕ, ◌+◌, ◌≤◌, ◌⊎◌, inl, inr, IsTrue, false, List, [], ◌∷◌, ◌++◌, length, take, drop, refl, sym, ap, ◌∙◌, subst, arith, rules, append_assoc}
+use Rattle.std.specs.List.{AllByRecursion}
 use Rattle.std.proofs.lemmas.List.{append-nil, length-append, length_push, length-take-le, take-append-drop}
 use Rattle.std.proofs.Math.Seq.{take-append_seam, drop-append_seam}
 use Rattle.state_bits.specs.Members.{Has}
@@ -9,15 +8,15 @@ use Rattle.mine_model.specs.declared.item.Item.{Item}
 use Rattle.mine_model.specs.Numbered.{tree_of}
 use Rattle.mine_model.specs.Generation.{IsPatternOf}
 use Rattle.mine_model.specs.Growth.{HasPatternBehind}
-use Rattle.mine_model.specs.SearchTree.{HoldsRank, IsWithin}
-use Rattle.mine_model.proofs.ListLemmas.{Contains-none, back_of_both, of_both}
+use Rattle.mine_model.specs.SearchTree.{IsWithin}
+use Rattle.mine_model.proofs.ListLemmas.{back_of_both, of_both}
 use Rattle.fst_compile.specs.Transducer.{IsPath}
 use Rattle.fst_simulate.specs.declared.bound.Bound.{Bound}
 use Rattle.fst_simulate.specs.Problems.{Problem, IsWhole, data_of}
 use Rattle.fst_simulate.specs.Grids.{IsAllowed, HoldsNeeded, Completes, Ends}
 use Rattle.fst_simulate.proofs.KindLemmas.{nil-not-cons}
-use Rattle.snapshot_project.specs.Runs.{IsStep, Runs, IsRun}
-use Rattle.snapshot_project.specs.Snapshots.{HasJustWritten, IsReached, CompletesBehind, IsSnapshotAt, HasSnapshot}
+use Rattle.snapshot_project.specs.Runs.{Runs, IsRun}
+use Rattle.snapshot_project.specs.Snapshots.{IsReached, CompletesBehind, IsSnapshotAt, HasSnapshot}
 use Rattle.snapshot_project.proofs.RunLemmas.{step-state, step-run, path-runs, runs-path, runs-join, runs-cut_behind}
 use Rattle.snapshot_project.proofs.NeedLemmas.{needed-none, needed-append, needed-decided, needed-within, completes-behind}
 

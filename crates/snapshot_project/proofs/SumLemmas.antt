@@ -6,7 +6,7 @@ use Rattle.std.proofs.lemmas.List.{map_push, take_all, take_more}
 use Rattle.std.proofs.lemmas.Option.{get_or_from_slice_get, slice_get_within}
 use Rattle.mine_model.specs.declared.item.Item.{Item}
 use Rattle.mine_model.specs.Database.{sequence_at}
-use Rattle.mine_model.specs.Support.{Sequence, Counts}
+use Rattle.mine_model.specs.Support.{Counts}
 use Rattle.mine_model.proofs.ElementLemmas.{get-some}
 use Rattle.mine_model.proofs.FrequencyLemmas.{Counts-append}
 use Rattle.fst_simulate.specs.Problems.{items_of}

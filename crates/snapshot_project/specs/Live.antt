@@ -1,5 +1,5 @@
 -- Live states: where a path can stand that has written a prefix and nothing since, and can still complete.
-use Rattle.std.specs.Prelude.{◌≡◌, ℕ, ◌+◌, ◌≤◌, ◌<◌, Bool, ◌⊎◌, ◌↔◌, IsTrue, Some, List, [], ◌++◌, map, length, take, drop, slice_get}
+use Rattle.std.specs.Prelude.{◌≡◌, ℕ, ◌+◌, ◌≤◌, ◌<◌, Bool, ◌⊎◌, ◌↔◌, IsTrue, Some, List, [], ◌++◌, map, length, take, drop, slice_get, AllPairs, Contains}
 use Rattle.state_bits.specs.Members.{Has}
 use Rattle.mine_model.specs.declared.item.Item.{Item}
 use Rattle.mine_model.specs.Database.{sequence_at}
@@ -11,7 +11,7 @@ use Rattle.fst_simulate.specs.Grids.{GridList, HoldsNeeded, Completes, Reads, Wr
 use Rattle.fst_simulate.specs.Kinds.{IsNeededRank}
 use Rattle.snapshot_project.specs.declared.snapshot.Snapshot.{Snapshot}
 use Rattle.snapshot_project.specs.Runs.{IsRun}
-use Rattle.snapshot_project.specs.Snapshots.{CompletesBehind, IsSnapshotAt}
+use Rattle.snapshot_project.specs.Snapshots.{CompletesBehind, IsSnapshotAt, IsSnapshotOf, ComesBefore}
 
 -- from a snapshot of the prefix edges that write nothing lead to the state, and a path completes from there
 abbrev pub IsLiveAt : Problem → Bound → List Item → List Item → List Item → ℕ → Type 0
@@ -38,6 +38,12 @@ GoesOn problem bound items prefix position state =
     × IsLive problem bound items prefix position from × Leads problem.machine from state
     × Reads problem t state [] × CompletesBehind problem bound prefix (drop (position + 1) items) state
 
+-- the set has the states that are live at the position by an edge that writes nothing
+abbrev pub AreCarried : Problem → Bound → List Item → List Item → ℕ → ℕ → Type 0
+AreCarried problem bound items prefix position carried =
+    (state : ℕ) → Has carried state
+    ↔ ((before : ℕ) × (position ≡ before + 1) × GoesOn problem bound items prefix before state)
+
 -- what is needed is in the prefix, or is the rank
 abbrev pub HoldsNeededWith : Problem → Bound → List Item → ℕ → Type 0
 HoldsNeededWith problem bound prefix rank =
@@ -62,6 +68,11 @@ WritesNext problem bound items prefix rank position state =
 abbrev pub sequences_before : GridList → ℕ → List (Sequence Item)
 sequences_before part count =
     map (λ i. sequence_at part.problem.sequences i) (take count part.sequences)
+
+-- the list has exactly the snapshots of the prefix, each once
+pub record AreSnapshotsOf (part : GridList) (prefix : List Item) (snapshots : List Snapshot) : Type 0 where
+  pub rising : AllPairs ComesBefore snapshots
+  pub exact : (snapshot : Snapshot) → Contains snapshots snapshot ↔ IsSnapshotOf part prefix snapshot
 
 -- the snapshots of the sequence are those from one place of the list up to the other
 pub record IsGroup (snapshots : List Snapshot) (sequence from end : ℕ) : Type 0 where
