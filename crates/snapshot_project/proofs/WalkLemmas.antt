@@ -123,3 +123,7 @@ module _ (problem : Problem) (whole : IsWhole problem) (bound : Bound) (items pr
   pub writes-end : (position : ℕ) → length items ≤ position → (rank state : ℕ) → WritesNext problem bound items prefix rank position state → ⊥
   writes-end position past rank state (t, from, here, live, leads, writes, completes) =
       let inside : position < length items = slice_get_within items position t here in omega arith
+
+  -- what is written has a rank up to the top
+  pub writes-few : (position rank state : ℕ) → WritesNext problem bound items prefix rank position state → (1 ≤ rank) × (rank ≤ bound.top)
+  writes-few position rank state (t, from, here, live, leads, (v, has, few, reads), completes) = (has.least, few)
