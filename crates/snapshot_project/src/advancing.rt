@@ -66,6 +66,10 @@ pub fn advance_all(
         → (i : ℕ) (n : Next) (list : SnapshotList) → slice_get next.now i ≡ Some n
         → slice_get longer.items i ≡ Some list → AreSnapshots part.now (ranks ++ n.rank ∷ []) list) }
 {
+    // Nothing follows a leaf, so no walk is made.
+    if next.is_empty() {
+        return Ok(Vec::new(alloc));
+    }
     place_ranks(next, &mut room.places)?;
     let mut longer = empty_lists(alloc, next, snapshots.seen(), part.need())?;
     fill_lists(
