@@ -9,3 +9,6 @@ pub mod WalkLemmas
 pub mod ListedLemmas
 pub mod FileLemmas
 pub mod PartLemmas
+pub mod ReadLemmas
+pub mod FoundLemmas
+pub mod StartLemmas
