@@ -7,3 +7,4 @@ pub mod SumLemmas
 pub mod GroupLemmas
 pub mod WalkLemmas
 pub mod ListedLemmas
+pub mod TallyLemmas

@@ -33,7 +33,12 @@ pub fn advance(
     let mut longer = Snapshots::new(alloc, sees(snapshots.seen(), part.need(), rank), 0)?;
     let mut read = 0;
     let mut grid = 0;
-    'groups: while let Some(group) = next_group(part.sequences(), snapshots.as_slice(), read, grid) {
+    'groups: while let Some(group) = next_group(
+        part.sequences(),
+        snapshots.as_slice(),
+        read,
+        grid,
+    ) {
         let stretch = &snapshots.as_slice()[read..group.end];
         walk(part, group.grid, stretch, snapshots.seen(), &mut hits)?;
         let sequence = part.sequences()[group.grid as usize];
@@ -63,7 +68,14 @@ pub fn advance_all(
 {
     place_ranks(next, &mut room.places)?;
     let mut longer = empty_lists(alloc, next, snapshots.seen(), part.need())?;
-    fill_lists(part, snapshots, next, &mut room.hits, room.places.as_slice(), &mut longer)?;
+    fill_lists(
+        part,
+        snapshots,
+        next,
+        &mut room.hits,
+        room.places.as_slice(),
+        &mut longer,
+    )?;
     Ok(longer)
 }
 

@@ -32,7 +32,13 @@ pub fn next_ranks(
     ensures next { IfOk result (λ found. (ranks : List ℕ) → AreSnapshots part.now ranks snapshots.now
         → AreNextRanks part.now ranks least found.items) }
 {
-    count(part, snapshots, &mut room.hits, &mut room.places, &mut room.sums)?;
+    count(
+        part,
+        snapshots,
+        &mut room.hits,
+        &mut room.places,
+        &mut room.sums,
+    )?;
     enough(alloc, room.sums.as_slice(), least)
 }
 
@@ -53,7 +59,12 @@ fn count(
     sums.clear();
     let mut read = 0;
     let mut grid = 0;
-    'groups: while let Some(group) = next_group(part.sequences(), snapshots.as_slice(), read, grid) {
+    'groups: while let Some(group) = next_group(
+        part.sequences(),
+        snapshots.as_slice(),
+        read,
+        grid,
+    ) {
         let stretch = &snapshots.as_slice()[read..group.end];
         walk(part, group.grid, stretch, snapshots.seen(), hits)?;
         let weight = part.weight(group.grid);

@@ -129,12 +129,7 @@ fn only(ranks: &[u32], need: u32) -> &[u32]
 }
 
 /// Appends a hit for each of the ranks.
-fn push_hits(
-    hits: &mut Vec<Hit>,
-    ranks: &[u32],
-    position: u16,
-    state: u16,
-) -> Result<(), NoMemory>
+fn push_hits(hits: &mut Vec<Hit>, ranks: &[u32], position: u16, state: u16) -> Result<(), NoMemory>
     ensures { OnOk result (hits.new.items ≡ hits.old.items ++ map (λ rank. record {
       rank = rank;
       position = position;

@@ -23,7 +23,12 @@ pub fn support(part: &Part, snapshots: &Snapshots) -> u64
     let mut weight = 0;
     let mut read = 0;
     let mut grid = 0;
-    'groups: while let Some(group) = next_group(part.sequences(), snapshots.as_slice(), read, grid) {
+    'groups: while let Some(group) = next_group(
+        part.sequences(),
+        snapshots.as_slice(),
+        read,
+        grid,
+    ) {
         if end_in(part, group.grid, &snapshots.as_slice()[read..group.end]) {
             weight += part.weight(group.grid);
         }
