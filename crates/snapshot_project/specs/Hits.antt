@@ -35,9 +35,9 @@ IsHitOf problem bound live t rest seen position hit =
     × WritesRank problem bound t hit.state hit.rank
     × Completes problem bound rest hit.state (sees seen bound.need hit.rank)
 
--- any rank, or the one that is needed
-abbrev pub IsAllowed : Bool → Option ℕ → ℕ → Type 0
-IsAllowed all need rank = IsTrue all ⊎ (need ≡ Some rank)
+-- the rank passes: any does, or it is the one that is needed
+abbrev pub Passes : Bool → Option ℕ → ℕ → Type 0
+Passes all need rank = IsTrue all ⊎ (need ≡ Some rank)
 
 -- the words of the states that complete, where what is needed was seen or was not
 abbrev pub words_of : Reading → Bool → List ℕ

@@ -66,6 +66,10 @@ pub fn advance_all(
         → (i : ℕ) (n : Next) (list : SnapshotList) → slice_get next.now i ≡ Some n
         → slice_get longer.items i ≡ Some list → AreSnapshots part.now (ranks ++ n.rank ∷ []) list) }
 {
+    // Nothing follows a leaf, so no walk is made.
+    if next.is_empty() {
+        return Ok(Vec::new(alloc));
+    }
     place_ranks(next, &mut room.places)?;
     let mut longer = empty_lists(alloc, next, snapshots.seen(), part.need())?;
     fill_lists(
@@ -94,6 +98,43 @@ fn empty_lists(
         lists.push(Snapshots::new(alloc, sees(seen, need, n.rank), n.snapshots)?)?;
     }
     Ok(lists)
+}
+
+/// Fills the lists of these ranks.
+fn fill_lists(
+    part: &Part,
+    snapshots: &Snapshots,
+    next: &[NextRank],
+    hits: &mut Vec<Hit>,
+    places: &[u32],
+    longer: &mut Vec<Snapshots>,
+) -> Result<(), NoMemory>
+    requires ranks { All (λ n. (1 ≤ n.rank) × (n.rank ≤ part.now.bound.top)) next.now }
+    requires room { length part.now.problem.ranking.order < length places.now }
+    requires placed { ArePlaced places.now (map (λ n. n.rank) next.now) }
+    requires empty { longer.old.items
+        ≡ map (λ n. record { seen = sees_with snapshots.now.seen part.now.bound.need n.rank; snapshots = [] }) next.now }
+    ensures all { OnOk result (length longer.new.items ≡ length next.now) }
+    ensures each { OnOk result ((ranks : List ℕ) → AreSnapshots part.now ranks snapshots.now
+        → (i : ℕ) (n : Next) (list : SnapshotList) → slice_get next.now i ≡ Some n
+        → slice_get longer.new.items i ≡ Some list → AreSnapshots part.now (ranks ++ n.rank ∷ []) list) }
+{
+    let mut read = 0;
+    let mut grid = 0;
+    'groups: while let Some(group) = next_group(
+        part.sequences(),
+        snapshots.as_slice(),
+        read,
+        grid,
+    ) {
+        let stretch = &snapshots.as_slice()[read..group.end];
+        walk(part, group.grid, stretch, snapshots.seen(), hits)?;
+        let sequence = part.sequences()[group.grid as usize];
+        file_all(hits.as_slice(), sequence, next, places, longer)?;
+        read = group.end;
+        grid = group.grid + 1;
+    }
+    Ok(())
 }
 
 /// Whether the prefix with the rank appended holds what is needed.

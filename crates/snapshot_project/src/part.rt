@@ -12,7 +12,6 @@ use std::alloc::Global;
 use std::marker::Model;
 
 /// Sequences of a job under one bound, with their grids.
-#[derive(Drop)]
 pub struct Part<'a> {
     job: &'a Job,
     bound: Bound,
@@ -35,6 +34,18 @@ impl<'a> Model for Part<'a> {
     ghost use Rattle.snapshot_project.specs.Parts.{IsKept};
 
     ghost invariant = { λ p. IsKept p.job.now p.bound p.successors p.grids };
+}
+
+// Written out, since the sets in the grids have one of three widths.
+impl<'a> Drop for Part<'a> {
+    fn drop(self) {
+        let Part {
+            job: _,
+            bound: _,
+            grids: _,
+            successors: _,
+        } = self;
+    }
 }
 
 impl<'a> Part<'a> {

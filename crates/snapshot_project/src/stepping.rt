@@ -1,6 +1,6 @@
 //! One step of the live states of a prefix, over one item.
 
-ghost use Rattle.std.specs.Prelude.{◌≡◌, ◌≢◌, ℕ, ◌+◌, ◌*◌, ◌≤◌, ◌<◌, ◌⊎◌, ◌↔◌, ◌++◌, length, map, IsTrue, Contains, AllPairs, Some, IfOk, OnOk, slice_get};
+ghost use Rattle.std.specs.Prelude.{[], ◌≡◌, ◌≢◌, ℕ, ◌+◌, ◌*◌, ◌≤◌, ◌<◌, ◌⊎◌, ◌↔◌, ◌++◌, length, map, IsTrue, Contains, AllPairs, Some, IfOk, OnOk, slice_get};
 ghost use Rattle.state_bits.specs.Members.{Has, HasBit};
 ghost use Rattle.mine_model.specs.declared.item.Item.{Item};
 ghost use Rattle.fst_simulate.specs.Grids.{Completes, Reads, items_at, rest_at};
@@ -8,7 +8,7 @@ ghost use Rattle.fst_simulate.specs.Readings.{HasOutputs, outputs_at};
 ghost use Rattle.fst_simulate.specs.Successors.{AreSuccessors, LeadsFrom};
 ghost use Rattle.snapshot_project.specs.declared.hit.Hit.{Hit as Found};
 ghost use Rattle.snapshot_project.specs.Aims.{goes, sees_all};
-ghost use Rattle.snapshot_project.specs.Hits.{AreInOrder, AreRanksWithin, IsWritten, IsAllowed, IsHitOf, AreWritable, words_of};
+ghost use Rattle.snapshot_project.specs.Hits.{AreInOrder, AreRanksWithin, IsWritten, Passes, IsHitOf, AreWritable, words_of};
 
 use super::aim::Aim;
 use super::hit::Hit;
@@ -55,16 +55,16 @@ pub(crate) fn step<const W: usize>(
     let reading = part.grids().reading(grid, at);
     let targets = neighbours(successors, live);
     write(&reading, &targets, aim, (at + 1) as u16, hits)?;
-    Ok(silent(&reading, targets, aim.goes()))
+    Ok(silent(&reading, &targets, aim.goes()))
 }
 
 /// Those of the states whose edges read the item and write nothing, and that complete behind it.
-fn silent<const W: usize>(reading: &Reading, targets: StateSet<W>, goes: bool) -> StateSet<W>
+fn silent<const W: usize>(reading: &Reading, targets: &StateSet<W>, goes: bool) -> StateSet<W>
     requires width { W ≤ 17 }
-    ensures { (state : ℕ) → Has result state ↔ (Has targets state × HasBit reading.now.silent.now state
+    ensures { (state : ℕ) → Has result state ↔ (Has targets.now state × HasBit reading.now.silent.now state
         × HasBit (words_of reading.now goes) state) }
 {
-    let mut after = targets;
+    let mut after = *targets;
     after.intersect_with_words(reading.silent);
     after.intersect_with_words(if goes { reading.seen } else { reading.unseen });
     after
@@ -102,7 +102,7 @@ fn write<const W: usize>(
 /// All of the ranks, or only the one that is needed.
 fn allowed(ranks: &[u32], all: bool, need: Option<u32>) -> &[u32]
     ensures ranks { (rank : ℕ) → Contains result.now rank
-        ↔ (Contains ranks.now rank × IsAllowed all need rank) }
+        ↔ (Contains ranks.now rank × Passes all need rank) }
     ensures once { AllPairs (λ one other. one ≢ other) ranks.now
         → AllPairs (λ one other. one ≢ other) result.now }
 {
