@@ -8,3 +8,4 @@ pub mod GroupLemmas
 pub mod WalkLemmas
 pub mod ListedLemmas
 pub mod TallyLemmas
+pub mod ReadLemmas
