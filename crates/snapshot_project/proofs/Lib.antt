@@ -12,3 +12,5 @@ pub mod PartLemmas
 pub mod ReadLemmas
 pub mod FoundLemmas
 pub mod StartLemmas
+pub mod TallyLemmas
+pub mod LongerLemmas
