@@ -1,4 +1,4 @@
-use Rattle.std.proofs.Common.{◌≡◌, ◌≤◌, ◌-◌, ◌×◌, List, ℕ, length}
+use Rattle.std.proofs.Common.{◌≡◌, ◌≤◌, ◌-◌, List, ℕ, length}
 use Rattle.snapshot_project.specs.Aims.{sees}
 use Rattle.snapshot_project.specs.Groups.{AreRead}
 use Rattle.snapshot_project.specs.Snapshots.{AreSnapshots}
