@@ -7,3 +7,5 @@ pub mod SumLemmas
 pub mod GroupLemmas
 pub mod WalkLemmas
 pub mod ListedLemmas
+pub mod HitLemmas
+pub mod SearchLemmas
