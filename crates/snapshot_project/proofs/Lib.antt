@@ -8,4 +8,5 @@ pub mod GroupLemmas
 pub mod WalkLemmas
 pub mod ListedLemmas
 pub mod HitLemmas
+pub mod StepLemmas
 pub mod SearchLemmas
