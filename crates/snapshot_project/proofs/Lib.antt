@@ -8,5 +8,6 @@ pub mod GroupLemmas
 pub mod WalkLemmas
 pub mod ListedLemmas
 pub mod HitLemmas
+pub mod WayLemmas
 pub mod StepLemmas
 pub mod SearchLemmas
