@@ -14,3 +14,7 @@ pub mod FoundLemmas
 pub mod StartLemmas
 pub mod TallyLemmas
 pub mod LongerLemmas
+pub mod HitLemmas
+pub mod WayLemmas
+pub mod StepLemmas
+pub mod SearchLemmas
