@@ -9,3 +9,4 @@ pub mod WalkLemmas
 pub mod ListedLemmas
 pub mod TallyLemmas
 pub mod ReadLemmas
+pub mod EndLemmas
