@@ -10,3 +10,4 @@ pub mod ListedLemmas
 pub mod TallyLemmas
 pub mod ReadLemmas
 pub mod EndLemmas
+pub mod CountLemmas
