@@ -11,3 +11,4 @@ pub mod TallyLemmas
 pub mod ReadLemmas
 pub mod EndLemmas
 pub mod CountLemmas
+pub mod EnoughLemmas
