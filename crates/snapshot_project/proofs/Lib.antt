@@ -18,3 +18,4 @@ pub mod HitLemmas
 pub mod WayLemmas
 pub mod StepLemmas
 pub mod SearchLemmas
+pub mod EndLemmas

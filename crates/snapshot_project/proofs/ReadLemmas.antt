@@ -155,13 +155,13 @@ module _ (part : GridList) (is : IsPart part) where
           rising = λ j k d less inside.
               let few : length (slice_range snapshots read group.end) ≡ group.end - read = range-length snapshots read group.end stretch.within in
               let (in_j, at_j) = range-at snapshots read group.end stretch.within j (get_or (slice_range snapshots read group.end) j d)
-                  (slice_get-get_or (slice_range snapshots read group.end) j d (omega arith)) in
+              (slice_get-get_or (slice_range snapshots read group.end) j d (omega arith)) in
               let (in_k, at_k) = range-at snapshots read group.end stretch.within k (get_or (slice_range snapshots read group.end) k d)
-                  (slice_get-get_or (slice_range snapshots read group.end) k d inside) in
+              (slice_get-get_or (slice_range snapshots read group.end) k d inside) in
               let one = stretch.here (read + j) (get_or (slice_range snapshots read group.end) j d) (omega arith) in_j at_j in
               let two = stretch.here (read + k) (get_or (slice_range snapshots read group.end) k d) (omega arith) in_k at_k in
               positions-rise snapshots are.rising (read + j) (read + k) (get_or (slice_range snapshots read group.end) j d)
-                  (get_or (slice_range snapshots read group.end) k d) (omega arith) at_j at_k (one ∙ sym two);
+              (get_or (slice_range snapshots read group.end) k d) (omega arith) at_j at_k (one ∙ sym two);
           exact = λ position state.
               let law = group-has part prefix snapshots are next.sequence read group.end read-group position state in (
                 (λ has.
@@ -200,3 +200,10 @@ pub next-shown : (sequences others : List ℕ) (snapshots shown : List Snapshot)
     → IsNextGroup others shown read grid group → IsNextGroup sequences snapshots read grid group
 next-shown sequences others snapshots shown read grid group one two next =
     subst (λ (l : List ℕ). IsNextGroup l snapshots read grid group) one (subst (λ (l : List Snapshot). IsNextGroup others l read grid group) two next)
+
+pub none-shown : (sequences others : List ℕ) (snapshots shown : List Snapshot) (read grid : ℕ) → others ≡ sequences → shown ≡ snapshots
+    → ((snapshot : Snapshot) → slice_get shown read ≡ Some snapshot → (k : ℕ) → grid ≤ k → k < length others → slice_index others k ≢ snapshot.sequence)
+    → (snapshot : Snapshot) → slice_get snapshots read ≡ Some snapshot → (k : ℕ) → grid ≤ k → k < length sequences → slice_index sequences k ≢ snapshot.sequence
+none-shown sequences others snapshots shown read grid one two none snapshot at k least most =
+    subst (λ (l : List ℕ). slice_index l k ≢ snapshot.sequence) one
+    (none snapshot (ap (λ (l : List Snapshot). slice_get l read) two ∙ at) k least (subst (λ (l : List ℕ). k < length l) (sym one) most))

@@ -17,18 +17,14 @@ pub fn support(part: &Part, snapshots: &Snapshots) -> u64
     ensures { (ranks : List ℕ) → AreSnapshots part.now ranks snapshots.now
         → Counts (GeneratesWithin part.now ranks) (sequences_of part.now) result }
 {
+    let sequences = part.sequences();
     if !snapshots.seen() {
         return 0;
     }
     let mut weight = 0;
     let mut read = 0;
     let mut grid = 0;
-    'groups: while let Some(group) = next_group(
-        part.sequences(),
-        snapshots.as_slice(),
-        read,
-        grid,
-    ) {
+    'groups: while let Some(group) = next_group(sequences, snapshots.as_slice(), read, grid) {
         if end_in(part, group.grid, &snapshots.as_slice()[read..group.end]) {
             weight += part.weight(group.grid);
         }
