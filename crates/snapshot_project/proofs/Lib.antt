@@ -21,3 +21,4 @@ pub mod SearchLemmas
 pub mod EndLemmas
 pub mod CountLemmas
 pub mod EnoughLemmas
+pub mod NextLemmas
