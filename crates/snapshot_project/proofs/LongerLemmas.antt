@@ -1,5 +1,5 @@
 -- The snapshots of a prefix that is longer by one rank, found group by group.
-use Rattle.std.proofs.Common.{◌≡◌, ◌≢◌, ◌↔◌, ℕ, ◌+◌, ◌-◌, ◌≤◌, ◌<◌, inl, inr, Bool, IsTrue, Option, Some, List, [], ◌∷◌, ◌++◌, map, length, refl, sym, ap, ◌∙◌, subst, arith}
+use Rattle.std.proofs.Common.{◌≡◌, ◌≢◌, ℕ, ◌+◌, ◌-◌, ◌≤◌, ◌<◌, Bool, IsTrue, Option, Some, List, [], ◌∷◌, ◌++◌, map, length, refl, sym, ap, ◌∙◌, subst, arith}
 use Rattle.std.specs.List.{Contains, slice_get, slice_index, slice_range}
 use Rattle.std.proofs.lemmas.Option.{slice_get_within, same_Some}
 use Rattle.mine_model.specs.declared.item.Item.{Item}
@@ -30,6 +30,19 @@ IsLonger part prefix rank snapshot =
     (before : ℕ) × (snapshot.position ≡ before + 1)
     × WritesNext part.problem part.bound (items_of part.problem snapshot.sequence) prefix rank before snapshot.state
 
+-- the hits are what a walk finds that begins with these snapshots
+abbrev pub AreWalked : GridList → ℕ → Bool → List Snapshot → List Hit → Type 0
+AreWalked part grid seen group hits =
+    (prefix : List Item) → AreGroupOf part.problem part.bound (items_at part grid) prefix seen group
+    → AreHits part.problem part.bound (items_at part grid) prefix hits
+
+-- what is said of a slice of the snapshots, said of what it shows
+pub walked-shown : (part : GridList) (grid read end : ℕ) (hits : List Hit) (seen told : Bool) (snapshots shown : List Snapshot) → told ≡ seen → shown ≡ snapshots
+    → AreWalked part grid told (slice_range shown read end) hits → AreWalked part grid seen (slice_range snapshots read end) hits
+walked-shown part grid read end hits seen told snapshots shown one two walked =
+    subst (λ (b : Bool). AreWalked part grid b (slice_range snapshots read end) hits) one
+    (subst (λ (l : List Snapshot). AreWalked part grid told (slice_range l read end) hits) two walked)
+
 module _ (part : GridList) (is : IsPart part) (ranks : List ℕ) (list : SnapshotList) (are : AreSnapshots part ranks list) where
   -- there is none in a sequence that has no snapshot of the prefix
   longer-not : (rank i : ℕ) → Contains part.sequences i → ((snapshot : Snapshot) → Contains list.snapshots snapshot → snapshot.sequence ≡ i → ⊥)
@@ -43,8 +56,7 @@ module _ (part : GridList) (is : IsPart part) (ranks : List ℕ) (list : Snapsho
     -- with those of one more group
     pub longer-more : (group : Group) (next : IsNextGroup part.sequences list.snapshots read grid group) (hits : List Hit)
         → AreInOrder (length (items_at part group.grid)) hits
-        → ((prefix : List Item) → AreGroupOf part.problem part.bound (items_at part group.grid) prefix list.seen (slice_range list.snapshots read group.end)
-            → AreHits part.problem part.bound (items_at part group.grid) prefix hits)
+        → AreWalked part group.grid list.seen (slice_range list.snapshots read group.end) hits
         → (longer : List Snapshot) → AreFoundBefore part (IsLonger part are.prefix rank) grid longer
         → AreFoundBefore part (IsLonger part are.prefix rank) (group.grid + 1) (longer ++ filed (slice_index part.sequences group.grid) rank hits)
     longer-more group next hits order walked longer found =
@@ -54,7 +66,7 @@ module _ (part : GridList) (is : IsPart part) (ranks : List ℕ) (list : Snapsho
         let exact = walked are.prefix (read-walk part is are.prefix list.snapshots all read grid so_far group next list.seen are.seen) in
         found-more part is (IsLonger part are.prefix rank) grid longer found group.grid number (filed number rank hits) next.forward (next.at ∙ ap Some (sym known))
         (λ g snapshot least most at. longer-not rank snapshot.sequence (get-held part.sequences g snapshot.sequence at)
-            (read-passed part is are.prefix list.snapshots all read grid so_far group next g snapshot.sequence least most at) snapshot refl)
+        (read-passed part is are.prefix list.snapshots all read grid so_far group next g snapshot.sequence least most at) snapshot refl)
         (filed-rising number rank hits (length (items_at part group.grid)) order)
         (λ snapshot. (
           (λ held.
@@ -83,7 +95,7 @@ module _ (part : GridList) (is : IsPart part) (ranks : List ℕ) (list : Snapsho
         ((λ seen. tells.0 (sym seen_is ∙ seen)), (λ either. seen_is ∙ tells.1 either)) found.rising
         (found-all part is (IsLonger part are.prefix rank) grid longer.snapshots found
         (λ g snapshot least most at. longer-not rank snapshot.sequence (get-held part.sequences g snapshot.sequence at)
-            (read-all part is are.prefix list.snapshots all read grid so_far none g snapshot.sequence least at) snapshot refl))
+        (read-all part is are.prefix list.snapshots all read grid so_far none g snapshot.sequence least at) snapshot refl))
 
 -- ---- lists for several ranks
 
@@ -132,7 +144,7 @@ module _ (number : ℕ) (next : List NextRank) (hits : List Hit) (before after :
 
   pub longer-filed : (part : GridList) (prefix : List Item) (count more : ℕ) → AreLongerSoFar part prefix count next before
       → ((rank : ℕ) (longer : List Snapshot) → AreFoundBefore part (IsLonger part prefix rank) count longer
-          → AreFoundBefore part (IsLonger part prefix rank) more (longer ++ filed number rank hits))
+      → AreFoundBefore part (IsLonger part prefix rank) more (longer ++ filed number rank hits))
       → AreLongerSoFar part prefix more next after
   longer-filed part prefix count more found step k n list at_n at_list =
       let (old, at_old) = before-filed next before long k n at_n in

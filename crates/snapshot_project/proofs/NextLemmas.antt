@@ -1,6 +1,5 @@
 -- From weights by rank to the ranks that can follow.
-use Rattle.std.proofs.Common.{◌≡◌, ℕ, ◌≤◌, List, [], ◌∷◌, ◌++◌, subst}
-use Rattle.std.specs.List.{Contains}
+use Rattle.std.proofs.Common.{ℕ, ◌≤◌, List, [], ◌∷◌, ◌++◌, subst}
 use Rattle.mine_model.proofs.AliveLemmas.{WeighAtLeast-counted}
 use Rattle.fst_simulate.specs.Grids.{GridList}
 use Rattle.snapshot_project.specs.declared.counting.Sum.{Sum}
