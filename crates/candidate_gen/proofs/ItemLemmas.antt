@@ -20,7 +20,8 @@ use Rattle.fst_simulate.proofs.PathLemmas.{label_at_edge, writes-cases}
 use Rattle.candidate_gen.specs.declared.place.Place.{Place}
 use Rattle.candidate_gen.specs.Paths.{Space, Writes}
 use Rattle.candidate_gen.specs.Places.{FollowsFound, FollowsLive}
-use Rattle.candidate_gen.specs.Views.{WritesMore, WritesAs, LeadsFrom}
+use Rattle.fst_simulate.specs.Successors.{LeadsFrom}
+use Rattle.candidate_gen.specs.Views.{WritesMore, WritesAs}
 use Rattle.candidate_gen.specs.Steps.{IsAhead, FollowsInto, AreStates, AddsPlaces}
 use Rattle.candidate_gen.proofs.PathLemmas.{writes-end, writes-step}
 

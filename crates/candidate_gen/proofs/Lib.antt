@@ -4,7 +4,6 @@ pub mod PairLemmas
 pub mod StepLemmas
 pub mod FlatLemmas
 pub mod ViewLemmas
-pub mod SuccessorLemmas
 pub mod AbsorbLemmas
 pub mod EnterLemmas
 pub mod ItemLemmas

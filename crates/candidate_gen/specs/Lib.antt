@@ -5,8 +5,6 @@ pub mod Paths
 pub mod Places
 pub mod Views
 pub mod Viewed
-pub mod Successors
-pub mod Widths
 pub mod Steps
 pub mod Walk
 pub mod Flat

@@ -1,10 +1,8 @@
 -- What a walk asks of a sequence.
 use Rattle.std.specs.Prelude.{◌≡◌, ℕ, ◌≤◌, List, [], ◌∷◌, length, drop, None}
-use Rattle.state_bits.specs.Members.{Has}
 use Rattle.mine_model.specs.declared.item.Item.{Item}
 use Rattle.mine_model.specs.Limits.{most_length}
 use Rattle.mine_model.specs.Ranks.{HasRank}
-use Rattle.fst_compile.specs.Transducer.{Transducer, Leads}
 use Rattle.fst_simulate.specs.Problems.{Problem}
 use Rattle.fst_simulate.specs.Grids.{GridList, Reads}
 use Rattle.candidate_gen.specs.Paths.{Space, Writes}
@@ -23,10 +21,6 @@ WritesMore space position state =
 abbrev pub WritesAs : Problem → Item → ℕ → ℕ → Type 0
 WritesAs problem t state rank = (v : Item) × HasRank problem.ranking.order v rank × Reads problem t state (v
     ∷ [])
-
--- an edge leads from one of the states to this one
-abbrev pub LeadsFrom : Transducer → ℕ → ℕ → Type 0
-LeadsFrom machine states to = (from : ℕ) × Has states from × Leads machine from to
 
 -- there is room for the sequence and the states
 pub record IsSmall (space : Space) : Type 0 where

@@ -6,7 +6,7 @@ ghost use Rattle.state_bits.specs.Members.{Has};
 ghost use Rattle.mine_model.specs.declared.item.Item.{Item};
 ghost use Rattle.fst_simulate.specs.Grids.{Reads};
 ghost use Rattle.candidate_gen.specs.Paths.{Writes};
-ghost use Rattle.candidate_gen.specs.Successors.{AreSuccessors};
+ghost use Rattle.fst_simulate.specs.Successors.{AreSuccessors};
 ghost use Rattle.candidate_gen.specs.Views.{WritesMore, WritesAs, IsSmall};
 ghost use Rattle.candidate_gen.specs.declared.place.Place.{Place};
 ghost use Rattle.candidate_gen.specs.Places.{IsPlace, IsBelow, IsOf, FollowsFound};
@@ -14,8 +14,8 @@ ghost use Rattle.candidate_gen.specs.Steps.{IsAhead, FollowsInto, AreStates, Add
 ghost use Rattle.candidate_gen.specs.Walk.{Takes};
 
 use super::place::Place;
-use super::successors::targets_of;
 use super::view::View;
+use fst_simulate::neighbours;
 use mine_model::NoMemory;
 use state_bits::StateSet;
 
@@ -215,7 +215,7 @@ fn step<const W: usize>(
     if position >= view.length() {
         return Ok(StateSet::new());
     }
-    let targets = targets_of(successors, live);
+    let targets = neighbours(successors, live);
     enter_all(view, depth, position, &targets, found)
 }
 

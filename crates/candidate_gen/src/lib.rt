@@ -7,7 +7,6 @@ mod listing;
 mod patterns;
 mod place;
 mod rank_lists;
-mod successors;
 #[cfg(test)]
 mod tests;
 mod view;

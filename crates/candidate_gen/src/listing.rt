@@ -2,10 +2,9 @@ ghost use Rattle.std.specs.Prelude.{◌≡◌, ◌≤◌, ◌<◌, ◌==◌, [],
 ghost use Rattle.candidate_gen.specs.Candidates.{AreCandidateRanks};
 
 use super::rank_lists::RankLists;
-use super::successors::{Successors, successors_of};
 use super::view::View;
 use super::walk::Walk;
-use fst_simulate::{Bound, Grids, Job};
+use fst_simulate::{Bound, Grids, Job, Successors, successors_of};
 use mine_model::NoMemory;
 use std::alloc::Global;
 use std::marker::Model;
@@ -34,9 +33,9 @@ impl<'a> Model for CandidateList<'a> {
 
     ghost view = { λ c. record { problem = c.job.now; listed = c.listed } };
 
-    ghost use Rattle.candidate_gen.specs.Widths.{AreOf};
+    ghost use Rattle.fst_simulate.specs.Successors.{AreSuccessorsOf};
 
-    ghost invariant = { λ c. IsGridOf c.job.now c.grids × AreOf c.job.now.machine c.successors };
+    ghost invariant = { λ c. IsGridOf c.job.now c.grids × AreSuccessorsOf c.job.now.machine c.successors };
 }
 
 impl<'a> CandidateList<'a> {

@@ -1,7 +1,6 @@
 ghost use Rattle.std.specs.Prelude.{◌≡◌, ◌^◌, ◌≤◌, ◌<◌, true, false, List, [], ◌∷◌, ◌++◌, length, map, Contains, IsTrue, OnOk};
 ghost use Rattle.candidate_gen.specs.declared.place.Place.{Place};
-ghost use Rattle.candidate_gen.specs.Successors.{AreSuccessors};
-ghost use Rattle.candidate_gen.specs.Widths.{AreOf};
+ghost use Rattle.fst_simulate.specs.Successors.{AreSuccessors, AreSuccessorsOf};
 ghost use Rattle.candidate_gen.specs.Views.{IsSmall};
 ghost use Rattle.candidate_gen.specs.Places.{IsPlace, AreWaiting, OnlyEnds};
 ghost use Rattle.candidate_gen.specs.Walk.{AreWritten, IsListed, Keeps, AreRanksOf, ListsEnds, weight};
@@ -9,8 +8,8 @@ ghost use Rattle.candidate_gen.specs.Walk.{AreWritten, IsListed, Keeps, AreRanks
 use super::advancing::advance;
 use super::place::Place;
 use super::rank_lists::RankLists;
-use super::successors::Successors;
 use super::view::View;
+use fst_simulate::Successors;
 use mine_model::NoMemory;
 use smallvec::SmallVec;
 use state_bits::StateSet;
@@ -44,7 +43,7 @@ impl Walk {
         successors: &Successors,
         listed: &mut RankLists,
     ) -> Result<(), NoMemory>
-        requires successors { AreOf view.now.problem.machine successors.now }
+        requires successors { AreSuccessorsOf view.now.problem.machine successors.now }
         requires none { listed.old ≡ [] }
         ensures { OnOk result (AreWritten view.now listed.new) }
     {

@@ -1,5 +1,5 @@
 -- The words --support DIGITS EXPRESSION FILE, with `--` or without, by clap's definitions.
-use Rattle.std.proofs.Common.{◌≡◌, ◌∙◌, ◌↔◌, ap, ap₂, arith, rules, sym, subst, ℕ, true, false, IsTrue, refl, fold, List, [], ◌∷◌, codes, Option, Some, is_some}
+use Rattle.std.proofs.Common.{◌≡◌, ◌∙◌, ◌↔◌, ap, ap₂, arith, rules, sym, subst, ℕ, true, false, IsTrue, refl, fold, List, [], ◌∷◌, codes, Option, Some, None, is_some}
 use Rattle.clap.specs.Words.{Row, Text, Kinds, Shape, built}
 use Rattle.clap.specs.Kinds.{or_else}
 use Rattle.clap.specs.Simple.{entered}
@@ -7,7 +7,7 @@ use Rattle.clap.specs.Walk.{Walk, finished, idle, nothing_held, option, settled,
 use Rattle.clap.specs.Faults.{check_fault, defaults_fault, entered_fault, settle_fault, turn_fault, walk_fault}
 use Rattle.clap.proofs.OnLiterals.{clap_on_literals}
 use Rattle.command_line.specs.Options.{options, desq, faults, rows}
-use Rattle.command_line.specs.Words.{GivesSupport, IsCommand, IsNumber, KeepsRules, Says}
+use Rattle.command_line.specs.Words.{GivesSupport, GivesMode, IsCommand, IsNumber, KeepsRules, Says}
 use Rattle.mine_model.specs.Limits.{most_support, most_workers}
 use Rattle.command_line.specs.declared.words.Engine.TheVariants.{Count}
 use Rattle.command_line.specs.PlainWords.{IsPlainWord, plain_command}
@@ -104,9 +104,13 @@ module _ (digits : Text) (p : IsPlainWord digits) where
     unfolding clap_on_literals options desq
     end_support = (digits, refl, number)
 
+    end_mode : GivesMode found Count None
+    unfolding clap_on_literals options desq
+    end_mode = record { named = refl; given = refl; suits = refl }
+
     end_rules : KeepsRules found
     unfolding clap_on_literals options desq
-    end_rules = record { support = (n, end_support); engine = (Count, refl); workers = (4, four); file = refl }
+    end_rules = record { support = (n, end_support); mode = (Count, None, end_mode); workers = (4, four); file = refl }
 
     end_says : Says found (plain_command n expression file)
     unfolding clap_on_literals options desq
@@ -116,7 +120,7 @@ module _ (digits : Text) (p : IsPlainWord digits) where
       file = refl;
       hierarchy = refl;
       weighted = flag_off _ refl;
-      engine = refl;
+      mode = end_mode;
       workers = four;
       stats = flag_off _ refl;
     }

@@ -12,5 +12,6 @@ command_said read = record {
   weighted = read.weighted;
   engine = read.engine;
   workers = read.workers;
+  seed = read.seed;
   stats = read.stats;
 }

@@ -23,7 +23,7 @@ needed rule = record rule { required = true }
 -- the arguments of the command, in order
 unfoldable pub options : List Rule
 options = needed (value (codes "support")) ∷ value (codes "hierarchy") ∷ flag (codes "weighted")
-    ∷ value (codes "engine") ∷ value (codes "workers") ∷ flag (codes "stats")
+    ∷ value (codes "engine") ∷ value (codes "workers") ∷ value (codes "simulate") ∷ flag (codes "stats")
     ∷ needed (word (codes "expression")) ∷ word (codes "file") ∷ []
 
 -- the command, as clap sees it: no program's name comes before the words, and no word asks for help

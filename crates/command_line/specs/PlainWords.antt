@@ -23,5 +23,6 @@ plain_command threshold expression file = record {
   weighted = false;
   engine = Count;
   workers = 4;
+  seed = None;
   stats = false;
 }

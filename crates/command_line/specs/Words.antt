@@ -1,11 +1,11 @@
 -- What the words of a command say: what clap finds in them, and the rules beyond clap's.
-use Rattle.std.specs.Prelude.{◌≡◌, ◌≢◌, ◌↔◌, ◌⊎◌, ℕ, ◌≤◌, Bool, true, List, [], codes, Option, Some, unwrap_or, IsSome, IsTrue}
+use Rattle.std.specs.Prelude.{◌≡◌, ◌≢◌, ◌↔◌, ◌⊎◌, ℕ, ◌≤◌, Bool, List, [], codes, Option, Some, None, unwrap_or, IsSome, IsTrue}
 use Rattle.mine_model.specs.Limits.{most_support, most_workers}
 use Rattle.mine_model.specs.Grammar.{IsDecimal}
 use Rattle.clap.specs.Words.{Row, Text, first_of}
 use Rattle.command_line.specs.Options.{faults, rows}
 use Rattle.command_line.specs.declared.words.Engine.{Engine}
-use Rattle.command_line.specs.declared.words.Engine.TheVariants.{Count}
+use Rattle.command_line.specs.declared.words.Engine.TheVariants.{Count, Dfs}
 
 -- what the words of a command say
 pub record Command : Type 0 where
@@ -16,6 +16,7 @@ pub record Command : Type 0 where
   pub weighted : Bool
   pub engine : Engine
   pub workers : ℕ
+  pub seed : Option ℕ
   pub stats : Bool
 
 -- one or more decimal digits, leading zeros allowed, of a number in this range
@@ -34,6 +35,7 @@ GivesSupport found n =
 
 abbrev pub engine_name : Engine → Text
 engine_name Count = codes "count"
+engine_name Dfs = codes "dfs"
 
 -- this engine was named, or none was and it is that of a run that names none
 abbrev pub GivesEngine : List Row → Engine → Type 0
@@ -43,11 +45,32 @@ GivesEngine found engine = unwrap_or (first_of (codes "engine") found) (codes "c
 abbrev pub GivesWorkers : List Row → ℕ → Type 0
 GivesWorkers found n = IsNumber 1 most_workers (unwrap_or (first_of (codes "workers") found) (codes "4")) n
 
--- the rules beyond clap's, a line each: each number is in its range, the engine is one that there is, FILE is
--- there
+-- the greatest seed
+abbrev pub most_seed : ℕ
+most_seed = 18446744073709551615
+
+-- this seed was given for a simulated run, or none was
+abbrev pub GivesSeed : List Row → Option ℕ → Type 0
+GivesSeed found None = first_of (codes "simulate") found ≡ None
+GivesSeed found (Some n) =
+    (digits : Text) × (first_of (codes "simulate") found ≡ Some digits) × IsNumber 0 most_seed digits n
+
+-- the engine runs with this seed, or with none: a search by prefixes is simulated, and it alone
+abbrev pub Suits : Engine → Option ℕ → Type 0
+Suits Count seed = seed ≡ None
+Suits Dfs seed = IsSome seed
+
+-- this engine is that of the run, with this seed or none, and they suit each other
+pub record GivesMode (found : List Row) (engine : Engine) (seed : Option ℕ) : Type 0 where
+  pub named : GivesEngine found engine
+  pub given : GivesSeed found seed
+  pub suits : Suits engine seed
+
+-- the rules beyond clap's, a line each: each number is in its range, the engine is one that there is, with a
+-- seed where it needs one and no other engine with one, FILE is there
 pub record KeepsRules (found : List Row) : Type 0 where
   pub support : (n : ℕ) × GivesSupport found n
-  pub engine : (engine : Engine) × GivesEngine found engine
+  pub mode : (engine : Engine) × (seed : Option ℕ) × GivesMode found engine seed
   pub workers : (n : ℕ) × GivesWorkers found n
   pub file : IsSome (first_of (codes "file") found)
 
@@ -58,7 +81,7 @@ pub record Says (found : List Row) (command : Command) : Type 0 where
   pub file : first_of (codes "file") found ≡ Some command.file
   pub hierarchy : first_of (codes "hierarchy") found ≡ command.hierarchy
   pub weighted : IsTrue command.weighted ↔ IsGiven found (codes "weighted")
-  pub engine : GivesEngine found command.engine
+  pub mode : GivesMode found command.engine command.seed
   pub workers : GivesWorkers found command.workers
   pub stats : IsTrue command.stats ↔ IsGiven found (codes "stats")
 

@@ -27,12 +27,13 @@ pub enum Argument {
 }
 
 /// The arguments of the command, in order.
-static ARGUMENTS: [Argument; 8] = [
+static ARGUMENTS: [Argument; 9] = [
     Argument::NeededValue("support"),
     Argument::Value("hierarchy"),
     Argument::Flag("weighted"),
     Argument::Value("engine"),
     Argument::Value("workers"),
+    Argument::Value("simulate"),
     Argument::Flag("stats"),
     Argument::NeededWord("expression"),
     Argument::Word("file"),

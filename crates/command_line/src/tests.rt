@@ -28,6 +28,7 @@ fn says(
                 && !command.weighted
                 && command.engine == Engine::Count
                 && command.workers == 4
+                && command.seed.is_none()
                 && !command.stats,
         ),
         None => Ok(false),
@@ -132,6 +133,39 @@ fn engines_and_workers_are_read(rt: HostRuntime) -> Result<(), Fail> {
         "--support 2 --engine count --engine count (a) f",
         "--support 2 --stats --stats (a) f",
         "--support 2 --stats=true (a) f",
+    ] {
+        assert!(rt; read(rt.alloc(), text)?.is_none());
+    }
+    Ok(())
+}
+
+#[test]
+fn a_search_by_prefixes_has_a_seed(rt: HostRuntime) -> Result<(), Fail> {
+    for (text, seed) in [
+        ("--support 2 --engine dfs --simulate 0 (a) f", 0),
+        ("--simulate=007 (a) --support 2 f --engine=dfs", 7),
+        (
+            "--support 2 --engine dfs --simulate 18446744073709551615 (a) f",
+            18_446_744_073_709_551_615,
+        ),
+    ] {
+        match read(rt.alloc(), text)? {
+            Some(command) => {
+                assert_eq!(rt; command.engine, Engine::Dfs);
+                assert_eq!(rt; command.seed, Some(seed));
+            }
+            None => assert!(rt; false),
+        }
+    }
+    for text in [
+        "--support 2 --engine dfs (a) f",
+        "--support 2 --simulate 7 (a) f",
+        "--support 2 --engine count --simulate 7 (a) f",
+        "--support 2 --engine dfs --simulate 18446744073709551616 (a) f",
+        "--support 2 --engine dfs --simulate -1 (a) f",
+        "--support 2 --engine dfs --simulate= (a) f",
+        "--support 2 --engine dfs --simulate 7 --simulate 7 (a) f",
+        "--support 2 --engine dfs (a) f --simulate",
     ] {
         assert!(rt; read(rt.alloc(), text)?.is_none());
     }

@@ -1,8 +1,8 @@
 //! From the words to the command that they say.
 
-ghost use Rattle.std.specs.Prelude.{◌≡◌, ◌↔◌, ℕ, List, Some, IsTrue, IfOk, MatchOption, map, option_map, unwrap_or, string_bytes, codes};
+ghost use Rattle.std.specs.Prelude.{◌≡◌, ◌↔◌, ℕ, List, Option, Some, IsTrue, IfOk, MatchOption, map, option_map, unwrap_or, string_bytes, codes};
 ghost use Rattle.clap.specs.Words.{first_of, found_of, rows_of};
-ghost use Rattle.command_line.specs.Words.{GivesSupport, GivesEngine, GivesWorkers, IsGiven, KeepsRules, Says, IsCommand, IsUsage};
+ghost use Rattle.command_line.specs.Words.{GivesSupport, GivesEngine, GivesWorkers, GivesSeed, GivesMode, Suits, IsGiven, KeepsRules, Says, IsCommand, IsUsage};
 ghost use Rattle.command_line.specs.Arguments.{HasNeeded};
 ghost use Rattle.command_line.specs.Commands.{command_said};
 ghost use Rattle.command_line.specs.declared.words.Engine.{Engine};
@@ -19,11 +19,16 @@ const MOST_SUPPORT: u64 = 1_000_000_000_000_000_000;
 /// The most workers that may be asked for.
 const MOST_WORKERS: u64 = 64;
 
+/// The greatest seed that may be given.
+const MOST_SEED: u64 = 18_446_744_073_709_551_615;
+
 /// How a run searches.
 #[derive(Clone, Copy, Debug, PartialEq, Eq)]
 pub enum Engine {
     /// It counts the candidates of all sequences.
     Count,
+    /// It searches by prefixes.
+    Dfs,
 }
 
 /// What the words of a command say.
@@ -43,6 +48,9 @@ pub struct Command {
     pub engine: Engine,
     /// How many threads work at the search, 1 to 64; 4 where no number is given.
     pub workers: u32,
+    /// The seed of a run that simulates its workers in one thread, 0 to 18,446,744,073,709,551,615. A search
+    /// by prefixes has one, and no other run.
+    pub seed: Option<u64>,
     /// Whether the counted work of the run is told on the error output.
     pub stats: bool,
 }
@@ -104,6 +112,7 @@ fn given_engine(matches: &ArgMatches<'_>) -> Option<Engine>
 {
     match given_or(matches, "engine", "count") {
         "count" => Some(Engine::Count),
+        "dfs" => Some(Engine::Dfs),
         _ => None,
     }
 }
@@ -124,6 +133,44 @@ fn given_workers(matches: &ArgMatches<'_>) -> Option<u32>
     }
 }
 
+/// The seed that was given, or that none was. None where the value that was given is no seed.
+fn given_seed(matches: &ArgMatches<'_>) -> Option<Option<u64>>
+    ensures { MatchOption result
+        ((seed : Option ℕ) → GivesSeed (rows_of (found_of matches.now)) seed → ⊥)
+        (λ seed. GivesSeed (rows_of (found_of matches.now)) seed) }
+{
+    match given(matches, "simulate") {
+        Some(digits) => Some(Some(read_number(digits.as_bytes(), 0, MOST_SEED)?)),
+        None => Some(None),
+    }
+}
+
+/// Whether the engine runs with this seed, or with none.
+fn suits(engine: Engine, seed: Option<u64>) -> bool
+    ensures { IsTrue result ↔ Suits engine seed }
+{
+    match engine {
+        Engine::Count => seed.is_none(),
+        Engine::Dfs => seed.is_some(),
+    }
+}
+
+/// The engine of the run and its seed. None where the values that were given are none, or do not suit each
+/// other.
+fn given_mode(matches: &ArgMatches<'_>) -> Option<(Engine, Option<u64>)>
+    ensures { MatchOption result
+        ((engine : Engine) (seed : Option ℕ) → GivesMode (rows_of (found_of matches.now)) engine seed → ⊥)
+        (λ mode. GivesMode (rows_of (found_of matches.now)) mode.0 mode.1) }
+{
+    let engine = given_engine(matches)?;
+    let seed = given_seed(matches)?;
+    if suits(engine, seed) {
+        Some((engine, seed))
+    } else {
+        None
+    }
+}
+
 /// The command that the values say. None where they break a rule.
 fn said(alloc: Global, matches: &ArgMatches<'_>) -> Result<Option<Command>, NoMemory>
     requires { HasNeeded (rows_of (found_of matches.now)) }
@@ -136,8 +183,8 @@ fn said(alloc: Global, matches: &ArgMatches<'_>) -> Result<Option<Command>, NoMe
         Some(support) => support,
         None => return Ok(None),
     };
-    let engine = match given_engine(matches) {
-        Some(engine) => engine,
+    let (engine, seed) = match given_mode(matches) {
+        Some(mode) => mode,
         None => return Ok(None),
     };
     let workers = match given_workers(matches) {
@@ -156,6 +203,7 @@ fn said(alloc: Global, matches: &ArgMatches<'_>) -> Result<Option<Command>, NoMe
         weighted: is_given(matches, "weighted"),
         engine,
         workers,
+        seed,
         stats: is_given(matches, "stats"),
     }))
 }

@@ -1,8 +1,7 @@
 -- What workers are given and what they give back, one worker more.
-use Rattle.std.proofs.Common.{◌≡◌, ℕ, zero, suc, ◌+◌, ◌<◌, ◌≤◌, ◌⊎◌, inl, inr, List, [], ◌∷◌, ◌++◌, map, length, sum_by, Some, Result, Ok, slice_get, refl, sym, subst, ap, ◌∙◌, arith, length-append, get_or}
+use Rattle.std.proofs.Common.{◌≡◌, ℕ, ◌+◌, inl, inr, List, [], ◌∷◌, ◌++◌, length, sum_by, Some, Result, Ok, slice_get, sym, ap, ◌∙◌, arith, length-append}
 use Rattle.std.specs.declared.alloc.Global.{Global}
 use Rattle.std.specs.declared.vec.Vec.{Vec}
-use Rattle.std.proofs.lemmas.Option.{slice_get_within, same_Some}
 use Rattle.std.proofs.lemmas.List.Sums.{sum_by_push}
 use Rattle.mine_model.specs.declared.memory.NoMemory.{NoMemory}
 use Rattle.mine_model.proofs.ElementLemmas.{get-left, get_snoc, get_last}
@@ -10,7 +9,7 @@ use Rattle.mine_model.specs.Counted.{told_of}
 use Rattle.count_shards.specs.Shards.{ShardPass, PassLists}
 use Rattle.count_engine.specs.declared.hands.Hand.{Hand}
 use Rattle.count_engine.specs.declared.hands.Done.{Done}
-use Rattle.count_engine.specs.Shares.{AreHandsOf, AreListsOf, pairs_told}
+use Rattle.count_engine.specs.Hands.{AreHandsOf, AreListsOf, pairs_told}
 
 pub hands_more : (lists : PassLists) (hands : List Hand) (passes : Vec ShardPass Global) (worker : ℕ) → AreHandsOf lists hands → worker ≡ length hands
     → AreHandsOf (lists ++ passes ∷ []) (hands ++ (record { worker = worker; passes = passes }) ∷ [])

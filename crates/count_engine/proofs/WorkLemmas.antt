@@ -1,28 +1,30 @@
 -- What all workers together gave back.
-use Rattle.std.proofs.Common.{◌≡◌, ℕ, zero, suc, ◌+◌, ◌*◌, ◌%◌, ◌<◌, ◌≤◌, List, [], ◌∷◌, ◌++◌, map, length, take, drop, Option, Some, None, Result, Ok, Err, slice_get, get_or, refl, sym, subst, ap, ◌∙◌, arith, All, sum_by}
-use Rattle.std.specs.List.{flat_map, range_with_len, filter_map, cons_option}
+use Rattle.std.proofs.Common.{◌≡◌, ℕ, suc, ◌+◌, ◌%◌, ◌<◌, ◌≤◌, List, [], ◌∷◌, ◌++◌, map, length, Option, Some, Result, Ok, Err, IfOk, slice_get, get_or, refl, sym, subst, ap, ◌∙◌, arith, All, sum_by}
+use Rattle.std.specs.List.{flat_map, range_with_len, cons_option}
 use Rattle.std.specs.declared.alloc.Global.{Global}
 use Rattle.std.specs.declared.vec.Vec.{Vec}
 use Rattle.std.proofs.lemmas.List.{map-append}
 use Rattle.std.proofs.lemmas.List.Sums.{sum_by-append, sum_by-cons}
-use Rattle.std.proofs.lemmas.List.Elements.{All-head, All-tail}
-use Rattle.std.proofs.lemmas.Option.{slice_get-get_or, same_Some}
+use Rattle.std.proofs.lemmas.List.Elements.{All-contains}
+use Rattle.std.proofs.lemmas.Option.{slice_get-get_or, slice_get_within, get_or_from_slice_get}
 use Rattle.mine_model.specs.declared.item.Item.{Item}
 use Rattle.mine_model.specs.declared.memory.NoMemory.{NoMemory}
 use Rattle.mine_model.specs.Answer.{Data}
 use Rattle.mine_model.specs.Counted.{HasPairs, told_of, IsTold}
-use Rattle.mine_model.specs.Labels.{SameLabels}
 use Rattle.mine_model.specs.Support.{Sequence}
+use Rattle.mine_model.proofs.ElementLemmas.{get-some, get-held}
 use Rattle.fst_simulate.specs.Problems.{Problem, data_of}
 use Rattle.turn_lock.specs.Passes.{made, pass_count}
 use Rattle.count_shards.specs.declared.shards.Shards.{Shards}
-use Rattle.count_shards.specs.Blocks.{sequences_in, block_count, SumsBy}
+use Rattle.count_shards.specs.Blocks.{home_count, sequences_in, block_count, SumsBy}
 use Rattle.count_shards.specs.Shard.{entry_of}
 use Rattle.count_shards.specs.Shards.{Lock, ShardPass, PassLists, ArePassesOf, AreShardsOf, AreAllLists, column, AddedEachOnce}
+use Rattle.count_engine.specs.declared.hands.Hand.{Hand}
 use Rattle.count_engine.specs.declared.hands.Done.{Done}
-use Rattle.count_engine.specs.Shares.{share_of, HasBlockPairs, IsDone, AreListsOf, pairs_told}
+use Rattle.count_engine.specs.Shares.{share_of, HasBlockPairs}
+use Rattle.count_engine.specs.Hands.{AreHandsOf, IsDone, AreListsOf, pairs_told}
 use Rattle.count_shards.proofs.BlockSums.{sums_more, sums_reordered, sums_laid}
-use Rattle.count_engine.proofs.ShareLemmas.{all_shares_of, shares_are_all, share_with, sums-append, sums-flat, told-left, told-right}
+use Rattle.count_engine.proofs.ShareLemmas.{all_shares_of, shares_are_all, share_with, sums-flat}
 
 Results : Type 0
 Results = List (Result Done NoMemory)
@@ -35,37 +37,21 @@ AreDone problem shards workers from results =
 module _ (problem : Problem) (shards : Shards) (workers : ℕ) where
   -- ---- passes
 
-  column_made : (home from : ℕ) (lists : PassLists) → home < 16
-      → ((k : ℕ) (list : Vec ShardPass Global) → slice_get lists k ≡ Some list → (length list.items ≡ 16)
+  column_made : (home from : ℕ) (lists : PassLists) → home < home_count
+      → ((k : ℕ) (list : Vec ShardPass Global) → slice_get lists k ≡ Some list → (length list.items ≡ home_count)
       × All (λ pass. made pass ≡ map entry_of (share_of (from + k) workers (block_count problem))) list.items)
       → flat_map made (column home lists) ≡ flat_map (λ w. map entry_of (share_of w workers (block_count problem))) (range_with_len from (length lists))
   column_made home from [] within each = refl
   column_made home from (list ∷ lists) within each =
       let (long, all) = each 0 list refl in
       let below : home < length list.items = omega (arith, long, within) in
-      let pass : ShardPass = at list.items home below in
-      let there : slice_get list.items home ≡ Some pass = at_is list.items home below in
+      let (pass, there) = get-some list.items home below in
       let same : made pass ≡ map entry_of (share_of from workers (block_count problem)) =
-      subst (λ w. made pass ≡ map entry_of (share_of w workers (block_count problem))) (omega arith) (holds (λ p. made p ≡ map entry_of (share_of (from + 0) workers (block_count problem))) list.items home pass there all) in
+      subst (λ w. made pass ≡ map entry_of (share_of w workers (block_count problem))) (omega arith) (All-contains (λ p. made p ≡ map entry_of (share_of (from + 0) workers (block_count problem))) list.items pass all (get-held list.items home pass there)) in
       ap (λ (o : Option ShardPass). flat_map made (cons_option o (column home lists))) there
       ∙ (λ i. same i ++ column_made home (from + 1) lists within (λ k l got.
       let next = each (suc k) l got in
       (next.0, subst (λ w. All (λ pass. made pass ≡ map entry_of (share_of w workers (block_count problem))) l.items) (omega arith) next.1)) i)
-    where
-      at : (xs : List ShardPass) (k : ℕ) → k < length xs → ShardPass
-      at [] k h = absurd (omega (arith, h))
-      at (x ∷ xs) zero h = x
-      at (x ∷ xs) (suc k) h = at xs k (omega (arith, h))
-
-      at_is : (xs : List ShardPass) (k : ℕ) (h : k < length xs) → slice_get xs k ≡ Some (at xs k h)
-      at_is [] k h = absurd (omega (arith, h))
-      at_is (x ∷ xs) zero h = refl
-      at_is (x ∷ xs) (suc k) h = at_is xs k (omega (arith, h))
-
-      holds : (P : ShardPass → Type 0) (xs : List ShardPass) (k : ℕ) (x : ShardPass) → slice_get xs k ≡ Some x → All P xs → P x
-      holds P [] k x got all = absurd (cc)
-      holds P (y ∷ xs) zero x got all = subst P (same_Some y x got) (All-head P y xs all)
-      holds P (y ∷ xs) (suc k) x got all = holds P xs k x got (All-tail P y xs all)
 
   entries_flat : (ws : List ℕ) (weight : List ℕ → ℕ) → sum_by weight (flat_map (λ w. map entry_of (share_of w workers (block_count problem))) ws)
       ≡ sum_by weight (map entry_of (flat_map (λ w. share_of w workers (block_count problem)) ws))
@@ -104,6 +90,18 @@ module _ (problem : Problem) (shards : Shards) (workers : ℕ) where
       each = λ k d below. (done_at k (get_or lists k d) (slice_get-get_or lists k d below)).0;
       all = subst (λ (n : ℕ). All (λ (lock : Lock). pass_count lock ≡ n) shards.locks.items) (few ∙ sym (given.all ∙ all)) are.all;
     }
+
+  -- what each worker gave back, by its number
+  pub all_done : (lists : PassLists) (hands : List Hand) (results : List (Result Done NoMemory)) → length results ≡ length hands → AreHandsOf lists hands
+      → ((k : ℕ) (d : Result Done NoMemory) → k < length hands
+      → (hand : Hand) × (get_or hands k hand ≡ hand) × IfOk (get_or results k d) (IsDone problem shards workers hand.worker))
+      → AreDone problem shards workers 0 results
+  all_done lists hands results many handed each k done at =
+      let within : k < length hands = omega (arith, many, slice_get_within results k (Ok done) at) in
+      let (hand, is, does) = each k (Ok done) within in
+      let own : IsDone problem shards workers hand.worker done = subst (λ r. IfOk r (IsDone problem shards workers hand.worker)) (get_or_from_slice_get results k (Ok done) (Ok done) at) does in
+      let there : slice_get hands k ≡ Some hand = slice_get-get_or hands k hand within ∙ ap (λ (h : Hand). Some h) is in
+      subst (λ w. IsDone problem shards workers w done) ((handed.each k hand there).0 ∙ omega arith) own
 
   -- ---- pairs
 

@@ -1,18 +1,10 @@
--- The blocks of each worker, what it is given and what it gives back.
-use Rattle.std.specs.Prelude.{◌≡◌, ℕ, ◌%◌, ◌<◌, ◌==◌, List, [], ◌∷◌, filter, length, map, slice_get, Some, Result, Ok, Err, All}
+-- The blocks of each worker.
+use Rattle.std.specs.Prelude.{ℕ, ◌%◌, ◌==◌, List, filter, map}
 use Rattle.std.specs.List.{range_with_len}
-use Rattle.std.specs.declared.alloc.Global.{Global}
-use Rattle.std.specs.declared.vec.Vec.{Vec}
-use Rattle.mine_model.specs.declared.memory.NoMemory.{NoMemory}
-use Rattle.mine_model.specs.Counted.{HasPairs, IsTold}
+use Rattle.mine_model.specs.Counted.{HasPairs}
 use Rattle.fst_simulate.specs.Problems.{Problem, data_of}
-use Rattle.turn_lock.specs.Passes.{made}
-use Rattle.count_shards.specs.declared.shards.Shards.{Shards}
 use Rattle.count_shards.specs.Blocks.{sequences_in, block_count, SumsBy}
 use Rattle.count_shards.specs.Shard.{entry_of}
-use Rattle.count_shards.specs.Shards.{ShardPass, PassLists, ArePassesOf}
-use Rattle.count_engine.specs.declared.hands.Hand.{Hand}
-use Rattle.count_engine.specs.declared.hands.Done.{Done}
 
 -- the blocks of a worker, of so many, rising: divided by the number of workers, their numbers leave its own
 abbrev pub share_of : ℕ → ℕ → ℕ → List ℕ
@@ -26,33 +18,3 @@ made_by problem worker workers = map entry_of (share_of worker workers (block_co
 abbrev pub HasBlockPairs : Problem → List ℕ → ℕ → Type 0
 HasBlockPairs problem blocks n =
     SumsBy (λ block m. HasPairs (data_of problem) (sequences_in problem block) m) blocks n
-
--- a worker of so many begins with one pass of each shard, and they made nothing
-pub record IsHandOf (shards : Shards) (workers : ℕ) (hand : Hand) : Type 0 where
-  pub worker : hand.worker < workers
-  pub passes : ArePassesOf shards hand.passes.items
-  pub fresh : All (λ pass. made pass ≡ []) hand.passes.items
-
--- the worker gives its passes back, which added the blocks of its share in order, and the pairs of its share
-pub record IsDone (problem : Problem) (shards : Shards) (workers worker : ℕ) (done : Done) : Type 0 where
-  pub passes : ArePassesOf shards done.passes.items
-  pub made : All (λ pass. made pass ≡ made_by problem worker workers) done.passes.items
-  pub pairs : IsTold (HasBlockPairs problem (share_of worker workers (block_count problem))) done.pairs
-
--- what the proofs keep
-
--- each hand has its place as the number of its worker, and the list of passes at that place
-pub record AreHandsOf (lists : PassLists) (hands : List Hand) : Type 0 where
-  pub all : length hands ≡ length lists
-  pub each : (k : ℕ) (hand : Hand) → slice_get hands k ≡ Some hand
-      → (hand.worker ≡ k) × (slice_get lists k ≡ Some hand.passes)
-
--- each list of passes was given back, at its place
-pub record AreListsOf (results : List (Result Done NoMemory)) (lists : PassLists) : Type 0 where
-  pub all : length lists ≡ length results
-  pub each : (k : ℕ) (list : Vec ShardPass Global) → slice_get lists k ≡ Some list
-      → (done : Done) × (slice_get results k ≡ Some (Ok done)) × (done.passes ≡ list)
-
-abbrev pub pairs_told : Result Done NoMemory → ℕ
-pairs_told (Ok done) = done.pairs
-pairs_told (Err refused) = 0

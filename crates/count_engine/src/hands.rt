@@ -2,7 +2,7 @@
 
 ghost use Rattle.std.specs.Prelude.{◌≡◌, ℕ, ◌<◌, ◌^◌, length, slice_get, Some, Ok, IfOk, sum_by};
 ghost use Rattle.mine_model.specs.Counted.{told_of};
-ghost use Rattle.count_engine.specs.Shares.{AreHandsOf, AreListsOf, pairs_told};
+ghost use Rattle.count_engine.specs.Hands.{AreHandsOf, AreListsOf, pairs_told};
 
 use count_shards::Shard;
 use mine_model::NoMemory;

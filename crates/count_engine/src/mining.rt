@@ -3,9 +3,10 @@ ghost use Rattle.std.specs.List.{AllByRecursion};
 ghost use Rattle.mine_model.specs.declared.row.Row.{Row};
 ghost use Rattle.mine_model.specs.Numbered.{AreFrequent};
 ghost use Rattle.mine_model.specs.Counted.{IsCountingWork};
+ghost use Rattle.mine_model.specs.Limits.{most_workers};
 ghost use Rattle.fst_simulate.specs.Problems.{data_of};
 ghost use Rattle.count_shards.specs.Shards.{AreShardsOf};
-ghost use Rattle.count_engine.specs.Shares.{IsHandOf, IsDone};
+ghost use Rattle.count_engine.specs.Hands.{IsHandOf, IsDone};
 
 use super::hands::{Done, Hand, gathered, hands_of};
 use super::working::work;
@@ -55,6 +56,7 @@ pub fn mine<R: Threads + Wait + Sync, G: Gate>(
     gate: &G,
 ) -> Result<Mined, NoMemory>
     requires workers { 1 ≤ workers }
+    requires few { workers ≤ most_workers }
     ensures frequent { IfOk result (λ mined. AreFrequent (data_of job.now) mined.rows.items) }
     ensures items { IfOk result (λ mined. (row : Row) → Contains mined.rows.items row
         → AllByRecursion (λ t. t.0 < job.now.hierarchy.items) row.pattern) }

@@ -1,6 +1,7 @@
 ghost use Rattle.std.specs.Prelude.{◌≡◌, ◌+◌, ◌<◌, ◌≤◌, All, IfOk, IsTrue};
 ghost use Rattle.std.specs.List.{AllByRecursion};
 ghost use Rattle.mine_model.specs.Expression.{named_in, named_by, unfolded_leaves};
+ghost use Rattle.mine_model.specs.Limits.{most_workers};
 ghost use Rattle.mine_model.specs.Numbered.{tree_of, leaf_of};
 
 use super::mine;
@@ -180,6 +181,7 @@ fn find<R: Threads + Wait + Sync, G: Gate>(
 ) -> Result<Mined, Fail>
     requires support { 1 ≤ support }
     requires workers { 1 ≤ workers }
+    requires few { workers ≤ most_workers }
 {
     let (asked, lines, times) = of;
     let mut names = Names::new(alloc)?;
@@ -284,7 +286,7 @@ fn finds_the_frequent_patterns(rt: HostRuntime) -> Result<(), Fail> {
                 rt.alloc(),
                 of,
                 support.max(1),
-                workers.max(1),
+                workers.clamp(1, 64),
                 &OpenGate,
             )?;
             assert_eq!(rt; found.work, counted(pairs));

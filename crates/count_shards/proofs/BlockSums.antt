@@ -9,7 +9,7 @@ use Rattle.mine_model.specs.Support.{Sequence, Counts}
 use Rattle.mine_model.proofs.FrequencyLemmas.{Counts-append}
 use Rattle.mine_model.proofs.OnceLemmas.{one, one-same, one-cases}
 use Rattle.fst_simulate.specs.Problems.{Problem}
-use Rattle.count_shards.specs.Blocks.{sequences_in, block_count, HasCandidate, SumsBy, SumsTo}
+use Rattle.count_shards.specs.Blocks.{block_size, sequences_in, block_count, HasCandidate, SumsBy, SumsTo}
 use Rattle.count_shards.specs.Shard.{entry_of}
 
 past_end : {X : Type 0} (n : ℕ) (xs : List X) → length xs ≤ n → drop n xs ≡ []
@@ -75,15 +75,15 @@ module _ (Has : ℕ → ℕ → Type 0) where
 module _ (problem : Problem) (Of : List (Sequence Item) → ℕ → Type 0) (none : Of [] 0)
     (both : (xs ys : List (Sequence Item)) (n m : ℕ) → Of xs n → Of ys m → Of (xs ++ ys) (n + m)) where
   -- the sequences of one block after another, from this one on
-  laid : (count from n : ℕ) → length problem.sequences ≤ 256 * (from + count)
-      → SumsBy (λ block m. Of (sequences_in problem block) m) (range_with_len from count) n → Of (drop (256 * from) problem.sequences) n
-  laid zero from n all sums = rw (past_end (256 * from) problem.sequences (omega (arith, all))) (subst (Of []) (sym sums) none)
+  laid : (count from n : ℕ) → length problem.sequences ≤ block_size * (from + count)
+      → SumsBy (λ block m. Of (sequences_in problem block) m) (range_with_len from count) n → Of (drop (block_size * from) problem.sequences) n
+  laid zero from n all sums = rw (past_end (block_size * from) problem.sequences (omega (arith, all))) (subst (Of []) (sym sums) none)
   laid (suc count) from n all (m, k, here, rest, e) =
-      let behind : List (Sequence Item) = drop (256 * from) problem.sequences in
-      let next : drop (256 * (from + 1)) problem.sequences ≡ drop 256 behind = ap (λ (j : ℕ). drop j problem.sequences) (omega arith) ∙ sym (drop_drop (256 * from) 256 problem.sequences) in
-      let later : Of (drop 256 behind) k = rw next at (laid count (from + 1) k (omega (arith, all)) rest) in
-      let whole = both (take 256 behind) (drop 256 behind) m k here later in
-      rw e (subst (λ (xs : List (Sequence Item)). Of xs (m + k)) (take-append-drop 256 behind) whole)
+      let behind : List (Sequence Item) = drop (block_size * from) problem.sequences in
+      let next : drop (block_size * (from + 1)) problem.sequences ≡ drop block_size behind = ap (λ (j : ℕ). drop j problem.sequences) (omega arith) ∙ sym (drop_drop (block_size * from) block_size problem.sequences) in
+      let later : Of (drop block_size behind) k = rw next at (laid count (from + 1) k (omega (arith, all)) rest) in
+      let whole = both (take block_size behind) (drop block_size behind) m k here later in
+      rw e (subst (λ (xs : List (Sequence Item)). Of xs (m + k)) (take-append-drop block_size behind) whole)
 
   -- the sum over all blocks is what is counted of all sequences
   pub sums_laid : (n : ℕ) → SumsBy (λ block m. Of (sequences_in problem block) m) (range_with_len 0 (block_count problem)) n → Of problem.sequences n

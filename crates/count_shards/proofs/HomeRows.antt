@@ -1,12 +1,12 @@
 -- The rows of one shard, and the answer that the rows of all shards are.
-use Rattle.std.proofs.Common.{◌≡◌, ◌≢◌, ℕ, ◌+◌, ◌<◌, ◌≤◌, ◌↔◌, List, [], ◌∷◌, length, get_or, refl, sym, subst, ap, ◌∙◌, inl, inr, arith}
+use Rattle.std.proofs.Common.{◌≡◌, ◌≢◌, ℕ, ◌+◌, ◌<◌, ◌≤◌, ◌↔◌, List, [], length, get_or, refl, sym, subst, ap, ◌∙◌, inl, inr, arith}
 use Rattle.std.specs.List.{All, AllByRecursion, Contains}
 use Rattle.std.proofs.lemmas.Bool.{cases_eq}
 use Rattle.std.proofs.lemmas.List.Elements.{Contains-append_left, Contains-append_right, Contains-append_cases, Contains-get_or}
 use Rattle.mine_model.specs.declared.item.Item.{Item}
 use Rattle.mine_model.specs.declared.row.Row.{Row}
 use Rattle.mine_model.specs.Numbered.{tree_of, AreFrequent}
-use Rattle.mine_model.specs.Support.{Sequence, Counts, HasSupport}
+use Rattle.mine_model.specs.Support.{Counts, HasSupport}
 use Rattle.mine_model.specs.Candidates.{IsFrequentItem, IsCandidate}
 use Rattle.mine_model.specs.Ranks.{AreRanked}
 use Rattle.mine_model.proofs.RankedLemmas.{ranked-same, ranked-all, ranked-bounds, same_ranks}
@@ -16,9 +16,8 @@ use Rattle.mine_model.proofs.SupportLemmas.{Counts-unique, Counts-one}
 use Rattle.mine_model.proofs.FrequencyLemmas.{Counts-by, frequencies-known, support-by_candidates, HasFrequency-within}
 use Rattle.fst_simulate.specs.Problems.{Problem, IsWhole, data_of}
 use Rattle.pattern_counts.specs.Tally.{Tally, sum_of}
-use Rattle.count_shards.specs.Blocks.{home_of, HasCandidate}
-use Rattle.count_shards.specs.Rows.{IsCountedRow, AppendsRows}
-use Rattle.count_shards.specs.Shards.{IsRowOf, AppendsHome, AreRowsFrom}
+use Rattle.count_shards.specs.Blocks.{home_count, home_of, HasCandidate}
+use Rattle.count_shards.specs.Rows.{Appends, IsCountedRow, IsRowOf, AreRowsFrom}
 
 module _ (problem : Problem) (whole : IsWhole problem) where
   abbrev pub IsFrequentOf : Item → Type 0
@@ -68,7 +67,7 @@ module _ (problem : Problem) (whole : IsWhole problem) where
       enough = r.enough;
     }
 
-    pub rows_of_home : (old new : List Row) → AppendsRows tally problem.ranking.order problem.threshold old new → AppendsHome problem home old new
+    pub rows_of_home : (old new : List Row) → Appends (IsCountedRow tally problem.ranking.order problem.threshold) old new → Appends (IsRowOf problem home) old new
     rows_of_home old new appends = record {
       added = appends.added;
       is = appends.is;
@@ -81,7 +80,7 @@ module _ (problem : Problem) (whole : IsWhole problem) where
 
   -- ---- the rows of one shard behind those of others
 
-  pub rows_begin : AreRowsFrom problem 16 []
+  pub rows_begin : AreRowsFrom problem home_count []
   rows_begin = record {
     once = λ i j d before below. absurd (omega (arith, below));
     exact = λ row. ((λ h. absurd (Contains-none row h)), (λ r. absurd (omega (arith, r.1, r.2))));
@@ -94,7 +93,7 @@ module _ (problem : Problem) (whole : IsWhole problem) where
       let list : first.list ≡ second.list = same_ranks problem.ranking.order whole.ranks.once s.pattern first.list second.list ranked second.ranked in
       sym first.at ∙ ap home_of list ∙ second.at
 
-  pub rows_more : (home from : ℕ) (old new : List Row) → home < 16 → from ≡ home + 1 → AreRowsFrom problem from old → AppendsHome problem home old new → AreRowsFrom problem home new
+  pub rows_more : (home from : ℕ) (old new : List Row) → home < home_count → from ≡ home + 1 → AreRowsFrom problem from old → Appends (IsRowOf problem home) old new → AreRowsFrom problem home new
   rows_more home from old new within e rows appends = rw appends.is (record {
     once = AllPairs-append (λ (first second : Row). first.pattern ≢ second.pattern) old appends.added rows.once appends.once
         (λ r s before here same.
@@ -140,7 +139,7 @@ module _ (problem : Problem) (whole : IsWhole problem) where
           enough = r.enough;
         }
 
-    row_of_frequent : (row : Row) → IsFrequent (data_of problem) row.pattern row.support → (home : ℕ) × (0 ≤ home) × (home < 16) × IsRowOf problem home row
+    row_of_frequent : (row : Row) → IsFrequent (data_of problem) row.pattern row.support → (home : ℕ) × (0 ≤ home) × (home < home_count) × IsRowOf problem home row
     row_of_frequent row f =
         let candidates = (by_candidates row.pattern row.support f.enough).0 f.exact in
         let w = Counts-one (IsCandidateFrom row.pattern) problem.sequences row.support candidates (omega (arith, whole.least, f.enough)) in

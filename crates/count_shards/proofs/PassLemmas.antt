@@ -11,7 +11,7 @@ use Rattle.mine_model.proofs.ElementLemmas.{get-some}
 use Rattle.fst_simulate.specs.Problems.{Problem}
 use Rattle.turn_lock.specs.History.{Made}
 use Rattle.turn_lock.specs.Passes.{IsPassOf, AreAllPasses, number, made, pass_count}
-use Rattle.count_shards.specs.Blocks.{block_count}
+use Rattle.count_shards.specs.Blocks.{home_count, block_count}
 use Rattle.count_shards.specs.Shard.{entry_of, history_of, blocks_of}
 use Rattle.count_shards.specs.Shards.{Lock, ShardPass, PassLists, AreShardsOf, ArePassesOf, AreAllLists, AreNewLists, AddedEachOnce, column}
 use Rattle.count_shards.specs.Merging.{IsOpened, AreOpened, HasMerged}
@@ -69,7 +69,7 @@ module _ (problem : Problem) (workers homes : ℕ) (shards : Shards) (lists : Pa
       let one = opened.each home lock list there at in
       omega (arith, below, one.all.all, one.count)
 
-  pub opened_shards : homes ≡ 16 → AreShardsOf problem shards
+  pub opened_shards : homes ≡ home_count → AreShardsOf problem shards
   opened_shards e = record {
     all = opened.lock_count ∙ e;
     each = λ home lock at. (opened_at home lock at).2.ground;
@@ -185,7 +185,7 @@ module _ (shards : Shards) (lists : PassLists) (all : AreAllLists shards lists) 
       }
 
 -- a closed shard has each block once
-pub back_blocks : (problem : Problem) (lists : PassLists) (home : ℕ) (added : List (ℕ × ℕ)) → home < 16 → AddedEachOnce problem lists
+pub back_blocks : (problem : Problem) (lists : PassLists) (home : ℕ) (added : List (ℕ × ℕ)) → home < home_count → AddedEachOnce problem lists
     → ((weight : List ℕ → ℕ) → sum_by (λ (c : Made). weight c.1) (history_of added) ≡ sum_by (λ (pass : ShardPass). sum_by weight (made pass)) (column home lists))
     → SameLabels (map entry_of (blocks_of added)) (map entry_of (range_with_len 0 (block_count problem)))
 back_blocks problem lists home added within once counts weight =

@@ -8,7 +8,7 @@ use Rattle.mine_model.specs.Support.{Counts}
 use Rattle.fst_simulate.specs.Problems.{Problem}
 use Rattle.pattern_counts.specs.Tally.{Tally, sum_of, AddsAll}
 use Rattle.turn_lock.specs.History.{Made}
-use Rattle.count_shards.specs.Blocks.{Block, block_count, home_of, tally_of, AreCountsOf, HasCandidate, InBlock, SumsTo}
+use Rattle.count_shards.specs.Blocks.{home_count, Block, block_count, home_of, tally_of, AreCountsOf, HasCandidate, InBlock, SumsTo}
 use Rattle.count_shards.specs.Shard.{ShardSums, IsShard, entry_of, history_of, blocks_of}
 use Rattle.count_shards.proofs.BlockSums.{sums_more, sums_reordered, sums_all}
 
@@ -29,7 +29,7 @@ shard_more problem home number old new added next block is counts adds e =
     }
 
 -- nothing is added
-pub shard_begins : (problem : Problem) (home : ℕ) → home < 16 → IsShard (record { problem = problem; home = home; tally = record { lists = []; sums = [] }; added = [] })
+pub shard_begins : (problem : Problem) (home : ℕ) → home < home_count → IsShard (record { problem = problem; home = home; tally = record { lists = []; sums = [] }; added = [] })
 shard_begins problem home within = record {
   within = within;
   exact = λ ranks at. refl;

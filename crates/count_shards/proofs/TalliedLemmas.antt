@@ -13,7 +13,7 @@ use Rattle.mine_model.proofs.FrequencyLemmas.{Counts-append, Counts-most}
 use Rattle.fst_simulate.specs.Problems.{Problem}
 use Rattle.candidate_gen.specs.Candidates.{AreCandidateRanks}
 use Rattle.pattern_counts.specs.Tally.{Tally, no_lists, sum_of}
-use Rattle.count_shards.specs.Blocks.{home_of, sequences_in, HasCandidate, tally_of}
+use Rattle.count_shards.specs.Blocks.{block_size, home_of, sequences_in, HasCandidate, tally_of}
 use Rattle.count_shards.specs.Tallied.{sum_at, AddsEach, AreTallied}
 use Rattle.mine_model.proofs.OnceLemmas.{list_or_not}
 
@@ -36,20 +36,20 @@ between_more sequences first n from below =
     ap (λ i. take i (drop first sequences)) k ∙ take_more (drop first sequences) (n - first) none within
     ∙ ap (λ s. sequences_between sequences first n ++ s ∷ []) (get_or-drop first sequences (n - first) none ∙ ap (λ i. get_or sequences i none) back)
 
--- a block ends with its 256th sequence, or with the last of all
-pub between_block : (problem : Problem) (block first end : ℕ) → first ≡ 256 * block → first ≤ length problem.sequences → end ≡ min (length problem.sequences) (first + 256)
+-- a block ends with as many sequences as it has room for, or with the last of all
+pub between_block : (problem : Problem) (block first end : ℕ) → first ≡ block_size * block → first ≤ length problem.sequences → end ≡ min (length problem.sequences) (first + block_size)
     → sequences_between problem.sequences first end ≡ sequences_in problem block
 between_block problem block first end is within ends =
     let xs = problem.sequences in
-    let here : take 256 (drop first xs) ≡ sequences_in problem block = ap (λ f. take 256 (drop f xs)) is in
-    elim (cases_lt (length xs) (first + 256)) [
+    let here : take block_size (drop first xs) ≡ sequences_in problem block = ap (λ f. take block_size (drop f xs)) is in
+    elim (cases_lt (length xs) (first + block_size)) [
       | inl short ↦
           let last : end ≡ length xs = grind (arith, ends, short) in
           let rest : length (drop first xs) + first ≡ length xs = length_between xs first within in
-          take_all (end - first) (drop first xs) (omega (arith, last, rest)) ∙ sym (take_all 256 (drop first xs) (omega (arith, short, rest))) ∙ here
+          take_all (end - first) (drop first xs) (omega (arith, last, rest)) ∙ sym (take_all block_size (drop first xs) (omega (arith, short, rest))) ∙ here
       | inr long ↦
-          let last : end ≡ first + 256 = grind (arith, ends, long) in
-          let count : end - first ≡ 256 = omega (arith, last) in
+          let last : end ≡ first + block_size = grind (arith, ends, long) in
+          let count : end - first ≡ block_size = omega (arith, last) in
           ap (λ i. take i (drop first xs)) count ∙ here
     ]
 
@@ -95,13 +95,13 @@ light sequences limits first last =
     All-take Light (last - first) (drop first sequences) (All-drop Light first sequences (All-weaker IsWithinLimits Light (λ s is. is.most) sequences limits))
 
 -- no sum of a block is greater than that of its greatest weights
-pub tallied_most : (problem : Problem) (first last : ℕ) (tallies : List Tally) → All IsWithinLimits problem.sequences → last ≤ first + 256 → last ≤ length problem.sequences
-    → AreTallied problem (sequences_between problem.sequences first last) tallies → (home : ℕ) (list : List ℕ) → sum_of (tally_of tallies home) list ≤ 256 * most_weight
+pub tallied_most : (problem : Problem) (first last : ℕ) (tallies : List Tally) → All IsWithinLimits problem.sequences → last ≤ first + block_size → last ≤ length problem.sequences
+    → AreTallied problem (sequences_between problem.sequences first last) tallies → (home : ℕ) (list : List ℕ) → sum_of (tally_of tallies home) list ≤ block_size * most_weight
 tallied_most problem first last tallies limits few within tallied home list = elim (cases_eq (home_of list) home) [
   | inl same ↦
       let done = sequences_between problem.sequences first last in
       let bound : sum_at tallies list ≤ length done * most_weight = Counts-most (HasCandidate problem list) most_weight done (sum_at tallies list) (light problem.sequences limits first last) (tallied.exact list) in
-      let short : length done ≤ 256 = omega (arith, length-take (last - first) (drop first problem.sequences), min-le_left (last - first) (length (drop first problem.sequences)), few) in
+      let short : length done ≤ block_size = omega (arith, length-take (last - first) (drop first problem.sequences), min-le_left (last - first) (length (drop first problem.sequences)), few) in
       let here : sum_at tallies list ≡ sum_of (tally_of tallies home) list = ap (λ h. sum_of (tally_of tallies h) list) same in
       grind arith
   | inr apart ↦ omega (arith, tallied.homes home list apart)

@@ -6,6 +6,7 @@ use Rattle.std.proofs.lemmas.List.Sums.{sum_by-append, sum_by-cons}
 use Rattle.std.proofs.lemmas.Option.{same_Some, slice_get_within, get_or_from_slice_get}
 use Rattle.mine_model.proofs.ElementLemmas.{get-some}
 use Rattle.turn_lock.specs.Passes.{made}
+use Rattle.count_shards.specs.Blocks.{home_count}
 use Rattle.count_shards.specs.Shard.{entry_of}
 use Rattle.count_shards.specs.Shards.{ShardPass, PassLists, ArePassesOf, AreAllLists, AreNewLists, column}
 use Rattle.count_shards.specs.declared.shards.Shards.{Shards}
@@ -84,7 +85,7 @@ module _ (shards : Shards) (lists : PassLists) (worker : ℕ) (old new : PassLis
     all = λ k d below. all.all k d below ∙ sym (length-set lists worker new);
   }
 
-  pub turn_added : length shards.locks.items ≡ 16 → map made new.items ≡ map (λ (pass : ShardPass). made pass ++ entry_of block ∷ []) old.items → (home : ℕ) (weight : List ℕ → ℕ) → home < 16
+  pub turn_added : length shards.locks.items ≡ home_count → map made new.items ≡ map (λ (pass : ShardPass). made pass ++ entry_of block ∷ []) old.items → (home : ℕ) (weight : List ℕ → ℕ) → home < home_count
       → added_at weight home (set lists worker new) ≡ added_at weight home lists + weight (entry_of block)
   turn_added whole e home weight within =
       let before : ArePassesOf shards old.items = subst (λ (l : PassList). ArePassesOf shards l.items) (get_or_from_slice_get lists worker old old at) (all.each worker old (slice_get_within lists worker old at)) in

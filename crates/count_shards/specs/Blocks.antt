@@ -70,7 +70,10 @@ pub record AreCountsOf (problem : Problem) (number : ℕ) (block : Block) : Type
   pub same : block.problem ≡ problem
   pub at : block.number ≡ number
   pub all : length block.tallies ≡ home_count
-  pub exact : (ranks : List ℕ) → InBlock problem number ranks (sum_of (tally_of block.tallies (home_of ranks)) ranks)
-  pub homes : (home : ℕ) (ranks : List ℕ) → home_of ranks ≢ home → sum_of (tally_of block.tallies home) ranks ≡ 0
-  pub most : (home : ℕ) (ranks : List ℕ) → sum_of (tally_of block.tallies home) ranks ≤ block_size * most_weight
+  pub exact : (ranks : List ℕ)
+      → InBlock problem number ranks (sum_of (tally_of block.tallies (home_of ranks)) ranks)
+  pub homes : (home : ℕ) (ranks : List ℕ) → home_of ranks ≢ home
+      → sum_of (tally_of block.tallies home) ranks ≡ 0
+  pub most : (home : ℕ) (ranks : List ℕ)
+      → sum_of (tally_of block.tallies home) ranks ≤ block_size * most_weight
   pub pairs : IsTold (HasPairs (data_of problem) (sequences_in problem number)) block.pairs

@@ -1,18 +1,14 @@
--- What a clause says of the shards, of their passes, and of the rows of one shard.
-use Rattle.std.specs.Prelude.{◌≡◌, ◌≢◌, ℕ, ◌≤◌, ◌<◌, ◌↔◌, List, [], ◌++◌, length, map, slice_get, Some, All, AllPairs, Contains}
+-- What a clause says of the shards and of their passes.
+use Rattle.std.specs.Prelude.{◌≡◌, ℕ, ◌<◌, List, [], length, map, slice_get, Some, All}
 use Rattle.std.specs.List.{filter_map, flat_map, range_with_len}
 use Rattle.std.specs.declared.alloc.Global.{Global}
 use Rattle.std.specs.declared.vec.Vec.{Vec}
-use Rattle.mine_model.specs.declared.row.Row.{Row}
 use Rattle.mine_model.specs.Labels.{SameLabels}
-use Rattle.mine_model.specs.Numbered.{PatternsDiffer}
-use Rattle.mine_model.specs.Ranks.{AreRanked}
-use Rattle.mine_model.specs.Support.{Counts}
 use Rattle.fst_simulate.specs.Problems.{Problem}
 use Rattle.turn_lock.specs.Passes.{IsPassOf, number, made, opened_with, pass_count}
 use Rattle.turn_lock.specs.declared.lock.Pass.{Pass}
 use Rattle.turn_lock.specs.declared.lock.TurnLock.{TurnLock}
-use Rattle.count_shards.specs.Blocks.{block_count, home_count, home_of, HasCandidate}
+use Rattle.count_shards.specs.Blocks.{block_count, home_count}
 use Rattle.count_shards.specs.Shard.{ShardSums, entry_of}
 use Rattle.count_shards.specs.declared.shards.Shards.{Shards}
 
@@ -61,25 +57,3 @@ column place lists = filter_map (λ list. slice_get list.items place) lists
 abbrev pub AddedEachOnce : Problem → PassLists → Type 0
 AddedEachOnce problem lists = (home : ℕ) → home < home_count
     → SameLabels (flat_map made (column home lists)) (map entry_of (range_with_len 0 (block_count problem)))
-
--- ---- the rows of one shard
-
--- the row is a pattern whose ranks have this home, with its count, which reaches the threshold
-pub record IsRowOf (problem : Problem) (home : ℕ) (row : Row) : Type 0 where
-  pub list : List ℕ
-  pub at : home_of list ≡ home
-  pub ranked : AreRanked problem.ranking.order row.pattern list
-  pub counted : Counts (HasCandidate problem list) problem.sequences row.support
-  pub enough : problem.threshold ≤ row.support
-
--- the rows of the home stand behind those of before, each once
-pub record AppendsHome (problem : Problem) (home : ℕ) (old new : List Row) : Type 0 where
-  pub added : List Row
-  pub is : new ≡ old ++ added
-  pub once : PatternsDiffer added
-  pub exact : (row : Row) → Contains added row ↔ IsRowOf problem home row
-
--- the rows of all homes from this one on, each once
-pub record AreRowsFrom (problem : Problem) (home : ℕ) (rows : List Row) : Type 0 where
-  pub once : PatternsDiffer rows
-  pub exact : (row : Row) → Contains rows row ↔ ((at : ℕ) × (home ≤ at) × (at < home_count) × IsRowOf problem at row)

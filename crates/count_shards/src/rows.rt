@@ -1,6 +1,6 @@
 ghost use Rattle.std.specs.Prelude.{◌≡◌, ◌≢◌, ℕ, ◌≤◌, List, length, All, AllPairs, OnOk};
 ghost use Rattle.pattern_counts.specs.Tally.{sum_of};
-ghost use Rattle.count_shards.specs.Rows.{AppendsRows};
+ghost use Rattle.count_shards.specs.Rows.{Appends, IsCountedRow};
 
 use frequency_list::pattern_of;
 use mine_model::{NoMemory, Ranks, Row};
@@ -19,7 +19,8 @@ pub(crate) fn append_rows(
     requires different { AllPairs (λ v w. v ≢ w) ranks.now.order }
     requires ranked { (list : List ℕ) → 1 ≤ sum_of counts.now list
         → All (λ rank. (1 ≤ rank) × (rank ≤ length ranks.now.order)) list }
-    ensures { OnOk result (AppendsRows counts.now ranks.now.order support rows.old.items rows.new.items) }
+    ensures { OnOk result (Appends (IsCountedRow counts.now ranks.now.order support)
+        rows.old.items rows.new.items) }
 {
     for number in 0..counts.len() {
         let sum = counts.sum(number);

@@ -4,7 +4,7 @@ ghost use Rattle.mine_model.specs.Labels.{SameLabels};
 ghost use Rattle.pattern_counts.specs.Tally.{no_lists};
 ghost use Rattle.count_shards.specs.Blocks.{block_count, home_count, AreCountsOf};
 ghost use Rattle.count_shards.specs.Shard.{entry_of, history_of, blocks_of};
-ghost use Rattle.count_shards.specs.Shards.{AppendsHome};
+ghost use Rattle.count_shards.specs.Rows.{Appends, IsRowOf};
 
 use super::block::BlockCounts;
 use super::rows::append_rows;
@@ -102,7 +102,7 @@ impl Shard {
         requires job { self.now.problem ≡ job.now }
         requires all { SameLabels (map entry_of (blocks_of self.now.added))
             (map entry_of (range_with_len 0 (block_count job.now))) }
-        ensures { OnOk result (AppendsHome job.now self.now.home rows.old.items rows.new.items) }
+        ensures { OnOk result (Appends (IsRowOf job.now self.now.home) rows.old.items rows.new.items) }
     {
         append_rows(alloc, &self.counts, job.ranks(), job.support(), rows)
     }

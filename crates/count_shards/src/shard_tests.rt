@@ -1,8 +1,9 @@
 //! Blocks that workers merge in turns.
 ghost use Rattle.std.specs.Prelude.{◌≡◌, ℕ, ◌+◌, ◌<◌, ◌≤◌, length, sum_by, IfOk, OnOk, List};
 ghost use Rattle.std.specs.List.{flat_map};
+ghost use Rattle.mine_model.specs.Limits.{most_workers};
 ghost use Rattle.turn_lock.specs.Passes.{made};
-ghost use Rattle.count_shards.specs.Blocks.{AreCountsOf};
+ghost use Rattle.count_shards.specs.Blocks.{home_count, AreCountsOf};
 ghost use Rattle.count_shards.specs.Shard.{entry_of};
 ghost use Rattle.count_shards.specs.Shards.{AreShardsOf, AreAllLists, column};
 
@@ -26,7 +27,8 @@ fn mined_in_turns<R: Wait>(
     job: &Job,
     workers: u32,
 ) -> Result<Vec<Row>, NoMemory>
-    requires { 1 ≤ workers }
+    requires workers { 1 ≤ workers }
+    requires few { workers ≤ most_workers }
 {
     let (shards, mut lists) = Shards::new(alloc, job, workers)?;
     let blocks = (job.db().sequences() + 255) / 256;
@@ -51,7 +53,7 @@ fn merge_as<R: Wait>(
     requires counts { AreCountsOf counts.now.problem counts.now.number counts.now }
     ensures count { length lists.new.items ≡ length lists.old.items }
     ensures lists { OnOk result (AreAllLists shards.now lists.new.items) }
-    ensures added { OnOk result ((home : ℕ) (weight : List ℕ → ℕ) → home < 16
+    ensures added { OnOk result ((home : ℕ) (weight : List ℕ → ℕ) → home < home_count
         → sum_by weight (flat_map made (column home lists.new.items))
         ≡ sum_by weight (flat_map made (column home lists.old.items)) + weight (entry_of counts.now.number)) }
 {
@@ -69,6 +71,7 @@ fn rows<R: Threads + Wait + Sync>(
 ) -> Result<Vec<Row>, Fail>
     requires support { 1 ≤ support }
     requires workers { 1 ≤ workers }
+    requires few { workers ≤ most_workers }
 {
     let mut names = Names::new(alloc)?;
     for word in &WORDS {
@@ -107,7 +110,7 @@ fn adds_up_what_workers_merge(rt: HostRuntime) -> Result<(), Fail> {
         (2, 0, 1, &[]),
     ];
     for (workers, times, support, want) in table {
-        let found = rows(&rt, rt.alloc(), times, support.max(1), workers.max(1))?;
+        let found = rows(&rt, rt.alloc(), times, support.max(1), workers.clamp(1, 64))?;
         assert_eq!(rt; found.len(), want.len());
         for (support, pattern) in want {
             let held = found.iter().any(|row| {

@@ -1,6 +1,7 @@
 ghost use Rattle.std.specs.Prelude.{◌≡◌, ℕ, ◌<◌, ◌≤◌, List, [], ◌∷◌, ◌++◌, length, map, slice_get, Some, All, IfOk, OnOk, Contains};
 ghost use Rattle.std.specs.List.{AllByRecursion};
 ghost use Rattle.mine_model.specs.declared.row.Row.{Row as TheRow};
+ghost use Rattle.mine_model.specs.Limits.{most_workers};
 ghost use Rattle.mine_model.specs.Numbered.{AreFrequent};
 ghost use Rattle.fst_simulate.specs.Problems.{data_of};
 ghost use Rattle.turn_lock.specs.Passes.{made};
@@ -24,7 +25,7 @@ pub struct Shards {
 
 impl Shards {
     ghost use Rattle.count_shards.specs.Shards.{AreShardsOf, ArePassesOf, AreAllLists, AreNewLists};
-    ghost use Rattle.count_shards.specs.Shards.{AddedEachOnce, AreRowsFrom};
+    ghost use Rattle.count_shards.specs.Shards.{AddedEachOnce};
     ghost use Rattle.count_shards.specs.Merging.{AreOpened, HasMerged};
 
     /// Shards of nothing, and the passes of so many workers, a list of sixteen for each.
@@ -33,7 +34,8 @@ impl Shards {
         job: &Job,
         workers: u32,
     ) -> Result<(Shards, Vec<Vec<Pass<Shard>>>), NoMemory>
-        requires { 1 ≤ workers }
+        requires workers { 1 ≤ workers }
+        requires few { workers ≤ most_workers }
         ensures shards { IfOk result (λ r. AreShardsOf job.now r.0) }
         ensures workers { IfOk result (λ r. length r.1.items ≡ workers) }
         ensures all { IfOk result (λ r. AreAllLists r.0 r.1.items) }
@@ -50,8 +52,7 @@ impl Shards {
         Ok((Shards { locks }, passes))
     }
 
-    /// Adds the counts of a block to each shard, with the passes of one worker. After want of memory some of
-    /// the shards have them.
+    /// Adds the counts of a block to each shard, with the passes of one worker.
     pub fn merge(
         &self,
         rt: &impl Wait,

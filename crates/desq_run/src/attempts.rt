@@ -4,6 +4,7 @@ ghost use Rattle.std.specs.Prelude.{◌≡◌, ◌≢◌, ◌≤◌, ◌<◌, �
 ghost use Rattle.text_ports.specs.Faults.{Rose};
 ghost use Rattle.mine_model.specs.declared.fault.Fault.TheVariants.{Read, Write};
 ghost use Rattle.mine_model.specs.declared.fault.Which.{Which};
+ghost use Rattle.mine_model.specs.Limits.{most_workers};
 ghost use Rattle.mine_model.specs.Names.{HasName, named_row};
 ghost use Rattle.mine_model.specs.AnswerText.{text_of};
 ghost use Rattle.command_line.specs.Words.{IsCommand, NamesFile, IsNamed};
@@ -45,6 +46,7 @@ fn mine_files<R: Threads + Wait + Sync, F: Files, G: Gate>(
         → IsTrue (F.may files.old file) }
     requires support { 1 ≤ command.now.support }
     requires workers { 1 ≤ command.now.workers }
+    requires few { command.now.workers ≤ most_workers }
     ensures mined { (words : List (List ℕ)) → IsCommand words (command_said command.now)
         → IfOk result
         (λ mined. IsMined words (F.holds files.old) (command_said command.now)

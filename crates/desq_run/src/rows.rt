@@ -4,7 +4,7 @@ ghost use Rattle.std.specs.Prelude.{◌≡◌, ◌⊎◌, ◌≤◌, ◌<◌, �
 ghost use Rattle.std.specs.List.{AllByRecursion};
 ghost use Rattle.mine_model.specs.declared.fault.Fault.{Fault};
 ghost use Rattle.mine_model.specs.declared.fault.Fault.TheVariants.{NoMemory as OutOfMemory};
-ghost use Rattle.mine_model.specs.Limits.{most_leaves};
+ghost use Rattle.mine_model.specs.Limits.{most_leaves, most_workers};
 ghost use Rattle.mine_model.specs.Expression.{named_in, unfolded_leaves};
 ghost use Rattle.mine_model.specs.declared.row.Row.{Row as TheRow};
 ghost use Rattle.mine_model.specs.Numbered.{tree_of, AreFrequent};
@@ -24,6 +24,7 @@ use item_names::Names;
 use mine_model::{Db, Expr, Fault, Gate, Hierarchy, Mined, NoMemory};
 use patex_parser::{Parsed, parse, resolve};
 use pattern_writer::order;
+use search_engine::simulate;
 use std::alloc::Global;
 use std::sync::Wait;
 use std::thread::Threads;
@@ -47,6 +48,7 @@ fn mined_by<R: Threads + Wait + Sync, G: Gate>(
     gate: &G,
 ) -> Result<Mined, NoMemory>
     requires workers { 1 ≤ command.now.workers }
+    requires few { command.now.workers ≤ most_workers }
     ensures frequent { IfOk result (λ mined. AreFrequent (data_of job.now) mined.rows.items) }
     ensures items { IfOk result (λ mined. (row : TheRow) → Contains mined.rows.items row
         → AllByRecursion (λ t. t.0 < job.now.hierarchy.items) row.pattern) }
@@ -54,6 +56,14 @@ fn mined_by<R: Threads + Wait + Sync, G: Gate>(
 {
     match command.engine {
         Engine::Count => mine(rt, alloc, job, command.workers, gate),
+        // The words give a seed with this engine. The answer is the same for each.
+        Engine::Dfs => simulate(
+            alloc,
+            job,
+            false,
+            command.workers,
+            command.seed.unwrap_or(0),
+        ),
     }
 }
 
@@ -71,6 +81,7 @@ fn ordered_rows<R: Threads + Wait + Sync, G: Gate>(
 ) -> Result<Mined, NoMemory>
     requires support { 1 ≤ command.now.support }
     requires workers { 1 ≤ command.now.workers }
+    requires few { command.now.workers ≤ most_workers }
     requires items { hierarchy.items ≡ length names.now }
     requires sequences { AllByRecursion (λ s. AllByRecursion (HasName names.now) s.items) db }
     requires named { AllByRecursion (HasName names.now) (named_in (tree_of expression.now)) }
@@ -106,6 +117,7 @@ pub(crate) fn rows_of<R: Threads + Wait + Sync, G: Gate>(
 ) -> Result<Mined, Fault>
     requires support { 1 ≤ command.now.support }
     requires workers { 1 ≤ command.now.workers }
+    requires few { command.now.workers ≤ most_workers }
     requires items { hierarchy.items ≡ length names.now }
     requires sequences { AllByRecursion (λ s. AllByRecursion (HasName names.now) s.items) db }
     requires within { AreWithin (length (map use_view parsed.now.uses.items))

@@ -1,12 +1,12 @@
 -- What an item may do, found out state by state.
-use Rattle.std.proofs.Common.{◌≡◌, ◌≢◌, ℕ, zero, suc, ◌+◌, ◌-◌, ◌<◌, ◌≤◌, ◌⊎◌, ◌↔◌, inl, inr, Bool, true, false, ◌||◌, not, rules, List, [], ◌∷◌, ◌++◌, map, take, length, get_or, arith, refl, sym, ap, ◌∙◌, subst, Some, append_assoc, set, get_or-set_same, get_or-set_other}
+use Rattle.std.proofs.Common.{◌≡◌, ◌≢◌, ℕ, zero, suc, ◌+◌, ◌-◌, ◌<◌, ◌≤◌, ◌⊎◌, ◌↔◌, inl, inr, Bool, true, false, not, rules, List, [], ◌∷◌, ◌++◌, map, take, length, get_or, arith, refl, sym, ap, ◌∙◌, subst, Some, append_assoc, set, get_or-set_same, get_or-set_other}
 use Rattle.std.specs.Bool.{IsTrue, ◌==◌}
 use Rattle.std.specs.List.{All, AllPairs, AllByRecursion, Contains, slice_get, slice_index, slice_range}
 use Rattle.std.proofs.Math.ListN.{length-set}
 use Rattle.std.proofs.Math.Seq.{get_or-append_seam}
-use Rattle.std.proofs.lemmas.List.{get_or_append_left, append-nil, length-append, take_more, take_all}
+use Rattle.std.proofs.lemmas.List.{get_or_append_left, append-nil, length-append, length-take, get_or-take, get_or_default, take_more, take_all}
 use Rattle.std.proofs.lemmas.List.Elements.{All-from_recursion, Contains-get_or, Contains-append_cases, Contains-append_left, Contains-append_right}
-use Rattle.std.proofs.lemmas.Option.{slice_get_within, get_or_from_slice_get, slice_get_read, slice_get-get_or, same_Some}
+use Rattle.std.proofs.lemmas.Option.{slice_get_within, get_or_from_slice_get, slice_get-get_or, same_Some}
 use Rattle.std.proofs.lemmas.Bool.{cases_lt, cases_eq}
 use Rattle.mine_model.specs.declared.item.Item.{Item}
 use Rattle.mine_model.specs.declared.expression.Leaf.{Leaf as ItemLeaf}
@@ -14,7 +14,8 @@ use Rattle.mine_model.specs.Expression.{Tree, leaf, cat, alt, rep, cap, named_by
 use Rattle.mine_model.specs.Numbered.{leaf_of, tree_of}
 use Rattle.mine_model.specs.Generation.{Matches, MayWrite, WritesAt}
 use Rattle.mine_model.specs.Ranks.{HasRank}
-use Rattle.mine_model.proofs.ListLemmas.{Contains-cases, Contains-first, Contains-none, Contains-by, front_of_both, back_of_both, slice_range-append}
+use Rattle.mine_model.specs.Ancestry.{AreRising}
+use Rattle.mine_model.proofs.ListLemmas.{AllPairs-append, Contains-cases, Contains-first, Contains-none, Contains-by, front_of_both, back_of_both, slice_range-append}
 use Rattle.mine_model.proofs.AncestryLemmas.{Item-same, slice_range-behind}
 use Rattle.mine_model.proofs.ElementLemmas.{get-left}
 use Rattle.fst_compile.specs.declared.edge.Label.{Label}
@@ -26,8 +27,8 @@ use Rattle.fst_simulate.specs.declared.kinds.Kind.{Kind}
 use Rattle.fst_simulate.specs.declared.kinds.Kinds.{Kinds}
 use Rattle.fst_simulate.specs.Problems.{Problem, IsWhole}
 use Rattle.fst_simulate.specs.Grids.{Reads, WritesRank}
-use Rattle.fst_simulate.specs.Tables.{ClassSets, IsClassOf, unknown}
-use Rattle.fst_simulate.specs.Kinds.{IsNeededRank, Goes, Needs, IsClassFor, IsCell, IsRow, AreEntered, Extends, IsKind, HasKind, AreKinds, KindsGrow}
+use Rattle.fst_simulate.specs.Tables.{ClassSets, IsClassOf, LeadsInto, unknown}
+use Rattle.fst_simulate.specs.Kinds.{IsNeededRank, Writes, Goes, Needs, IsTarget, IsClassFor, IsCell, IsRow, AreEntered, Extends, IsKind, HasKind, AreKinds, KindsGrow}
 
 -- ---- ranks
 
@@ -51,6 +52,7 @@ rank_unique order v a b once first second =
 -- the item with a rank, where it has another one
 pub record ArePushedSoFar (order : List Item) (top : ℕ) (items : List Item) (found : List ℕ) (index : ℕ) : Type 0 where
   pub exact : (rank : ℕ) → Contains found rank ↔ ((v : Item) × Contains (take index items) v × HasRank order v rank × (rank ≤ top))
+  pub once : AllPairs (λ one other. one ≢ other) found
 
 pub ArePushedSoFar-none : (order : List Item) (top : ℕ) (items : List Item) (found : List ℕ) → found ≡ [] → ArePushedSoFar order top items found 0
 ArePushedSoFar-none order top items found none = record {
@@ -58,6 +60,7 @@ ArePushedSoFar-none order top items found none = record {
     (λ held. absurd (Contains-none rank (subst (λ (xs : List ℕ). Contains xs rank) none held))),
     (λ h. let (v, inside, _, _) = h in absurd (Contains-none v inside)),
   );
+  once = rw none (λ i j d less within. absurd (omega arith));
 }
 
 module _ (order : List Item) (top : ℕ) (items : List Item) (found : List ℕ) (index : ℕ) (item : Item) (so_far : ArePushedSoFar order top items found index)
@@ -86,10 +89,29 @@ module _ (order : List Item) (top : ℕ) (items : List Item) (found : List ℕ) 
         | inr same ↦ absurd (not_here rank (subst (λ (x : Item). HasRank order x rank) same has) low)
       ]),
     );
+    once = so_far.once;
   }
 
-  pub ArePushedSoFar-push : AllPairs (λ v w. v ≢ w) order → (rank : ℕ) → HasRank order item rank → rank ≤ top → ArePushedSoFar order top items (found ++ rank ∷ []) (index + 1)
-  ArePushedSoFar-push once rank has low = record {
+  -- an item that came before stands at another place, so it has another rank
+  other_rank : AreRising items → (rank : ℕ) → HasRank order item rank → (r : ℕ) → Contains found r → r ≢ rank
+  other_rank rising rank has r held same =
+      let (v, (k, below, at_k), has', low) = (so_far.exact r).0 held in
+      let both : Some v ≡ Some item = sym has'.place ∙ ap (λ (n : ℕ). slice_get order (n - 1)) same ∙ has.place in
+      let one : v ≡ item = same_Some v item both in
+      let short : k < index = omega (arith, below, length-take index items) in
+      let here : get_or items k v ≡ v = sym (get_or-take index items k v short) ∙ at_k in
+      let there : get_or items index v ≡ item = get_or_default items index v item inside ∙ is in
+      let less : (get_or items k v).0 < (get_or items index v).0 = rising k index v short inside in
+      let numbers : (get_or items k v).0 ≡ (get_or items index v).0 = ap (λ (x : Item). x.0) (here ∙ one ∙ sym there) in
+      omega arith
+
+  pub ArePushedSoFar-push : AllPairs (λ v w. v ≢ w) order → AreRising items → (rank : ℕ) → HasRank order item rank → rank ≤ top → ArePushedSoFar order top items (found ++ rank ∷ []) (index + 1)
+  ArePushedSoFar-push once rising rank has low = record {
+    once = AllPairs-append (λ one other. one ≢ other) found (rank ∷ []) so_far.once (λ i j d less within. absurd (omega arith))
+        (λ r last held of_last. elim (Contains-cases rank [] last of_last) [
+          | inl same ↦ (λ equal. other_rank rising rank has r held (equal ∙ same))
+          | inr none ↦ absurd (Contains-none last none)
+        ]);
     exact = λ r. (
       (λ held. elim (Contains-append_cases found (rank ∷ []) r held) [
         | inl old ↦ let (v, before, has', low') = (so_far.exact r).0 old in (v, earlier v before, has', low')
@@ -113,10 +135,6 @@ ArePushedSoFar-all order top items found index so_far over =
     subst (λ (xs : List Item). (rank : ℕ) → Contains found rank ↔ ((v : Item) × Contains xs v × HasRank order v rank × (rank ≤ top))) (take_all index items over) so_far.exact
 
 -- ---- conditions
-
-pub or_cases : (a b : Bool) → IsTrue (a || b) ↔ (IsTrue a ⊎ IsTrue b)
-or_cases true b = ((λ t. inl refl), (λ h. refl))
-or_cases false b = ((λ t. inr t), (λ h. elim h [ inl t ↦ absurd (search rules) | inr t ↦ t ]))
 
 -- a list has an element where it is not empty
 pub some_element : (xs : List ℕ) → (IsTrue (not (length xs == 0))) ↔ ((x : ℕ) × Contains xs x × Unit {0})
@@ -244,6 +262,7 @@ module _ (problem : Problem) (bound : Bound) (t : Item) (base : ℕ) where
         forward = rw (end, start) cell.forward;
         within = rw end (omega (arith, length-append ranks others, within));
         outputs = rw (end, start, range) cell.outputs;
+        once = rw (end, start, range) cell.once;
       }
 
   pub IsRow-none : (ends : List ℕ) (ranks : List ℕ) (end : ℕ) → base ≡ length ends → end ≡ length ranks → IsRow problem bound t base (ends ++ end ∷ []) ranks 1
@@ -255,8 +274,9 @@ module _ (problem : Problem) (bound : Bound) (t : Item) (base : ℕ) where
   }
 
   pub IsRow-more : (ends ranks found : List ℕ) (end k : ℕ) → 1 ≤ k → IsRow problem bound t base ends ranks k → end ≡ length (ranks ++ found)
-      → ((rank : ℕ) → Contains found rank ↔ WritesRank problem bound t k rank) → IsRow problem bound t base (ends ++ end ∷ []) (ranks ++ found) (k + 1)
-  IsRow-more ends ranks found end k some row is are =
+      → ((rank : ℕ) → Contains found rank ↔ WritesRank problem bound t k rank) → AllPairs (λ one other. one ≢ other) found
+      → IsRow problem bound t base (ends ++ end ∷ []) (ranks ++ found) (k + 1)
+  IsRow-more ends ranks found end k some row is are once =
       let long = row.long in
       let at_end : get_or (ends ++ end ∷ []) (base + k) 0 ≡ end = (let place : base + k ≡ length ends = omega arith in rw place (get_or-append_seam ends end [] 0)) in
       let before : get_or (ends ++ end ∷ []) (base + k - 1) 0 ≡ length ranks = get_or_append_left ends (end ∷ []) 0 (base + k - 1) (omega arith) ∙ row.last in
@@ -269,6 +289,7 @@ module _ (problem : Problem) (bound : Bound) (t : Item) (base : ℕ) where
             forward = omega (arith, at_end, before, is, length-append ranks found);
             within = omega (arith, at_end, is);
             outputs = rw (at_end, before, is, slice_range-behind ranks found (length (ranks ++ found)) (length-append ranks found)) are;
+            once = rw (at_end, before, is, slice_range-behind ranks found (length (ranks ++ found)) (length-append ranks found)) once;
           })
           | inr other ↦ IsCell-grow ends (end ∷ []) ranks found j least (omega arith) (row.cells j least (omega arith))
         ];
@@ -295,19 +316,12 @@ entered_more P before after k holds some so_far step here j = (
   ]),
 )
 
--- a condition of two
-pub goes_holds : (problem : Problem) (bound : Bound) (t : Item) (k : ℕ) (silent any : Bool) (found : List ℕ) → IsTrue silent ↔ Reads problem t k []
+pub writes_holds : (problem : Problem) (bound : Bound) (t : Item) (k : ℕ) (any : Bool) (found : List ℕ)
     → ((rank : ℕ) → Contains found rank ↔ WritesRank problem bound t k rank) → IsTrue any ↔ ((rank : ℕ) × Contains found rank × Unit {0})
-    → IsTrue (silent || any) ↔ Goes problem bound t k
-goes_holds problem bound t k silent any found reads writes some = (
-  (λ either. elim ((or_cases silent any).0 either) [
-    | inl s ↦ inl (reads.0 s)
-    | inr a ↦ let (rank, held, _) = some.0 a in inr (rank, (writes rank).0 held)
-  ]),
-  (λ goes. elim goes [
-    | inl s ↦ (or_cases silent any).1 (inl (reads.1 s))
-    | inr (rank, w) ↦ (or_cases silent any).1 (inr (some.1 (rank, (writes rank).1 w, tt)))
-  ]),
+    → IsTrue any ↔ Writes problem bound t k
+writes_holds problem bound t k any found writes some = (
+  (λ a. let (rank, held, _) = some.0 a in (rank, (writes rank).0 held)),
+  (λ (rank, w). some.1 (rank, (writes rank).1 w, tt)),
 )
 
 pub needs_holds : (problem : Problem) (bound : Bound) (t : Item) (k : ℕ) (needed : Bool) (found : List ℕ)
@@ -356,22 +370,29 @@ pub AreKinds-none : (problem : Problem) (bound : Bound) (classes : List ClassSet
 AreKinds-none problem bound classes kinds all none = record { all = all; right = λ t inside some. absurd (some (none t.0 inside)) }
 
 -- the class of an item whose states were found
-pub IsClassFor-of : (problem : Problem) (bound : Bound) (t : Item) (class : ClassSets) (silent goes needs : List ℕ) → IsClassOf class silent goes needs
-    → AreEntered problem bound t (length problem.machine.labels + 1) silent goes needs → IsClassFor problem bound t class
-IsClassFor-of problem bound t class silent goes needs are entered = record {
+pub IsClassFor-of : (problem : Problem) (bound : Bound) (t : Item) (class : ClassSets) (silent writes needs : List ℕ) → IsClassOf class silent writes needs
+    → AreEntered problem bound t (length problem.machine.labels + 1) silent writes needs → IsClassFor problem bound t class
+IsClassFor-of problem bound t class silent writes needs are entered = record {
   silent = λ k target. (
     (λ has. let (_, _, is) = (entered.silent_are k).0 ((are.silent_is k).0 has) in is),
     (λ is. (are.silent_is k).1 ((entered.silent_are k).1 (target.0, (let high = target.1 in omega arith), is))),
   );
-  goes = λ k target. (
-    (λ has. let (_, _, is) = (entered.goes_are k).0 ((are.goes_is k).0 has) in is),
-    (λ is. (are.goes_is k).1 ((entered.goes_are k).1 (target.0, (let high = target.1 in omega arith), is))),
+  writes = λ k target. (
+    (λ has. let (_, _, is) = (entered.writes_are k).0 ((are.writes_is k).0 has) in is),
+    (λ is. (are.writes_is k).1 ((entered.writes_are k).1 (target.0, (let high = target.1 in omega arith), is))),
   );
   needs = λ k target. (
     (λ has. let (_, _, is) = (entered.needs_are k).0 ((are.needs_is k).0 has) in is),
     (λ is. (are.needs_is k).1 ((entered.needs_are k).1 (target.0, (let high = target.1 in omega arith), is))),
   );
 }
+
+-- the states that an item of the class leads into
+pub LeadsInto-of : (problem : Problem) (bound : Bound) (t : Item) (class : ClassSets) (k : ℕ) → IsClassFor problem bound t class → IsTarget problem k → LeadsInto class k ↔ Goes problem bound t k
+LeadsInto-of problem bound t class k is target = (
+  (λ into. elim into [ inl silent ↦ inl ((is.silent k target).0 silent) | inr writes ↦ inr ((is.writes k target).0 writes) ]),
+  (λ goes. elim goes [ inl reads ↦ inl ((is.silent k target).1 reads) | inr writes ↦ inr ((is.writes k target).1 writes) ]),
+)
 
 pub entered_below : (P : ℕ → Type 0) (list : List ℕ) (count states : ℕ) → ((k : ℕ) → Contains list k ↔ ((1 ≤ k) × (k < count) × P k)) → count ≡ states → All (λ k. k < states) list
 entered_below P list count states are same = All-from_contains list states (λ k held. let (_, below, _) = (are k).0 held in omega arith)

@@ -15,7 +15,7 @@ use Rattle.fst_simulate.specs.Tables.{ClassSets, TripleSets, TableValue, Grows, 
 use Rattle.fst_simulate.specs.Kinds.{IsClassFor, HasKind, KindsGrow, Extends}
 use Rattle.fst_simulate.specs.Places.{IsTripleOf, HasTriple, IsTableOf, IsPlaceAt, ArePlaces}
 use Rattle.mine_model.proofs.ElementLemmas.{get-left, stands_last}
-use Rattle.fst_simulate.proofs.KindLemmas.{HasKind-grow}
+use Rattle.fst_simulate.proofs.KindLemmas.{HasKind-grow, LeadsInto-of}
 use Rattle.fst_simulate.proofs.PathLemmas.{target-of, ends-step, seen-step, unseen-step}
 
 -- the triple of the end
@@ -45,14 +45,14 @@ pub IsTripleOf-step : (problem : Problem) → IsWhole problem → (bound : Bound
 IsTripleOf-step problem whole bound table is_table t rest class after before is_class is_after step = record {
   seen = λ q state. (
     (λ has.
-        let (k, precedes, goes, then') = (step.seen q).0 has in
+        let (k, precedes, into, then') = (step.seen q).0 has in
         let leads = (is_table.edges q k state).0 precedes in
         let target = target-of problem whole q k leads in
-        (seen-step problem whole bound t rest q).1 (k, leads, (is_class.goes k target).0 goes, (is_after.seen k target.1).0 then')),
+        (seen-step problem whole bound t rest q).1 (k, leads, (LeadsInto-of problem bound t class k is_class target).0 into, (is_after.seen k target.1).0 then')),
     (λ completes.
         let (k, leads, goes, then') = (seen-step problem whole bound t rest q).0 completes in
         let target = target-of problem whole q k leads in
-        (step.seen q).1 (k, (is_table.edges q k state).1 leads, (is_class.goes k target).1 goes, (is_after.seen k target.1).1 then')),
+        (step.seen q).1 (k, (is_table.edges q k state).1 leads, (LeadsInto-of problem bound t class k is_class target).1 goes, (is_after.seen k target.1).1 then')),
   );
   unseen = λ q state. (
     (λ has.
@@ -63,7 +63,7 @@ IsTripleOf-step problem whole bound table is_table t rest class after before is_
           k,
           leads,
           elim either [
-            | inl (goes, then') ↦ inl ((is_class.goes k target).0 goes, (is_after.unseen k target.1).0 then')
+            | inl (into, then') ↦ inl ((LeadsInto-of problem bound t class k is_class target).0 into, (is_after.unseen k target.1).0 then')
             | inr (needs, then') ↦ inr ((is_class.needs k target).0 needs, (is_after.seen k target.1).0 then')
           ],
         )),
@@ -74,7 +74,7 @@ IsTripleOf-step problem whole bound table is_table t rest class after before is_
           k,
           (is_table.edges q k state).1 leads,
           elim either [
-            | inl (goes, then') ↦ inl ((is_class.goes k target).1 goes, (is_after.unseen k target.1).1 then')
+            | inl (goes, then') ↦ inl ((LeadsInto-of problem bound t class k is_class target).1 goes, (is_after.unseen k target.1).1 then')
             | inr (needs, then') ↦ inr ((is_class.needs k target).1 needs, (is_after.seen k target.1).1 then')
           ],
         )),

@@ -1,18 +1,17 @@
 -- Sets of states, and the states before others, while loops make them.
-use Rattle.std.proofs.Common.{◌≡◌, ℕ, ◌+◌, ◌<◌, ◌≤◌, ◌⊎◌, ◌↔◌, inl, inr, List, [], ◌∷◌, ◌++◌, length, set, get_or, arith, refl, sym, ap, ◌∙◌, subst, append_assoc, get_or-set_other, get_or-set_same}
+use Rattle.std.proofs.Common.{◌≡◌, ℕ, ◌+◌, ◌<◌, ◌≤◌, ◌⊎◌, ◌↔◌, inl, inr, List, length, set, get_or, arith, refl, sym, ap, ◌∙◌, subst, get_or-set_other, get_or-set_same}
 use Rattle.std.specs.List.{Contains, All}
 use Rattle.std.proofs.Math.ListN.{length-set}
-use Rattle.std.proofs.lemmas.List.{get_or_default, append-nil}
-use Rattle.std.proofs.lemmas.List.Elements.{Contains-get_or, Contains-append_cases, Contains-append_left, Contains-append_right}
+use Rattle.std.proofs.lemmas.List.{get_or_default}
+use Rattle.std.proofs.lemmas.List.Elements.{Contains-get_or}
 use Rattle.std.proofs.lemmas.Bool.{cases_eq}
-use Rattle.mine_model.proofs.ListLemmas.{Contains-cases, Contains-first, Contains-none}
 use Rattle.state_bits.specs.Members.{Has}
 use Rattle.fst_compile.specs.declared.edge.Edge.{Edge}
 use Rattle.fst_compile.specs.Rows.{HasEdge, Adds}
 use Rattle.fst_compile.specs.declared.edge.Label.{Label}
 use Rattle.fst_compile.specs.Transducer.{Transducer, Enters, Leads, edges_from}
 use Rattle.fst_compile.proofs.RowLemmas.{Has-none}
-use Rattle.fst_simulate.specs.Tables.{Precedes, LeadTo, AreSources}
+use Rattle.fst_simulate.specs.Tables.{Precedes, LeadTo}
 
 pub Precedes-none : (sets : List ℕ) → ((k : ℕ) → get_or sets k 0 ≡ 0) → (q k : ℕ) → Precedes sets q k → ⊥
 Precedes-none sets none q k has = Has-none q (subst (λ (x : ℕ). Has x q) (none k) has)
@@ -78,50 +77,6 @@ IsAddedSoFar-all before after edges q index so_far over = record {
   );
 }
 
--- ---- the sources of the first so many states of a set
-
-pub record AreSourcesSoFar (predecessors : List ℕ) (all found : ℕ) (done left : List ℕ) : Type 0 where
-  pub exact : (q : ℕ) → Has found q ↔ ((k : ℕ) × Precedes predecessors q k × Contains done k)
-  pub members : (k : ℕ) → Contains (done ++ left) k ↔ Has all k
-
-pub AreSourcesSoFar-none : (predecessors : List ℕ) (members : ℕ) (left : List ℕ) → ((k : ℕ) → Contains left k ↔ Has members k) → AreSourcesSoFar predecessors members 0 [] left
-AreSourcesSoFar-none predecessors members left are = record {
-  exact = λ q. ((λ has. absurd (Has-none q has)), (λ h. let (k, before, in_none) = h in absurd (Contains-none k in_none)));
-  members = are;
-}
-
-pub AreSourcesSoFar-more : (predecessors : List ℕ) (members found after : ℕ) (done left later : List ℕ) (state row : ℕ) → AreSourcesSoFar predecessors members found done left
-    → left ≡ state ∷ later → row ≡ get_or predecessors state 0 → ((q : ℕ) → Has after q ↔ (Has found q ⊎ Has row q))
-    → AreSourcesSoFar predecessors members after (done ++ state ∷ []) later
-AreSourcesSoFar-more predecessors members found after done left later state row so_far next is step =
-    let same : done ++ left ≡ (done ++ state ∷ []) ++ later = rw next (sym (append_assoc done (state ∷ []) later)) in
-    record {
-      exact = λ q. (
-        (λ has. elim ((step q).0 has) [
-          | inl had ↦ let (k, before, inside) = (so_far.exact q).0 had in (k, before, Contains-append_left done (state ∷ []) k inside)
-          | inr new ↦ (state, subst (λ (x : ℕ). Has x q) is new, Contains-append_right done (state ∷ []) state (Contains-first state []))
-        ]),
-        (λ h. let (k, before, inside) = h in elim (Contains-append_cases done (state ∷ []) k inside) [
-          | inl earlier ↦ (step q).1 (inl ((so_far.exact q).1 (k, before, earlier)))
-          | inr last ↦ elim (Contains-cases state [] k last) [
-            | inl this ↦ (step q).1 (inr (subst (λ (x : ℕ). Has x q) (sym is) (subst (λ (x : ℕ). Precedes predecessors q x) this before)))
-            | inr none ↦ absurd (Contains-none k none)
-          ]
-        ]),
-      );
-      members = subst (λ (xs : List ℕ). (k : ℕ) → Contains xs k ↔ Has members k) same so_far.members;
-    }
-
-pub AreSourcesSoFar-all : (predecessors : List ℕ) (members found : ℕ) (done left : List ℕ) → AreSourcesSoFar predecessors members found done left → left ≡ []
-    → AreSources predecessors members found
-AreSourcesSoFar-all predecessors members found done left so_far none =
-    let same : done ++ left ≡ done = rw none (append-nil done) in
-    let are : (k : ℕ) → Contains done k ↔ Has members k = subst (λ (xs : List ℕ). (k : ℕ) → Contains xs k ↔ Has members k) same so_far.members in
-    λ q. (
-      (λ has. let (k, before, inside) = (so_far.exact q).0 has in (k, before, (are k).0 inside)),
-      (λ h. let (k, before, member) = h in (so_far.exact q).1 (k, before, (are k).1 member)),
-    )
-
 -- ---- members that a loop over all states adds
 
 pub record IsTakenSoFar (members all : ℕ) (index : ℕ) : Type 0 where
@@ -155,12 +110,6 @@ IsTakenSoFar-take before after all index so_far here step = record {
     ]),
   );
 }
-
--- the next state of a walk is a member
-pub next_source : {predecessors : List ℕ} {all found : ℕ} {done left : List ℕ} (state : ℕ) (later : List ℕ) → AreSourcesSoFar predecessors all found done left
-    → left ≡ state ∷ later → Has all state
-next_source {done = done} {left = left} state later so_far next =
-    (so_far.members state).0 (Contains-append_right done left state (rw next (Contains-first state later)))
 
 -- ---- the states before each state, from the edges of the first so many states
 

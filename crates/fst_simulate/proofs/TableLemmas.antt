@@ -11,9 +11,8 @@ use Rattle.mine_model.proofs.ListLemmas.{Contains-cases, Contains-none}
 use Rattle.mine_model.proofs.ElementLemmas.{get-left}
 use Rattle.std.specs.Int.{bit_at}
 use Rattle.std.proofs.lemmas.Nat.Bits.{bit_at_cat_low, bit_at_cat_high}
-use Rattle.state_bits.specs.Members.{Has, words_of}
+use Rattle.state_bits.specs.Members.{Has, HasBit, words_of}
 use Rattle.fst_compile.proofs.RowLemmas.{Has-none}
-use Rattle.fst_simulate.specs.Grids.{HasBit}
 use Rattle.fst_simulate.specs.declared.table.Class.{Class}
 use Rattle.fst_simulate.specs.declared.table.Triple.{Triple}
 use Rattle.fst_simulate.specs.Tables.{ClassSets, TripleSets, TableValue, class_sets, triple_sets, IsClassOf, Grows, IsLast, IsStepAt, AreBelow, AddsTo, IsTable, row, unknown}
@@ -107,7 +106,7 @@ abbrev pub triple_eq : {W : ℕ} → Triple W → Triple W → Bool
 triple_eq a b = a.seen == b.seen && (a.unseen == b.unseen && a.ends == b.ends)
 
 abbrev pub class_eq : {W : ℕ} → Class W → Class W → Bool
-class_eq a b = a.silent == b.silent && (a.goes == b.goes && a.needs == b.needs)
+class_eq a b = a.silent == b.silent && (a.writes == b.writes && a.needs == b.needs)
 
 pub same_triple : {W : ℕ} (a b : Triple W) → triple_eq a b ≡ true → triple_sets a ≡ triple_sets b
 same_triple a b same =
@@ -123,18 +122,18 @@ same_class a b same =
     let first = and_parts _ _ same in
     let second = and_parts _ _ first.1 in
     let silent : a.silent ≡ b.silent = eqb-true _ _ first.0 in
-    let goes : a.goes ≡ b.goes = eqb-true _ _ second.0 in
+    let writes : a.writes ≡ b.writes = eqb-true _ _ second.0 in
     let needs : a.needs ≡ b.needs = eqb-true _ _ second.1 in
-    rw (silent, goes, needs)
+    rw (silent, writes, needs)
 
 pub All-wider : (xs : List ℕ) (n m : ℕ) → All (λ k. k < n) xs → n ≤ m → All (λ k. k < m) xs
 All-wider xs n m all wide k d inside = let below : get_or xs k d < n = all k d inside in omega arith
 
-pub AreBelow-of : (states : ℕ) (class : ClassSets) (silent goes needs : List ℕ) → IsClassOf class silent goes needs
-    → All (λ k. k < states) silent → All (λ k. k < states) goes → All (λ k. k < states) needs → AreBelow states class
-AreBelow-of states class silent goes needs are all_silent all_goes all_needs = record {
+pub AreBelow-of : (states : ℕ) (class : ClassSets) (silent writes needs : List ℕ) → IsClassOf class silent writes needs
+    → All (λ k. k < states) silent → All (λ k. k < states) writes → All (λ k. k < states) needs → AreBelow states class
+AreBelow-of states class silent writes needs are all_silent all_writes all_needs = record {
   silent = λ k has. All-contains (λ k. k < states) silent k all_silent ((are.silent_is k).0 has);
-  goes = λ k has. All-contains (λ k. k < states) goes k all_goes ((are.goes_is k).0 has);
+  writes = λ k has. All-contains (λ k. k < states) writes k all_writes ((are.writes_is k).0 has);
   needs = λ k has. All-contains (λ k. k < states) needs k all_needs ((are.needs_is k).0 has);
 }
 

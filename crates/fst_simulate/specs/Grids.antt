@@ -1,6 +1,5 @@
 -- What can still come of a place in a sequence and a state. The bounds are from the article on pivots.
-use Rattle.std.specs.Prelude.{◌≡◌, ℕ, ◌-◌, ◌/◌, ◌%◌, ◌≤◌, Bool, ◌⊎◌, IsTrue, List, [], ◌∷◌, Contains, Option, Some, None, slice_get, slice_index, drop}
-use Rattle.std.specs.Int.{bit_at}
+use Rattle.std.specs.Prelude.{◌≡◌, ℕ, ◌-◌, ◌≤◌, Bool, ◌⊎◌, IsTrue, List, [], ◌∷◌, Contains, Option, Some, None, slice_get, slice_index, drop}
 use Rattle.std.specs.List.{AllByRecursion}
 use Rattle.mine_model.specs.declared.item.Item.{Item}
 use Rattle.mine_model.specs.Numbered.{leaf_of}
@@ -61,7 +60,3 @@ items_at grids index = items_of grids.problem (slice_index grids.sequences index
 -- what of them is still to be read at the position
 abbrev pub rest_at : GridList → ℕ → ℕ → List Item
 rest_at grids index position = drop position (items_at grids index)
-
--- the words, the lowest states first, have the state's bit
-abbrev pub HasBit : List ℕ → ℕ → Type 0
-HasBit words state = bit_at (slice_index words (state / 64)) (state % 64) ≡ 1

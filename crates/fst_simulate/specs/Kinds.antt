@@ -1,5 +1,5 @@
 -- What items may do under a bound, as it is kept once an item was met.
-use Rattle.std.specs.Prelude.{◌≡◌, ◌≢◌, ℕ, ◌+◌, ◌-◌, ◌≤◌, ◌<◌, ◌⊎◌, ◌↔◌, List, [], ◌++◌, length, slice_index, slice_get, slice_range, Some, None, Option, Contains}
+use Rattle.std.specs.Prelude.{◌≡◌, ◌≢◌, ℕ, ◌+◌, ◌-◌, ◌≤◌, ◌<◌, ◌⊎◌, ◌↔◌, List, [], ◌++◌, length, slice_index, slice_get, slice_range, Some, None, Option, AllPairs, Contains}
 use Rattle.mine_model.specs.declared.item.Item.{Item}
 use Rattle.state_bits.specs.Members.{Has}
 use Rattle.fst_simulate.specs.declared.bound.Bound.{Bound}
@@ -14,9 +14,13 @@ abbrev pub IsNeededRank : Option ℕ → ℕ → Type 0
 IsNeededRank None rank = Unit {0}
 IsNeededRank (Some need) rank = rank ≡ need
 
+-- an edge into the state may read t and write something that is allowed
+abbrev pub Writes : Problem → Bound → Item → ℕ → Type 0
+Writes problem bound t k = (rank : ℕ) × WritesRank problem bound t k rank
+
 -- an edge into the state reads t and writes nothing, or something that is allowed
 abbrev pub Goes : Problem → Bound → Item → ℕ → Type 0
-Goes problem bound t k = Reads problem t k [] ⊎ ((rank : ℕ) × WritesRank problem bound t k rank)
+Goes problem bound t k = Reads problem t k [] ⊎ Writes problem bound t k
 
 -- an edge into the state may read t and write what is needed
 abbrev pub Needs : Problem → Bound → Item → ℕ → Type 0
@@ -29,10 +33,11 @@ IsTarget problem k = (1 ≤ k) × (k ≤ length problem.machine.labels)
 -- the class of the item
 pub record IsClassFor (problem : Problem) (bound : Bound) (t : Item) (class : ClassSets) : Type 0 where
   pub silent : (k : ℕ) → IsTarget problem k → Has class.silent k ↔ Reads problem t k []
-  pub goes : (k : ℕ) → IsTarget problem k → Has class.goes k ↔ Goes problem bound t k
+  pub writes : (k : ℕ) → IsTarget problem k → Has class.writes k ↔ Writes problem bound t k
   pub needs : (k : ℕ) → IsTarget problem k → Has class.needs k ↔ Needs problem bound t k
 
--- the ranks between the ends of the state before and of this one are those that edges into it may write at t
+-- the ranks between the ends of the state before and of this one are those that edges into it may write at t,
+-- each once
 pub record IsCell (problem : Problem) (bound : Bound) (t : Item) (base : ℕ) (ends ranks : List ℕ) (k : ℕ)
     : Type 0 where
   pub forward : slice_index ends (base + k - 1) ≤ slice_index ends (base + k)
@@ -40,6 +45,8 @@ pub record IsCell (problem : Problem) (bound : Bound) (t : Item) (base : ℕ) (e
   pub outputs : (rank : ℕ)
       → Contains (slice_range ranks (slice_index ends (base + k - 1)) (slice_index ends (base + k))) rank
       ↔ WritesRank problem bound t k rank
+  pub once : AllPairs (λ one other. one ≢ other)
+      (slice_range ranks (slice_index ends (base + k - 1)) (slice_index ends (base + k)))
 
 -- the same of the states below the count, and nothing stands behind them
 pub record IsRow (problem : Problem) (bound : Bound) (t : Item) (base : ℕ) (ends ranks : List ℕ) (count : ℕ)
@@ -50,10 +57,10 @@ pub record IsRow (problem : Problem) (bound : Bound) (t : Item) (base : ℕ) (en
   pub cells : (k : ℕ) → 1 ≤ k → k < count → IsCell problem bound t base ends ranks k
 
 -- the lists have the states below the count into which the item leads
-pub record AreEntered (problem : Problem) (bound : Bound) (t : Item) (count : ℕ) (silent goes needs : List ℕ)
+pub record AreEntered (problem : Problem) (bound : Bound) (t : Item) (count : ℕ) (silent writes needs : List ℕ)
     : Type 0 where
   pub silent_are : (k : ℕ) → Contains silent k ↔ ((1 ≤ k) × (k < count) × Reads problem t k [])
-  pub goes_are : (k : ℕ) → Contains goes k ↔ ((1 ≤ k) × (k < count) × Goes problem bound t k)
+  pub writes_are : (k : ℕ) → Contains writes k ↔ ((1 ≤ k) × (k < count) × Writes problem bound t k)
   pub needs_are : (k : ℕ) → Contains needs k ↔ ((1 ≤ k) × (k < count) × Needs problem bound t k)
 
 -- the list stays or grows at its end

@@ -1,5 +1,5 @@
 -- Parts of a problem: the sequences that have a pattern under one bound. From the article on pivots.
-use Rattle.std.specs.Prelude.{◌≡◌, ℕ, ◌<◌, ◌≤◌, ◌↔◌, Option, Some, None, IfSome, List, [], length, AllPairs, Contains}
+use Rattle.std.specs.Prelude.{ℕ, ◌<◌, ◌≤◌, ◌↔◌, Option, Some, None, IfSome, [], length, AllPairs, Contains}
 use Rattle.mine_model.specs.Growth.{HasPatternBehind}
 use Rattle.mine_model.specs.SearchTree.{IsWithinPivot}
 use Rattle.fst_simulate.specs.declared.part_seed.PartSeed.{PartSeed}

@@ -6,11 +6,11 @@ use Rattle.fst_compile.specs.Rows.{IsSetOf}
 use Rattle.fst_simulate.specs.declared.table.Class.{Class}
 use Rattle.fst_simulate.specs.declared.table.Triple.{Triple}
 
--- the states whose edges match an item and write nothing; those whose edges match it and write nothing or
--- something that is allowed; those whose edges may write what is needed
+-- the states whose edges match an item and write nothing; those whose edges may write something that is
+-- allowed; those whose edges may write what is needed
 pub record ClassSets : Type 0 where
   pub silent : ℕ
-  pub goes : ℕ
+  pub writes : ℕ
   pub needs : ℕ
 
 -- the states that complete where what is needed was seen, those that complete where it was not, those that
@@ -22,7 +22,7 @@ pub record TripleSets : Type 0 where
 
 -- the same, whatever the width of the sets
 abbrev pub class_sets : {W : ℕ} → Class W → ClassSets
-class_sets class = record { silent = class.silent; goes = class.goes; needs = class.needs }
+class_sets class = record { silent = class.silent; writes = class.writes; needs = class.needs }
 
 abbrev pub triple_sets : {W : ℕ} → Triple W → TripleSets
 triple_sets triple = record { seen = triple.seen; unseen = triple.unseen; ends = triple.ends }
@@ -35,19 +35,19 @@ Precedes predecessors q k = Has (slice_index predecessors k) q
 abbrev pub LeadTo : List Edge → ℕ → Type 0
 LeadTo edges k = (edge : Edge) × Contains edges edge × (edge.to.0 ≡ k)
 
+-- an item of the class leads into the state
+abbrev pub LeadsInto : ClassSets → ℕ → Type 0
+LeadsInto class k = Has class.silent k ⊎ Has class.writes k
+
 -- the triple before an item of the class and the triple after it
 pub record IsStep (predecessors : List ℕ) (class : ClassSets) (after before : TripleSets) : Type 0 where
   pub seen : (q : ℕ) → Has before.seen q
-      ↔ ((k : ℕ) × Precedes predecessors q k × Has class.goes k × Has after.seen k)
+      ↔ ((k : ℕ) × Precedes predecessors q k × LeadsInto class k × Has after.seen k)
   pub unseen : (q : ℕ) → Has before.unseen q
       ↔ ((k : ℕ) × Precedes predecessors q k
-      × ((Has class.goes k × Has after.unseen k) ⊎ (Has class.needs k × Has after.seen k)))
+      × ((LeadsInto class k × Has after.unseen k) ⊎ (Has class.needs k × Has after.seen k)))
   pub ends : (q : ℕ) → Has before.ends q
       ↔ ((k : ℕ) × Precedes predecessors q k × Has class.silent k × Has after.ends k)
-
--- the sources of a set of states
-abbrev pub AreSources : List ℕ → ℕ → ℕ → Type 0
-AreSources predecessors set found = (q : ℕ) → Has found q ↔ ((k : ℕ) × Precedes predecessors q k × Has set k)
 
 -- ---- what a table holds, by number
 
@@ -79,7 +79,7 @@ pub record IsLast (finals : ℕ) (triple : TripleSets) : Type 0 where
 -- the members of the sets are below the number
 pub record AreBelow (states : ℕ) (class : ClassSets) : Type 0 where
   pub silent : (k : ℕ) → Has class.silent k → k < states
-  pub goes : (k : ℕ) → Has class.goes k → k < states
+  pub writes : (k : ℕ) → Has class.writes k → k < states
   pub needs : (k : ℕ) → Has class.needs k → k < states
 
 -- how many classes have their steps kept, and what stands for a step that is not known
@@ -103,9 +103,9 @@ pub record IsTable (width : ℕ) (predecessors : List ℕ) (classes : List Class
   pub steps : AreSteps predecessors classes triples kept
 
 -- the class has these states
-pub record IsClassOf (class : ClassSets) (silent goes needs : List ℕ) : Type 0 where
+pub record IsClassOf (class : ClassSets) (silent writes needs : List ℕ) : Type 0 where
   pub silent_is : IsSetOf class.silent silent
-  pub goes_is : IsSetOf class.goes goes
+  pub writes_is : IsSetOf class.writes writes
   pub needs_is : IsSetOf class.needs needs
 
 -- the states that complete

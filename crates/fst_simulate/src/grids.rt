@@ -1,11 +1,14 @@
-ghost use Rattle.std.specs.Prelude.{◌≡◌, ℕ, ◌+◌, ◌-◌, ◌*◌, ◌≤◌, ◌<◌, ◌↔◌, length, [], ◌∷◌, ◌++◌, IfOk, OnOk, OnErr, IsTrue, Contains, Some, slice_get, slice_index};
+ghost use Rattle.std.specs.Prelude.{◌≡◌, ◌≢◌, AllPairs, ℕ, ◌+◌, ◌-◌, ◌*◌, ◌≤◌, ◌<◌, ◌↔◌, length, [], ◌∷◌, ◌++◌, IfOk, OnOk, OnErr, IsTrue, Contains, Some, slice_get, slice_index};
 ghost use Rattle.mine_model.specs.declared.item.Item.{Item};
-ghost use Rattle.fst_simulate.specs.Grids.{Completes, Ends, Reads, WritesRank, HasBit, items_at, rest_at};
+ghost use Rattle.state_bits.specs.Members.{HasBit};
+ghost use Rattle.fst_simulate.specs.Grids.{Completes, Ends, Reads, WritesRank, items_at, rest_at};
+ghost use Rattle.fst_simulate.specs.Readings.{IsReading};
 
 use super::bound::Bound;
 use super::job::Job;
-use super::kinds::{Kinds, Scratch, outputs_of};
+use super::kinds::{Kinds, Scratch, ends_from, outputs_of};
 use super::places::{Place, push_places};
+use super::reading::Reading;
 use super::tables::Tables;
 use fst_compile::State;
 use mine_model::NoMemory;
@@ -95,6 +98,13 @@ impl<'a> Grids<'a> {
         self.sequences.clear();
     }
 
+    /// The numbers of the sequences, in the order of their grids. Takes no memory.
+    pub fn sequences(&self) -> &[u32]
+        ensures { result.now ≡ self.now.sequences }
+    {
+        self.sequences.as_slice()
+    }
+
     /// Whether state q completes at a position of a grid, where what is needed was seen or was not. Takes no
     /// memory.
     pub fn completes(&self, grid: u32, pos: u32, q: State, seen: bool) -> bool
@@ -153,11 +163,33 @@ impl<'a> Grids<'a> {
         requires pos { pos < length (items_at self.now grid) }
         requires start { 0 < k.0 }
         requires state { k.0 ≤ length self.now.problem.machine.labels }
-        ensures { (t : Item) (rank : ℕ) → slice_get (items_at self.now grid) pos ≡ Some t
+        ensures ranks { (t : Item) (rank : ℕ) → slice_get (items_at self.now grid) pos ≡ Some t
             → (Contains result.now rank ↔ WritesRank self.now.problem self.now.bound t k.0 rank) }
+        ensures once { AllPairs (λ one other. one ≢ other) result.now }
     {
         let place = place_of(self.places.as_slice(), self.ends.as_slice(), grid, pos);
         outputs_of(&self.kinds, place.kind, k.0)
+    }
+
+    /// What reading the item at a position of a grid may do. Takes no memory.
+    pub fn reading(&self, grid: u32, pos: u32) -> Reading<'_>
+        requires grid { grid < length self.now.sequences }
+        requires pos { pos < length (items_at self.now grid) }
+        ensures { (t : Item) → slice_get (items_at self.now grid) pos ≡ Some t
+            → IsReading self.now.problem self.now.bound t (rest_at self.now grid (pos + 1)) result }
+    {
+        let place = place_of(self.places.as_slice(), self.ends.as_slice(), grid, pos);
+        let behind = place_behind(self.places.as_slice(), self.ends.as_slice(), grid, pos);
+        let kind = self.kinds.kinds[place.kind as usize];
+        let words = self.tables.words(kind.class, behind.triple);
+        Reading {
+            silent: words.silent,
+            writing: words.writing,
+            seen: words.seen,
+            unseen: words.unseen,
+            ends: ends_from(self.kinds.ends.as_slice(), kind.base),
+            ranks: self.kinds.ranks.as_slice(),
+        }
     }
 }
 
@@ -169,4 +201,14 @@ fn place_of(places: &[Place], ends: &[usize], grid: u32, pos: u32) -> Place
     ensures { slice_get places.now (slice_index ends.now grid - 1 - pos) ≡ Some result }
 {
     places[ends[grid as usize] - 1 - pos as usize]
+}
+
+// The place behind the item at a position of a grid.
+fn place_behind(places: &[Place], ends: &[usize], grid: u32, pos: u32) -> Place
+    requires grid { grid < length ends.now }
+    requires before { pos + 1 < slice_index ends.now grid }
+    requires within { slice_index ends.now grid - 1 - (pos + 1) < length places.now }
+    ensures { slice_get places.now (slice_index ends.now grid - 1 - (pos + 1)) ≡ Some result }
+{
+    places[ends[grid as usize] - 2 - pos as usize]
 }

@@ -1,7 +1,8 @@
 //! What items may do under a bound, found out when they are first met.
 
-ghost use Rattle.std.specs.Prelude.{◌≡◌, ◌≢◌, ℕ, ◌+◌, ◌≤◌, ◌<◌, ◌⊎◌, ◌↔◌, AllPairs, ◌-◌, [], length, slice_index, slice_get, slice_range, Some, Contains, IfOk, OnOk, IsTrue};
+ghost use Rattle.std.specs.Prelude.{◌≡◌, ◌≢◌, ℕ, ◌+◌, ◌≤◌, ◌<◌, ◌⊎◌, ◌↔◌, AllPairs, ◌-◌, [], drop, length, slice_index, slice_get, slice_range, Some, Contains, IfOk, OnOk, IsTrue};
 ghost use Rattle.mine_model.specs.declared.item.Item.{Item};
+ghost use Rattle.mine_model.specs.Ancestry.{AreRising};
 ghost use Rattle.mine_model.specs.Ranks.{HasRank};
 ghost use Rattle.fst_simulate.specs.Grids.{Reads, WritesRank};
 ghost use Rattle.fst_simulate.specs.Tables.{Grows, unknown};
@@ -35,12 +36,12 @@ pub(crate) struct Kinds {
     pub(crate) ranks: Vec<u32>,
 }
 
-/// Room for what is found out of one item: the states that it leads into without an output, at all, and with
-/// an output that is needed; the outputs at one state, and their ranks.
+/// Room for what is found out of one item: the states that it leads into without an output, with one, and
+/// with one that is needed; the outputs at one state, and their ranks.
 #[derive(Drop)]
 pub(crate) struct Scratch {
     pub(crate) silent: Vec<u32>,
-    pub(crate) goes: Vec<u32>,
+    pub(crate) writes: Vec<u32>,
     pub(crate) needs: Vec<u32>,
     written: Vec<Item>,
     found: Vec<u32>,
@@ -51,7 +52,7 @@ impl Scratch {
     pub(crate) fn new(alloc: Global) -> Scratch {
         Scratch {
             silent: Vec::new(alloc),
-            goes: Vec::new(alloc),
+            writes: Vec::new(alloc),
             needs: Vec::new(alloc),
             written: Vec::new(alloc),
             found: Vec::new(alloc),
@@ -87,6 +88,14 @@ pub(crate) fn outputs_of(kinds: &Kinds, number: u32, k: u32) -> &[u32]
     &kinds.ranks[kinds.ends[end - 1] as usize..kinds.ends[end] as usize]
 }
 
+/// The ends from where those of a kind begin.
+pub(crate) fn ends_from(ends: &[u32], base: usize) -> &[u32]
+    requires { base ≤ length ends.now }
+    ensures { result.now ≡ drop base ends.now }
+{
+    &ends[base..]
+}
+
 /// The number of the kind of an item, which is found out if it was not yet met.
 pub(crate) fn kind_of(
     job: &Job,
@@ -112,7 +121,7 @@ pub(crate) fn kind_of(
     push_outputs(job, bound, t, &mut kinds.ends, &mut kinds.ranks, scratch)?;
     let class = tables.class_number(
         scratch.silent.as_slice(),
-        scratch.goes.as_slice(),
+        scratch.writes.as_slice(),
         scratch.needs.as_slice(),
     )?;
     let number = to_number(kinds.kinds.len())?;
@@ -136,10 +145,10 @@ fn push_outputs(
     ensures row { OnOk result (IsRow job.now bound t (length ends.old.items) ends.new.items ranks.new.items
         (length job.now.machine.labels + 1)) }
     ensures entered { OnOk result (AreEntered job.now bound t (length job.now.machine.labels + 1)
-        scratch.new.silent.items scratch.new.goes.items scratch.new.needs.items) }
+        scratch.new.silent.items scratch.new.writes.items scratch.new.needs.items) }
 {
     scratch.silent.clear();
-    scratch.goes.clear();
+    scratch.writes.clear();
     scratch.needs.clear();
     ends.push(to_number(ranks.len())?)?;
     for k in 1..job.fst().states() {
@@ -165,16 +174,16 @@ fn push_at(
     ensures row { OnOk result ((base : ℕ) → IsRow job.now bound t base ends.old.items ranks.old.items k
         → IsRow job.now bound t base ends.new.items ranks.new.items (k + 1)) }
     ensures entered { OnOk result (AreEntered job.now bound t k
-        scratch.old.silent.items scratch.old.goes.items scratch.old.needs.items
+        scratch.old.silent.items scratch.old.writes.items scratch.old.needs.items
         → AreEntered job.now bound t (k + 1)
-        scratch.new.silent.items scratch.new.goes.items scratch.new.needs.items) }
+        scratch.new.silent.items scratch.new.writes.items scratch.new.needs.items) }
 {
     let silent = read_at(job, bound, t, k, &mut scratch.written, &mut scratch.found)?;
     let found = scratch.found.as_slice();
     let any = is_needed(None, found);
     let needed = is_needed(bound.need, found);
     push_if(&mut scratch.silent, k, silent)?;
-    push_if(&mut scratch.goes, k, silent | any)?;
+    push_if(&mut scratch.writes, k, any)?;
     push_if(&mut scratch.needs, k, needed)?;
     ranks.extend_from_slice(found)?;
     ends.push(to_number(ranks.len())?)?;
@@ -195,6 +204,7 @@ fn read_at(
     ensures silent { IfOk result (λ silent. IsTrue silent ↔ Reads job.now t k []) }
     ensures found { OnOk result ((rank : ℕ) → Contains found.new.items rank
         ↔ WritesRank job.now bound t k rank) }
+    ensures once { OnOk result (AllPairs (λ one other. one ≢ other) found.new.items) }
 {
     found.clear();
     let leaf = job.fst().leaf(State(k));
@@ -208,9 +218,11 @@ fn read_at(
 
 // The ranks up to the top of those of the items that have one.
 fn push_ranks(ranks: &Ranks, items: &[Item], top: u32, found: &mut Vec<u32>) -> Result<(), NoMemory>
-    requires once { AllPairs (λ v w. v ≢ w) ranks.now.order }
+    requires ranked { AllPairs (λ v w. v ≢ w) ranks.now.order }
+    requires rising { AreRising items.now }
     requires empty { found.old.items ≡ [] }
-    ensures { OnOk result ((rank : ℕ) → Contains found.new.items rank
+    ensures once { OnOk result (AllPairs (λ one other. one ≢ other) found.new.items) }
+    ensures ranks { OnOk result ((rank : ℕ) → Contains found.new.items rank
         ↔ ((v : Item) × Contains items.now v × HasRank ranks.now.order v rank × (rank ≤ top))) }
 {
     for item in items {

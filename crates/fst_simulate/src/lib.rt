@@ -10,6 +10,8 @@ mod kinds;
 mod number;
 mod part_seed;
 mod places;
+mod reading;
+mod successors;
 mod table;
 mod tables;
 #[cfg(test)]
@@ -20,3 +22,5 @@ pub use grid::Grid;
 pub use grids::Grids;
 pub use job::Job;
 pub use part_seed::PartSeed;
+pub use reading::Reading;
+pub use successors::{Successors, neighbours, successors_of};

@@ -1,13 +1,14 @@
 //! What may come of the places of sequences, as sets of states that are numbered when they are first met.
 
 ghost use Rattle.std.specs.Prelude.{◌≡◌, ◌≢◌, ℕ, ◌+◌, ◌*◌, ◌≤◌, ◌<◌, ◌⊎◌, ◌↔◌, [], ◌∷◌, map, length, slice_index, slice_get, Some, All, IfOk, OnOk, IfSome, IsTrue};
-ghost use Rattle.state_bits.specs.Members.{Has};
+ghost use Rattle.state_bits.specs.Members.{Has, HasBit};
 ghost use Rattle.fst_compile.specs.Rows.{IsSetOf, Adds};
 ghost use Rattle.fst_compile.specs.Transducer.{Leads};
-ghost use Rattle.fst_simulate.specs.Tables.{ClassSets, TripleSets, class_sets, triple_sets, LeadTo, Precedes, IsStep, AreSources, Grows, IsStepAt, IsLast, IsClassOf, AreSteps, AreBelow, completing, AddsTo};
-ghost use Rattle.fst_simulate.specs.Grids.{HasBit};
+ghost use Rattle.fst_simulate.specs.Tables.{ClassSets, TripleSets, class_sets, triple_sets, LeadTo, Precedes, IsStep, Grows, IsStepAt, IsLast, IsClassOf, AreSteps, AreBelow, completing, AddsTo};
+ghost use Rattle.fst_simulate.specs.Words.{AreClassWords, AreTripleWords};
 
 use super::number::{NONE, to_number};
+use super::successors::neighbours;
 use fst_compile::{Edge, Fst, State};
 use indexmap::IndexSet;
 use mine_model::NoMemory;
@@ -15,12 +16,12 @@ use state_bits::StateSet;
 use std::alloc::Global;
 use std::marker::Model;
 
-/// The states whose edges match an item and write nothing, those whose edges match it and write nothing or
-/// something that is allowed, and those whose edges may write what is needed.
+/// The states whose edges match an item and write nothing, those whose edges may write something that is
+/// allowed, and those whose edges may write what is needed.
 #[derive(Clone, Copy, Debug, PartialEq, Eq, Hash)]
 pub(crate) struct Class<const W: usize> {
     pub(crate) silent: StateSet<W>,
-    pub(crate) goes: StateSet<W>,
+    pub(crate) writes: StateSet<W>,
     pub(crate) needs: StateSet<W>,
 }
 
@@ -31,6 +32,16 @@ pub(crate) struct Triple<const W: usize> {
     pub(crate) seen: StateSet<W>,
     pub(crate) unseen: StateSet<W>,
     pub(crate) ends: StateSet<W>,
+}
+
+/// The states that an item leads into without an output and with one, and those that complete behind it
+/// where what is needed was seen and where it was not, as words.
+#[derive(Clone, Copy, Debug)]
+pub(crate) struct Words<'a> {
+    pub(crate) silent: &'a [u64],
+    pub(crate) writing: &'a [u64],
+    pub(crate) seen: &'a [u64],
+    pub(crate) unseen: &'a [u64],
 }
 
 /// How many classes have their steps kept.
@@ -94,22 +105,22 @@ impl<const W: usize> Table<W> {
     pub(crate) fn class_number(
         &mut self,
         silent: &[u32],
-        goes: &[u32],
+        writes: &[u32],
         needs: &[u32],
     ) -> Result<u32, NoMemory>
         requires width { W ≤ 17 }
         requires silent { All (λ k. k < length self.old.predecessors) silent.now }
-        requires goes { All (λ k. k < length self.old.predecessors) goes.now }
+        requires writes { All (λ k. k < length self.old.predecessors) writes.now }
         requires needs { All (λ k. k < length self.old.predecessors) needs.now }
         ensures grows { Grows self.old self.new }
         ensures class { IfOk result (λ number. (class : ClassSets)
             × (slice_get self.new.classes number ≡ Some class)
-            × IsClassOf class silent.now goes.now needs.now) }
+            × IsClassOf class silent.now writes.now needs.now) }
     {
         let _predecessors = &self.predecessors;
         let class = Class {
             silent: set_of(silent),
-            goes: set_of(goes),
+            writes: set_of(writes),
             needs: set_of(needs),
         };
         class_in(&mut self.classes, &class)
@@ -158,6 +169,27 @@ impl<const W: usize> Table<W> {
             → (IsTrue result ↔ Has c.silent k) }
     {
         self.classes.as_slice()[class as usize].silent.has(k)
+    }
+
+    /// The states that an item of the class leads into, and those that complete behind it at a place of the
+    /// triple, as words.
+    pub(crate) fn words(&self, class: u32, after: u32) -> Words<'_>
+        requires width { W ≤ 17 }
+        requires class { class < length self.now.classes }
+        requires after { after < length self.now.triples }
+        ensures class { (c : ClassSets) → slice_get self.now.classes class ≡ Some c
+            → AreClassWords (length self.now.predecessors) c result }
+        ensures after { (t : TripleSets) → slice_get self.now.triples after ≡ Some t
+            → AreTripleWords (length self.now.predecessors) t result }
+    {
+        let class = &self.classes.as_slice()[class as usize];
+        let after = &self.triples.as_slice()[after as usize];
+        Words {
+            silent: class.silent.words(),
+            writing: class.writes.words(),
+            seen: after.seen.words(),
+            unseen: after.unseen.words(),
+        }
     }
 
     /// Whether state q ends at a place of the triple.
@@ -333,19 +365,6 @@ fn finals_of<const W: usize>(fst: &Fst) -> StateSet<W>
     finals
 }
 
-// The states from which an edge leads to a state of the set.
-fn sources<const W: usize>(predecessors: &[StateSet<W>], set: &StateSet<W>) -> StateSet<W>
-    requires width { W ≤ 17 }
-    requires within { (k : ℕ) → Has set.now k → k < length predecessors.now }
-    ensures { AreSources predecessors.now set.now result }
-{
-    let mut found = StateSet::new();
-    for k in set.iter() {
-        found.union_with(&predecessors[k as usize]);
-    }
-    found
-}
-
 // The members of both.
 fn both<const W: usize>(one: &StateSet<W>, other: &StateSet<W>) -> StateSet<W>
     requires width { W ≤ 17 }
@@ -364,15 +383,17 @@ fn before<const W: usize>(
 ) -> Triple<W>
     requires width { W ≤ 17 }
     requires silent { (k : ℕ) → Has class.now.silent k → k < length predecessors.now }
-    requires goes { (k : ℕ) → Has class.now.goes k → k < length predecessors.now }
+    requires writes { (k : ℕ) → Has class.now.writes k → k < length predecessors.now }
     requires needs { (k : ℕ) → Has class.now.needs k → k < length predecessors.now }
     ensures { IsStep predecessors.now (class_sets class.now) (triple_sets after.now) (triple_sets result) }
 {
-    let mut unseen = both(&class.goes, &after.unseen);
+    let mut into = class.silent;
+    into.union_with(&class.writes);
+    let mut unseen = both(&into, &after.unseen);
     unseen.union_with(&both(&class.needs, &after.seen));
     Triple {
-        seen: sources(predecessors, &both(&class.goes, &after.seen)),
-        unseen: sources(predecessors, &unseen),
-        ends: sources(predecessors, &both(&class.silent, &after.ends)),
+        seen: neighbours(predecessors, &both(&into, &after.seen)),
+        unseen: neighbours(predecessors, &unseen),
+        ends: neighbours(predecessors, &both(&class.silent, &after.ends)),
     }
 }

@@ -1,12 +1,12 @@
 //! A table whose sets have as many words as the states need.
 
 ghost use Rattle.std.specs.Prelude.{◌≡◌, ℕ, ◌+◌, ◌*◌, ◌≤◌, ◌<◌, ◌↔◌, [], ◌∷◌, length, slice_get, Some, All, IfOk, IsTrue};
-ghost use Rattle.state_bits.specs.Members.{Has};
+ghost use Rattle.state_bits.specs.Members.{Has, HasBit};
 ghost use Rattle.fst_compile.specs.Transducer.{Leads};
-ghost use Rattle.fst_simulate.specs.Grids.{HasBit};
 ghost use Rattle.fst_simulate.specs.Tables.{ClassSets, TripleSets, Precedes, Grows, IsStepAt, IsLast, IsClassOf, completing};
+ghost use Rattle.fst_simulate.specs.Words.{AreClassWords, AreTripleWords};
 
-use super::table::Table;
+use super::table::{Table, Words};
 use fst_compile::Fst;
 use mine_model::NoMemory;
 use std::alloc::Global;
@@ -72,18 +72,18 @@ impl Tables {
     pub(crate) fn class_number(
         &mut self,
         silent: &[u32],
-        goes: &[u32],
+        writes: &[u32],
         needs: &[u32],
     ) -> Result<u32, NoMemory>
         requires silent { All (λ k. k < length self.old.predecessors) silent.now }
-        requires goes { All (λ k. k < length self.old.predecessors) goes.now }
+        requires writes { All (λ k. k < length self.old.predecessors) writes.now }
         requires needs { All (λ k. k < length self.old.predecessors) needs.now }
         ensures grows { Grows self.old self.new }
         ensures class { IfOk result (λ number. (class : ClassSets)
             × (slice_get self.new.classes number ≡ Some class)
-            × IsClassOf class silent.now goes.now needs.now) }
+            × IsClassOf class silent.now writes.now needs.now) }
     {
-        on_table!(&mut self.width, table => table.class_number(silent, goes, needs))
+        on_table!(&mut self.width, table => table.class_number(silent, writes, needs))
     }
 
     /// The number of the triple before an item of this class and this triple.
@@ -105,6 +105,19 @@ impl Tables {
             → (IsTrue result ↔ Has c.silent k) }
     {
         on_table!(&self.width, table => table.is_silent(class, k))
+    }
+
+    /// The states that an item of the class leads into, and those that complete behind it at a place of the
+    /// triple, as words.
+    pub(crate) fn words(&self, class: u32, after: u32) -> Words<'_>
+        requires class { class < length self.now.classes }
+        requires after { after < length self.now.triples }
+        ensures class { (c : ClassSets) → slice_get self.now.classes class ≡ Some c
+            → AreClassWords (length self.now.predecessors) c result }
+        ensures after { (t : TripleSets) → slice_get self.now.triples after ≡ Some t
+            → AreTripleWords (length self.now.predecessors) t result }
+    {
+        on_table!(&self.width, table => table.words(class, after))
     }
 
     /// Whether state q ends at a place of the triple.

@@ -1,16 +1,21 @@
--- The pairs of a sequence and one of its candidates, under other names of the items.
-use Rattle.std.proofs.Common.{◌≡◌, ◌≢◌, ℕ, inl, inr, false, List, [], ◌∷◌, map, sym, ◌∙◌, subst, Contains, get_or, arith}
+-- The counted work of a run under other names of the items.
+use Rattle.std.proofs.Common.{◌≡◌, ◌≢◌, ℕ, ◌-◌, ◌≤◌, inl, inr, false, List, [], ◌∷◌, ◌++◌, map, length, take, drop, sym, ap, ◌∙◌, subst, Contains, get_or, arith}
 use Rattle.std.specs.List.{AllByRecursion, AllPairs}
-use Rattle.std.proofs.lemmas.List.{length-map, get_or_default}
+use Rattle.std.proofs.lemmas.List.{length-map, get_or_default, map-append, take-append-drop, take-map, drop-map}
+use Rattle.std.proofs.Math.Seq.{take-append_seam, drop-append_seam}
 use Rattle.std.proofs.lemmas.List.Kept.{AllPairs-cons}
 use Rattle.mine_model.specs.Hierarchy.{Link, IsAncestor}
 use Rattle.mine_model.specs.Expression.{tree_by, named_in}
+use Rattle.mine_model.specs.Generation.{IsPatternOf}
 use Rattle.mine_model.specs.Support.{Sequence, HoldsUnder, HasFrequency}
 use Rattle.mine_model.specs.Answer.{Data}
 use Rattle.mine_model.specs.Candidates.{IsFrequentItem, IsCandidate}
 use Rattle.mine_model.specs.Counted.{HasCandidates, HasPairs}
+use Rattle.mine_model.specs.Growth.{WeighAtLeast, HasPatternBehind, AreFrequentItems, IsSearchWork}
+use Rattle.mine_model.specs.declared.mined.Work.{Work}
 use Rattle.mine_model.specs.Names.{sequence_by}
-use Rattle.mine_model.proofs.ListLemmas.{Contains-by, Contains-from, Contains-first, Contains-other, AllByRecursion-contained, AllPairs-head, AllPairs-tail}
+use Rattle.mine_model.proofs.ListLemmas.{Contains-by, Contains-from, Contains-first, Contains-other, AllByRecursion-contained, AllPairs-head, AllPairs-tail, front_of_both}
+use Rattle.mine_model.proofs.AliveLemmas.{WeighAtLeast-some}
 use Rattle.mine_model.proofs.NumberingLemmas.{Renames, pattern-forth, pattern-back, one_to_one-lists, generated-in}
 
 module _ {A B : Type 0} (links : List (Link A)) (others : List (Link B)) (P : A → Type 0) (f : A → B) (renames : Renames links others P f) where
@@ -143,3 +148,110 @@ module _ {A B : Type 0} (f : A → B) (others : List (Link B)) (d : Data A) (P :
   pairs-forth [] n within none = none
   pairs-forth (s ∷ sequences) n within (first, rest, sum, here, more) =
       (first, rest, sum, candidates-forth s.items first within.0 here, pairs-forth sequences rest within.1 more)
+
+  -- the same of prefixes
+
+  abbrev Behind : List A → List A → Type 0
+  Behind prefix items = HasPatternBehind d (AreFrequentItems d) prefix items
+
+  abbrev BehindNamed : List B → List B → Type 0
+  BehindNamed prefix items = HasPatternBehind renamed (AreFrequentItems renamed) prefix items
+
+  behind-inside : (prefix items : List A) → AllByRecursion P items → Behind prefix items → AllByRecursion P prefix
+  behind-inside prefix items within (more, pattern, frequent) =
+      front_of_both P prefix more (inside-of items (prefix ++ more) within (record { generated = pattern; allowed = frequent }))
+
+  behind-forth : (prefix items : List A) → AllByRecursion P items → Behind prefix items → BehindNamed (map f prefix) (map f items)
+  behind-forth prefix items within (more, pattern, frequent) =
+      let is = candidate-forth items (prefix ++ more) within (record { generated = pattern; allowed = frequent }) in
+      let cut = map-append f prefix more in (
+        map f more,
+        subst (λ l. IsPatternOf others (tree_by f d.expression) (map f items) l) cut is.generated,
+        subst (AllByRecursion FrequentNamed) cut is.allowed,
+      )
+
+  behind-back : (prefix : List B) (items : List A) → AllByRecursion P items → BehindNamed prefix (map f items)
+      → (own : List A) × (prefix ≡ map f own) × AllByRecursion P own × Behind own items
+  behind-back prefix items within (more, pattern, frequent) =
+      let (own, same, is) = candidate-back items (prefix ++ more) within (record { generated = pattern; allowed = frequent }) in
+      let whole : take (length prefix) own ++ drop (length prefix) own ≡ own = take-append-drop (length prefix) own in
+      let front : prefix ≡ map f (take (length prefix) own) =
+      sym (take-append_seam prefix more) ∙ ap (λ l. take (length prefix) l) same ∙ take-map f (length prefix) own in
+      let behind : Behind (take (length prefix) own) items = (
+        drop (length prefix) own,
+        subst (λ l. IsPatternOf d.links d.expression items l) (sym whole) is.generated,
+        subst (AllByRecursion Frequent) (sym whole) is.allowed,
+      ) in
+      (take (length prefix) own, front, behind-inside (take (length prefix) own) items within behind, behind)
+
+  weigh-forth : (prefix : List A) (sequences : List (Sequence A)) (n : ℕ) → AllByRecursion (λ (s : Sequence A). AllByRecursion P s.items) sequences
+      → WeighAtLeast (Behind prefix) sequences n → WeighAtLeast (BehindNamed (map f prefix)) (map (sequence_by f) sequences) n
+  weigh-forth prefix [] n within weigh = weigh
+  weigh-forth prefix (s ∷ sequences) n within (inl p) =
+      inl (behind-forth prefix s.items within.0 p.0, weigh-forth prefix sequences (n - s.weight) within.1 p.1)
+  weigh-forth prefix (s ∷ sequences) n within (inr p) = inr (weigh-forth prefix sequences n within.1 p)
+
+  weigh-back : (prefix : List A) → AllByRecursion P prefix → (sequences : List (Sequence A)) (n : ℕ)
+      → AllByRecursion (λ (s : Sequence A). AllByRecursion P s.items) sequences
+      → WeighAtLeast (BehindNamed (map f prefix)) (map (sequence_by f) sequences) n → WeighAtLeast (Behind prefix) sequences n
+  weigh-back prefix inside [] n within weigh = weigh
+  weigh-back prefix inside (s ∷ sequences) n within (inl p) =
+      let (own, same, held, behind) = behind-back (map f prefix) s.items within.0 p.0 in
+      let is : own ≡ prefix = one_to_one-lists d.links others P f renames own prefix held inside (sym same) in
+      inl (subst (λ l. Behind l s.items) is behind, weigh-back prefix inside sequences (n - s.weight) within.1 p.1)
+  weigh-back prefix inside (s ∷ sequences) n within (inr p) = inr (weigh-back prefix inside sequences n within.1 p)
+
+  -- what weighs something is the other name of a prefix
+  weigh-own : (prefix : List B) (n : ℕ) → 1 ≤ n → WeighAtLeast (BehindNamed prefix) (map (sequence_by f) d.sequences) n
+      → (own : List A) × (prefix ≡ map f own) × AllByRecursion P own
+  weigh-own prefix n some weigh =
+      let (s, held, behind) = WeighAtLeast-some (BehindNamed prefix) (map (sequence_by f) d.sequences) n some weigh in
+      let (t, inside, same) = Contains-from (sequence_by f) d.sequences s held in
+      let (own, is, within, _) = behind-back prefix t.items (AllByRecursion-contained (λ (s : Sequence A). AllByRecursion P s.items) d.sequences t all inside)
+      (subst (λ (s : Sequence B). BehindNamed prefix s.items) same behind) in
+      (own, is, within)
+
+  prefixes-once : (prefixes : List (List A)) → ((prefix : List A) → Contains prefixes prefix → AllByRecursion P prefix)
+      → AllPairs (λ p q. p ≢ q) prefixes → AllPairs (λ p q. p ≢ q) (map (map f) prefixes)
+  prefixes-once [] each once = λ i j e less inside. absurd (omega arith)
+  prefixes-once (first ∷ prefixes) each once =
+      AllPairs-cons (λ p q. p ≢ q) (map f first) (map (map f) prefixes)
+      (λ k other below. apart (get_or (map (map f) prefixes) k other)
+      (k, below, get_or_default (map (map f) prefixes) k (get_or (map (map f) prefixes) k other) other below))
+      (prefixes-once prefixes (λ prefix inside. each prefix (Contains-other first prefixes prefix inside))
+      (AllPairs-tail (λ p q. p ≢ q) first prefixes once))
+    where
+      apart : (q : List B) → Contains (map (map f) prefixes) q → map f first ≢ q
+      apart q held same =
+          let (own, inside, is) = Contains-from (map f) prefixes q held in
+          AllPairs-head (λ p q. p ≢ q) first prefixes once own inside
+          (one_to_one-lists d.links others P f renames first own (each first (Contains-first first prefixes))
+          (each own (Contains-other first prefixes own inside)) (same ∙ is))
+
+  -- the work of a search by prefixes is the same under the other names
+  pub search-forth : 1 ≤ d.threshold → (work : Work) → IsSearchWork d work
+      → IsSearchWork (record { links = others; sequences = map (sequence_by f) d.sequences; expression = tree_by f d.expression; threshold = d.threshold }) work
+  search-forth some work is = record {
+    prefixes = map (map f) is.prefixes;
+    once = prefixes-once is.prefixes (λ prefix inside. within-own prefix ((is.alive prefix).0 inside)) is.once;
+    alive = λ prefix. (
+      λ inside. let (own, held, same) = Contains-from (map f) is.prefixes prefix inside in
+          subst (λ l. WeighAtLeast (BehindNamed l) (map (sequence_by f) d.sequences) d.threshold) (sym same)
+          (weigh-forth own d.sequences d.threshold all ((is.alive own).0 held)),
+      λ weigh. let (own, same, inside) = weigh-own prefix d.threshold some weigh in
+          subst (Contains (map (map f) is.prefixes)) (sym same)
+          (Contains-by (map f) is.prefixes own ((is.alive own).1 (weigh-back own inside d.sequences d.threshold all
+          (subst (λ l. WeighAtLeast (BehindNamed l) (map (sequence_by f) d.sequences) d.threshold) same weigh)))),
+    );
+    nodes = is.nodes ∙ sym (length-map is.prefixes (map f));
+    parts = elim is.parts [
+      | inl one ↦ inl (one.0, weigh-forth [] d.sequences d.threshold all one.1)
+      | inr none ↦ inr (none.0, λ weigh. none.1 (weigh-back [] tt d.sequences d.threshold all weigh))
+    ];
+    candidates = is.candidates;
+  }
+    where
+      within-own : (prefix : List A) → WeighAtLeast (Behind prefix) d.sequences d.threshold → AllByRecursion P prefix
+      within-own prefix weigh =
+          let (s, held, behind) = WeighAtLeast-some (Behind prefix) d.sequences d.threshold some weigh in
+          behind-inside prefix s.items (AllByRecursion-contained (λ (s : Sequence A). AllByRecursion P s.items) d.sequences s all held) behind

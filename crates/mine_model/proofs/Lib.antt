@@ -36,3 +36,5 @@ pub mod ApartLemmas
 pub mod SumLemmas
 pub mod SlotLemmas
 pub mod AliveLemmas
+pub mod SearchTreeLemmas
+pub mod SearchAnswerLemmas

@@ -1,6 +1,6 @@
 -- Lemmas on lists, what is contained in them and what holds of each element.
-use Rattle.std.proofs.Common.{◌≡◌, ◌≢◌, ◌⊎◌, inl, inr, Bool, true, false, cond, List, [], ◌∷◌, ◌++◌, map, filter, length, get_or, take, drop, length-drop, refl, sym, ap, ◌∙◌, subst, arith, suc, zero, true≢false, ℕ, ◌-◌, ◌≤◌}
-use Rattle.std.specs.List.{AllByRecursion, AllPairs, Contains, slice_range}
+use Rattle.std.proofs.Common.{◌≡◌, ◌≢◌, ◌⊎◌, inl, inr, Bool, true, false, cond, Option, Some, None, List, [], ◌∷◌, ◌++◌, map, filter, length, get_or, take, drop, length-drop, refl, sym, ap, ◌∙◌, subst, arith, suc, zero, true≢false, ℕ, ◌-◌, ◌≤◌, ◌<◌}
+use Rattle.std.specs.List.{AllByRecursion, AllPairs, Contains, slice_range, filter_map, cons_option}
 use Rattle.std.proofs.Math.Seq.{take-append_seam}
 use Rattle.std.proofs.lemmas.List.{get_or_default, take-append-le, drop-append-le}
 use Rattle.std.proofs.lemmas.List.Elements.{Contains-append_cases}
@@ -119,6 +119,60 @@ apart_by_image f one (x ∷ xs) pairs =
     AllPairs-head (λ x y. x ≢ y) x xs pairs y held (one x y (same ∙ is)))
     (apart_by_image f one xs (AllPairs-tail (λ x y. x ≢ y) x xs pairs))
 
+-- the same of elements of the list alone
+pub apart_within : {X Y : Type 0} (f : X → Y) (xs : List X) → ((x y : X) → Contains xs x → Contains xs y → f x ≡ f y → x ≡ y)
+    → AllPairs (λ x y. x ≢ y) xs → AllPairs (λ x y. x ≢ y) (map f xs)
+apart_within f [] one pairs = λ i j d less within. absurd (omega arith)
+apart_within f (x ∷ xs) one pairs =
+    AllPairs-cons (λ x y. x ≢ y) (f x) (map f xs)
+    (λ k d below. λ same.
+    let (y, held, is) = Contains-from f xs (get_or (map f xs) k d) (k, below, get_or_default (map f xs) k (get_or (map f xs) k d) d below) in
+    AllPairs-head (λ x y. x ≢ y) x xs pairs y held (one x y (Contains-first x xs) (Contains-other x xs y held) (same ∙ is)))
+    (apart_within f xs (λ y z here there same. one y z (Contains-other x xs y here) (Contains-other x xs z there) same) (AllPairs-tail (λ x y. x ≢ y) x xs pairs))
+
+-- What a function gives of the elements, without those where it gives nothing
+
+pub filter_map-forth : {X Y : Type 0} (f : X → Option Y) (xs : List X) (y : Y) → Contains (filter_map f xs) y → (x : X) × Contains xs x × (f x ≡ Some y)
+filter_map-forth f [] y held = absurd (Contains-none y held)
+filter_map-forth {X} {Y} f (x ∷ xs) y held = go (f x) refl (filter_map-forth f xs y) held
+  where
+    go : (o : Option Y) → f x ≡ o → (Contains (filter_map f xs) y → (z : X) × Contains xs z × (f z ≡ Some y))
+        → Contains (cons_option o (filter_map f xs)) y → (z : X) × Contains (x ∷ xs) z × (f z ≡ Some y)
+    go None gives rest held = let (z, inside, same) = rest held in (z, Contains-other x xs z inside, same)
+    go (Some v) gives rest held = elim (Contains-cases v (filter_map f xs) y held) [
+      | inl here ↦ (x, Contains-first x xs, gives ∙ ap Some (sym here))
+      | inr there ↦ (let (z, inside, same) = rest there in (z, Contains-other x xs z inside, same))
+    ]
+
+pub filter_map-back : {X Y : Type 0} (f : X → Option Y) (xs : List X) (x : X) (y : Y) → Contains xs x → f x ≡ Some y → Contains (filter_map f xs) y
+filter_map-back f [] x y held gives = absurd (Contains-none x held)
+filter_map-back {X} {Y} f (z ∷ xs) x y held gives = elim (Contains-cases z xs x held) [
+  | inl here ↦ subst (λ o. Contains (cons_option o (filter_map f xs)) y) (sym (ap f (sym here) ∙ gives)) (Contains-first y (filter_map f xs))
+  | inr there ↦ behind (f z) (filter_map-back f xs x y there gives)
+]
+  where
+    behind : (o : Option Y) → Contains (filter_map f xs) y → Contains (cons_option o (filter_map f xs)) y
+    behind None inside = inside
+    behind (Some v) inside = Contains-other v (filter_map f xs) y inside
+
+-- what holds of each two of them, where something holds of each two elements
+pub filter_map-pairs : {X Y : Type 0} (R : X → X → Type 0) (S : Y → Y → Type 0) (f : X → Option Y) (xs : List X)
+    → ((x z : X) (u v : Y) → Contains xs x → Contains xs z → f x ≡ Some u → f z ≡ Some v → R x z → S u v)
+    → AllPairs R xs → AllPairs S (filter_map f xs)
+filter_map-pairs R S f [] follows pairs = λ i j d less within. absurd (omega (arith, within))
+filter_map-pairs {X} {Y} R S f (x ∷ xs) follows pairs =
+    go (f x) refl (filter_map-pairs R S f xs (λ y z u v here there. follows y z u v (Contains-other x xs y here) (Contains-other x xs z there)) (AllPairs-tail R x xs pairs))
+  where
+    go : (o : Option Y) → f x ≡ o → AllPairs S (filter_map f xs) → AllPairs S (cons_option o (filter_map f xs))
+    go None gives rest = rest
+    go (Some u) gives rest =
+        AllPairs-cons S u (filter_map f xs)
+        (λ k d below.
+        let v : Y = get_or (filter_map f xs) k d in
+        let (z, inside, same) = filter_map-forth f xs v (k, below, get_or_default (filter_map f xs) k v d below) in
+        follows x z u v (Contains-first x xs) (Contains-other x xs z inside) gives same (AllPairs-head R x xs pairs z inside))
+        rest
+
 -- elements behind the end of a range don't alter it
 pub slice_range-append : {X : Type 0} (xs ys : List X) (from end : ℕ) → from ≤ end → end ≤ length xs → slice_range (xs ++ ys) from end ≡ slice_range xs from end
 slice_range-append xs ys from end rises within =
@@ -129,3 +183,37 @@ slice_range-append xs ys from end rises within =
 -- what a slice of all elements wrote back is the whole
 pub written_back : {X : Type 0} (new old : List X) (n : ℕ) → n ≡ length new → take n (new ++ drop (length new) old) ≡ new
 written_back new old n whole = ap (λ m. take m (new ++ drop (length new) old)) whole ∙ take-append_seam new (drop (length new) old)
+
+-- the first of a rising list is the least
+least_first : (v : ℕ) (vs : List ℕ) → AllPairs (λ low high. low < high) (v ∷ vs) → (n : ℕ) → Contains (v ∷ vs) n → v ≤ n
+least_first v vs rising n held = elim (Contains-cases v vs n held) [
+  | inl same ↦ omega (arith, same)
+  | inr later ↦ (let less : v < n = AllPairs-head (λ low high. low < high) v vs rising n later in omega (arith, less))
+]
+
+among_later : (v w : ℕ) (vs ws : List ℕ) → v ≡ w → AllPairs (λ low high. low < high) (v ∷ vs) → ((n : ℕ) → Contains (v ∷ vs) n → Contains (w ∷ ws) n)
+    → (n : ℕ) → Contains vs n → Contains ws n
+among_later v w vs ws same rising all n held = elim (Contains-cases w ws n (all n (Contains-other v vs n held))) [
+  | inl is ↦ (let less : v < n = AllPairs-head (λ low high. low < high) v vs rising n held in absurd (omega (arith, less, is, same)))
+  | inr later ↦ later
+]
+
+-- two rising lists of the same numbers are one
+pub rising_same : (xs ys : List ℕ) → AllPairs (λ low high. low < high) xs → AllPairs (λ low high. low < high) ys
+    → ((n : ℕ) → Contains xs n → Contains ys n) → ((n : ℕ) → Contains ys n → Contains xs n) → xs ≡ ys
+rising_same [] [] left right there back = refl
+rising_same [] (y ∷ ys) left right there back = absurd (Contains-none y (back y (Contains-first y ys)))
+rising_same (x ∷ xs) [] left right there back = absurd (Contains-none x (there x (Contains-first x xs)))
+rising_same (x ∷ xs) (y ∷ ys) left right there back =
+    let first : x ≡ y = omega (arith, least_first x xs left y (back y (Contains-first y ys)), least_first y ys right x (there x (Contains-first x xs))) in
+    let rest : xs ≡ ys = rising_same xs ys (AllPairs-tail (λ low high. low < high) x xs left) (AllPairs-tail (λ low high. low < high) y ys right)
+    (among_later x y xs ys first left there) (among_later y x ys xs (sym first) right back) in
+    λ i. first i ∷ rest i
+
+-- a list is empty or has a last element
+pub last-cases : {X : Type 0} (xs : List X) → (xs ≡ []) ⊎ ((front : List X) × (last : X) × (xs ≡ front ++ last ∷ []))
+last-cases [] = inl refl
+last-cases (x ∷ xs) = elim (last-cases xs) [
+  | inl none ↦ inr ([], x, ap (λ l. x ∷ l) none)
+  | inr some ↦ (let (front, last, same) = some in inr (x ∷ front, last, ap (λ l. x ∷ l) same))
+]

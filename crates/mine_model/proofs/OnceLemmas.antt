@@ -1,10 +1,13 @@
 -- A cover holds the labels of the tree, each once.
-use Rattle.std.proofs.Common.{◌≡◌, ◌≢◌, ℕ, zero, suc, ◌+◌, ◌<◌, ◌≤◌, ◌⊎◌, ◌↔◌, inl, inr, cond, List, [], ◌∷◌, length, refl, sym, ap, subst, arith, sum_by, flat_map, Contains}
+use Rattle.std.proofs.Common.{◌≡◌, ℕ, zero, suc, ◌+◌, ◌<◌, ◌≤◌, ◌⊎◌, ◌↔◌, ◌≢◌, inl, inr, cond, List, [], ◌∷◌, length, get_or, refl, sym, ap, subst, arith, sum_by, flat_map, Contains}
 use Rattle.std.specs.Str.{bytes_eq}
 use Rattle.std.proofs.lemmas.Slice.Eq.{bytes_eq-Decides}
 use Rattle.std.proofs.lemmas.Bool.{cond-true, cond-false, cases_Bool, cases_lt}
 use Rattle.std.proofs.lemmas.List.Sums.{sum_by-cons, sum_by-append}
-use Rattle.mine_model.proofs.ListLemmas.{Contains-cases, Contains-first, Contains-other, Contains-none}
+use Rattle.std.specs.List.{AllPairs}
+use Rattle.std.proofs.lemmas.List.Elements.{Contains-get_or}
+use Rattle.std.proofs.lemmas.List.Kept.{AllPairs-cons}
+use Rattle.mine_model.proofs.ListLemmas.{Contains-cases, Contains-first, Contains-other, Contains-none, AllPairs-head, AllPairs-tail}
 use Rattle.mine_model.specs.Cover.{GrowByOne, Covers, down_to, level, IsTree, times, IsOnce, AreApart}
 use Rattle.mine_model.proofs.CoverLemmas.{kids_weight, kids-weight, flat-weight, sum_by-most}
 
@@ -46,7 +49,7 @@ part-most f (y ∷ xs) x is = elim (Contains-cases y xs x is) [
   | inr there ↦ omega (arith, sum_by-cons f y xs, part-most f xs x there)
 ]
 
-one-held : (label : List ℕ) (labels : List (List ℕ)) → Contains labels label → 1 ≤ sum_by (one label) labels
+pub one-held : (label : List ℕ) (labels : List (List ℕ)) → Contains labels label → 1 ≤ sum_by (one label) labels
 one-held label labels is = omega (arith, part-most (one label) labels label is, one-same label label refl)
 
 pub one-found : (label : List ℕ) (labels : List (List ℕ)) → (Contains labels label) ⊎ (sum_by (one label) labels ≡ 0)
@@ -157,3 +160,31 @@ pub down_covers : (roots : List (List ℕ)) (kids : List ℕ → List (List ℕ)
 down_covers roots kids n ends = λ weight.
     let none : sum_by weight (level roots kids n) ≡ 0 = ap (sum_by weight) ends in
     omega (arith, down-weight roots kids n weight)
+
+-- labels that come once differ
+pub once-apart : (labels : List (List ℕ)) → IsOnce labels → AllPairs (λ first second. first ≢ second) labels
+once-apart [] once = λ i j d less inside. absurd (omega (arith, inside))
+once-apart (label ∷ labels) once =
+    AllPairs-cons (λ first second. first ≢ second) label labels (λ k d below same. absurd (twice (get_or labels k d) (Contains-get_or labels k d below) same)) (once-apart labels rest)
+  where
+    rest : IsOnce labels
+    rest other = omega (arith, once other, times-one other (label ∷ labels), times-one other labels, sum_by-cons (one other) label labels)
+
+    twice : (other : List ℕ) → Contains labels other → label ≡ other → ⊥
+    twice other held same =
+        let here : one other label ≡ 1 = one-same other label (sym same) in
+        omega (arith, here, one-held other labels held, once other, times-one other (label ∷ labels), sum_by-cons (one other) label labels)
+
+-- labels that differ come once
+pub apart-once : (labels : List (List ℕ)) → AllPairs (λ first second. first ≢ second) labels → IsOnce labels
+apart-once [] apart label = omega (arith, times-one label [])
+apart-once (first ∷ labels) apart label =
+    let rest : sum_by (one label) labels ≤ 1 = omega (arith, times-one label labels, apart-once labels (AllPairs-tail (λ first second. first ≢ second) first labels apart) label) in
+    let whole : sum_by (one label) (first ∷ labels) ≡ one label first + sum_by (one label) labels = sum_by-cons (one label) first labels in
+    elim (one-cases label first) [
+      | inr none ↦ omega (arith, times-one label (first ∷ labels), whole, rest, none)
+      | inl same ↦ elim (one-found label labels) [
+        | inr none ↦ omega (arith, times-one label (first ∷ labels), whole, none, one-most label first)
+        | inl held ↦ absurd (AllPairs-head (λ first second. first ≢ second) first labels apart label held (sym same))
+      ]
+    ]

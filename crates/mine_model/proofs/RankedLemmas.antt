@@ -91,7 +91,7 @@ below order different v x y first second less =
     (at_place order v x v first ∙ sym (at_place order v y v second))
 
 -- the rank of an item
-item_rank : (order : List Item) → AllPairs (λ v w. v ≢ w) order → (v : Item) (x y : ℕ) → HasRank order v x → HasRank order v y → x ≡ y
+pub item_rank : (order : List Item) → AllPairs (λ v w. v ≢ w) order → (v : Item) (x y : ℕ) → HasRank order v x → HasRank order v y → x ≡ y
 item_rank order different v x y first second = elim (cases_lt x y) [
   | inl less ↦ absurd (below order different v x y first second less)
   | inr more ↦ elim (cases_lt y x) [
@@ -109,3 +109,34 @@ same_ranks order different (v ∷ items) [] ys first second = absurd first
 same_ranks order different (v ∷ items) (x ∷ xs) [] first second = absurd second
 same_ranks order different (v ∷ items) (x ∷ xs) (y ∷ ys) first second =
     ap (λ r. r ∷ xs) (item_rank order different v x y first.0 second.0) ∙ ap (λ rs. y ∷ rs) (same_ranks order different items xs ys first.1 second.1)
+
+pub ranked-length : (order items : List Item) (ranks : List ℕ) → AreRanked order items ranks → length items ≡ length ranks
+ranked-length order [] [] ranked = refl
+ranked-length order [] (r ∷ ranks) ranked = absurd ranked
+ranked-length order (v ∷ items) [] ranked = absurd ranked
+ranked-length order (v ∷ items) (r ∷ ranks) ranked = ap suc (ranked-length order items ranks ranked.1)
+
+-- the items with the first ranks, and those with the others
+pub ranked-split : (order items : List Item) (ranks others : List ℕ) → AreRanked order items (ranks ++ others)
+    → (front : List Item) × (back : List Item) × (items ≡ front ++ back) × AreRanked order front ranks × AreRanked order back others
+ranked-split order items [] others ranked = ([], items, refl, tt, ranked)
+ranked-split order [] (r ∷ ranks) others ranked = absurd ranked
+ranked-split order (v ∷ items) (r ∷ ranks) others ranked =
+    let (front, back, same, first, rest) = ranked-split order items ranks others ranked.1 in
+    (v ∷ front, back, ap (λ l. v ∷ l) same, (ranked.0, first), rest)
+
+pub ranked-append : (order items more : List Item) (ranks others : List ℕ) → AreRanked order items ranks → AreRanked order more others
+    → AreRanked order (items ++ more) (ranks ++ others)
+ranked-append order [] more [] others first rest = rest
+ranked-append order [] more (r ∷ ranks) others first rest = absurd first
+ranked-append order (v ∷ items) more [] others first rest = absurd first
+ranked-append order (v ∷ items) more (r ∷ ranks) others first rest = (first.0, ranked-append order items more ranks others first.1 rest)
+
+-- the ranks of the first items, and those of the others
+pub ranked-cut : (order items more : List Item) (ranks : List ℕ) → AreRanked order (items ++ more) ranks
+    → (front : List ℕ) × (back : List ℕ) × (ranks ≡ front ++ back) × AreRanked order items front × AreRanked order more back
+ranked-cut order [] more ranks ranked = ([], ranks, refl, tt, ranked)
+ranked-cut order (v ∷ items) more [] ranked = absurd ranked
+ranked-cut order (v ∷ items) more (r ∷ ranks) ranked =
+    let (front, back, same, first, rest) = ranked-cut order items more ranks ranked.1 in
+    (r ∷ front, back, ap (λ l. r ∷ l) same, (ranked.0, first), rest)

@@ -1,11 +1,12 @@
 -- A run has one counted work.
-use Rattle.std.proofs.Common.{◌≡◌, ◌≤◌, ℕ, List, [], ◌∷◌, length, get_or, sym, ap, ◌∙◌, arith}
+use Rattle.std.proofs.Common.{◌≡◌, ◌≤◌, ℕ, inl, inr, List, [], ◌∷◌, length, get_or, sym, ap, ◌∙◌, arith}
 use Rattle.std.specs.List.{All, Contains}
 use Rattle.std.proofs.lemmas.List.Elements.{Contains-get_or}
 use Rattle.mine_model.specs.declared.mined.Work.{Work}
 use Rattle.mine_model.specs.Support.{Sequence}
 use Rattle.mine_model.specs.Answer.{Data}
 use Rattle.mine_model.specs.Counted.{HasCandidates, HasPairs, told_of, IsCountingWork}
+use Rattle.mine_model.specs.Growth.{IsSearchWork}
 use Rattle.mine_model.proofs.NameLemmas.{distinct_fit}
 
 module _ {A : Type 0} (d : Data A) where
@@ -25,13 +26,30 @@ module _ {A : Type 0} (d : Data A) where
   HasPairs-unique (sequence ∷ sequences) m n (here, rest, sum, has, more) (here', rest', sum', has', more') =
       omega (arith, sum, sum', HasCandidates-unique sequence.items here here' has has', HasPairs-unique sequences rest rest' more more')
 
+works-same : (first second : Work) → first.nodes ≡ second.nodes → first.parts ≡ second.parts → first.candidates ≡ second.candidates → first ≡ second
+works-same first second nodes parts candidates =
+    ap (λ x. let w : Work = record { nodes = x; parts = first.parts; candidates = first.candidates } in w) nodes
+    ∙ ap (λ x. let w : Work = record { nodes = second.nodes; parts = x; candidates = first.candidates } in w) parts
+    ∙ ap (λ x. let w : Work = record { nodes = second.nodes; parts = second.parts; candidates = x } in w) candidates
+
 pub IsCountingWork-unique : (d : Data (List ℕ)) (first second : Work) → IsCountingWork d first → IsCountingWork d second → first ≡ second
 IsCountingWork-unique d first second one other =
     let (m, pairs, told) = one.pairs in
     let (n, pairs', told') = other.pairs in
-    let nodes : first.nodes ≡ second.nodes = one.nodes ∙ sym other.nodes in
-    let parts : first.parts ≡ second.parts = one.parts ∙ sym other.parts in
-    let candidates : first.candidates ≡ second.candidates = told ∙ ap told_of (HasPairs-unique d d.sequences m n pairs pairs') ∙ sym told' in
-    ap (λ x. let w : Work = record { nodes = x; parts = first.parts; candidates = first.candidates } in w) nodes
-    ∙ ap (λ x. let w : Work = record { nodes = second.nodes; parts = x; candidates = first.candidates } in w) parts
-    ∙ ap (λ x. let w : Work = record { nodes = second.nodes; parts = second.parts; candidates = x } in w) candidates
+    works-same first second (one.nodes ∙ sym other.nodes) (one.parts ∙ sym other.parts)
+    (told ∙ ap told_of (HasPairs-unique d d.sequences m n pairs pairs') ∙ sym told')
+
+prefixes-le : (d : Data (List ℕ)) (first second : Work) (one : IsSearchWork d first) (other : IsSearchWork d second) → length one.prefixes ≤ length other.prefixes
+prefixes-le d first second one other =
+    distinct_fit one.prefixes other.prefixes one.once
+    (λ k e below. (other.alive (get_or one.prefixes k e)).1 ((one.alive (get_or one.prefixes k e)).0 (Contains-get_or one.prefixes k e below)))
+
+pub IsSearchWork-unique : (d : Data (List ℕ)) (first second : Work) → IsSearchWork d first → IsSearchWork d second → first ≡ second
+IsSearchWork-unique d first second one other =
+    works-same first second
+    (omega (arith, one.nodes, other.nodes, prefixes-le d first second one other, prefixes-le d second first other one))
+    (elim one.parts [
+      | inl some ↦ elim other.parts [ inl more ↦ some.0 ∙ sym more.0 | inr none ↦ absurd (none.1 some.1) ]
+      | inr none ↦ elim other.parts [ inl some ↦ absurd (none.1 some.1) | inr more ↦ none.0 ∙ sym more.0 ]
+    ])
+    (one.candidates ∙ sym other.candidates)

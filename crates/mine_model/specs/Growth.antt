@@ -7,7 +7,8 @@ use Rattle.mine_model.specs.Support.{Sequence}
 use Rattle.mine_model.specs.Answer.{Data}
 use Rattle.mine_model.specs.Candidates.{IsFrequentItem}
 
--- the sequences that have the property weigh n or more together
+-- the sequences that have the property weigh n or more together; no other sequence has to be known not to
+-- have it
 abbrev pub WeighAtLeast : {A : Type 0} → (List A → Type 0) → List (Sequence A) → ℕ → Type 0
 WeighAtLeast Has [] n = n ≡ 0
 WeighAtLeast Has (sequence ∷ sequences) n =

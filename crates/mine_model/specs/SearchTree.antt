@@ -1,11 +1,15 @@
 -- The tree that a search by prefixes walks. Bounds and pivots are from the article on pivots; labels are own.
-use Rattle.std.specs.Prelude.{◌≡◌, ℕ, zero, suc, ◌≤◌, ◌<◌, ◌⊎◌, ◌↔◌, Option, Some, None, IfSome, List, [], ◌∷◌, ◌++◌, map, length, AllPairs, Contains}
-use Rattle.std.specs.List.{AllByRecursion}
+use Rattle.std.specs.Prelude.{◌≡◌, ℕ, zero, suc, ◌-◌, ◌≤◌, ◌<◌, ◌⊎◌, ◌↔◌, Option, Some, None, IfSome, List, [], ◌∷◌, ◌++◌, map, length, AllPairs, Contains}
+use Rattle.std.specs.List.{AllByRecursion, slice_index_or}
 use Rattle.mine_model.specs.declared.item.Item.{Item}
 use Rattle.mine_model.specs.declared.row.Row.{Row}
 use Rattle.mine_model.specs.Answer.{Data, IsFrequent}
 use Rattle.mine_model.specs.Growth.{IsAlive}
 use Rattle.mine_model.specs.Ranks.{HasRank, AreRanked}
+
+-- the item with the rank
+abbrev pub item_of_rank : List Item → ℕ → Item
+item_of_rank order rank = slice_index_or order (rank - 1) (record { 0 = 0 })
 
 -- the item has a rank up to the top
 abbrev pub IsRankedUpTo : List Item → ℕ → Item → Type 0
@@ -69,9 +73,12 @@ pub record SearchTree : Type 0 where
   pub kids : List ℕ → List (List ℕ)
   pub row : List ℕ → Option Row
 
--- the tree of the search by these pivots, where 0 alone stands for a search without pivots
+-- the tree of the search by these pivots, where 0 alone stands for a search without pivots; a list with no
+-- pivot is no label
 pub record IsSearchTree (d : Data Item) (order : List Item) (pivots : List ℕ) (tree : SearchTree)
     : Type 0 where
   pub roots : AreRootsOf d order pivots tree.roots
   pub kids : (pivot : ℕ) (ranks : List ℕ) → AreKids d order pivot ranks (tree.kids (label_of pivot ranks))
   pub row : (pivot : ℕ) (ranks : List ℕ) → IsRowOf d order pivot ranks (tree.row (label_of pivot ranks))
+  pub no_kids : tree.kids [] ≡ []
+  pub no_row : tree.row [] ≡ None

@@ -4,6 +4,7 @@ ghost use Rattle.std.specs.Prelude.{◌≡◌, ℕ, List};
 ghost use Rattle.mine_model.specs.Answer.{Data, NamedRow, IsAnswer};
 ghost use Rattle.mine_model.specs.Counted.{IsCountingWork};
 ghost use Rattle.mine_model.specs.Support.{HasSupport};
+ghost use Rattle.mine_model.specs.Growth.{IsSearchWork};
 ghost use Rattle.mine_model.specs.Expression.{Tree};
 ghost use Rattle.mine_model.specs.Tokens.{Placed, AreTokens};
 ghost use Rattle.mine_model.specs.Grammar.{Part, Use, Reads, ReadsAs};
@@ -28,6 +29,12 @@ pub fn at_most_one_support()
 pub fn at_most_one_work()
     ensures { (data_of_run : Data (List ℕ)) (first second : Work)
         → IsCountingWork data_of_run first → IsCountingWork data_of_run second → first ≡ second }
+{}
+
+/// At most one work is that of a search by prefixes on the data of a run.
+pub fn at_most_one_search_work()
+    ensures { (data_of_run : Data (List ℕ)) (first second : Work)
+        → IsSearchWork data_of_run first → IsSearchWork data_of_run second → first ≡ second }
 {}
 
 /// Tokens read as at most one tree.

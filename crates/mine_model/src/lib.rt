@@ -19,6 +19,7 @@ mod names_fault;
 mod patex_fault;
 mod ranks;
 mod row;
+mod search_laws;
 mod sequence_fault;
 mod write_fault;
 
@@ -36,7 +37,8 @@ pub use item::{Item, Name, Pattern};
 pub use label::{Grown, Label};
 pub use laws::{
     at_most_one_answer, at_most_one_expression_refusal, at_most_one_list_of_tokens,
-    at_most_one_reading, at_most_one_support, at_most_one_tree, at_most_one_work,
+    at_most_one_reading, at_most_one_search_work, at_most_one_support, at_most_one_tree,
+    at_most_one_work,
 };
 pub use memory::NoMemory;
 pub use mined::{Mined, Work};
@@ -44,5 +46,9 @@ pub use names_fault::NamesFault;
 pub use patex_fault::PatexFault;
 pub use ranks::Ranks;
 pub use row::Row;
+pub use search_laws::{
+    at_most_one_search_tree, prefixes_of_alive_prefixes_are_alive,
+    rows_of_the_search_tree_are_the_frequent_patterns, search_tree_has_a_cover,
+};
 pub use sequence_fault::SequenceFault;
 pub use write_fault::WriteFault;

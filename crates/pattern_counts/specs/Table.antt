@@ -1,5 +1,5 @@
 -- How a table finds the number of a list: from the home of its hash on, round all slots, up to a free one.
-use Rattle.std.specs.Prelude.{◌≡◌, ℕ, ◌+◌, ◌-◌, ◌<◌, ◌≤◌, ◌⊎◌, min, List, length, slice_index_or, bit_and}
+use Rattle.std.specs.Prelude.{◌≡◌, ℕ, ◌+◌, ◌-◌, ◌<◌, ◌≤◌, min, List, length, slice_index_or, bit_and}
 use Rattle.std.specs.List.{sum_by}
 use Rattle.mine_model.specs.Slots.{IsMet}
 use Rattle.pattern_counts.specs.declared.table.Slot.{Slot}

@@ -34,11 +34,11 @@ GeneratesWithin part ranks items =
 abbrev pub CanFollow : GridList → List ℕ → ℕ → ℕ → Type 0
 CanFollow part ranks rank weight = Counts (GrowsBehind part (ranks ++ rank ∷ [])) (sequences_of part) weight
 
--- exactly the ranks that can follow the prefix in sequences that weigh at least so much, rising, each with the
--- weight of these sequences
+-- exactly the ranks that can follow the prefix in sequences that weigh at least so much, rising, each with
+-- the weight of these sequences
 pub record AreNextRanks (part : GridList) (ranks : List ℕ) (least : ℕ) (found : List NextRank) : Type 0 where
   pub rising : AllPairs (λ low high. low.rank < high.rank) found
   pub right : (next : NextRank) → Contains found next
-      → (least ≤ next.support) × CanFollow part ranks next.rank next.support
+      → (least ≤ next.weight) × CanFollow part ranks next.rank next.weight
   pub all : (rank : ℕ) → WeighAtLeast (GrowsBehind part (ranks ++ rank ∷ [])) (sequences_of part) least
       → (next : NextRank) × Contains found next × (next.rank ≡ rank)

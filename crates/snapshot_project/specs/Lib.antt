@@ -2,3 +2,14 @@
 pub mod Runs
 pub mod Snapshots
 pub mod Extensions
+-- what the proofs keep
+pub mod Live
+pub mod Parts
+pub mod Aims
+pub mod Hits
+pub mod Joins
+pub mod Walks
+pub mod Groups
+pub mod Sums
+pub mod Files
+pub mod Ends

@@ -66,9 +66,10 @@ pub record AreSnapshots (part : GridList) (ranks : List ℕ) (list : SnapshotLis
   pub rising : AllPairs ComesBefore list.snapshots
   pub exact : (snapshot : Snapshot) → Contains list.snapshots snapshot ↔ IsSnapshotOf part prefix snapshot
 
--- a part's sequences rise, and are sequences of its problem
+-- a part's sequences rise, and are sequences of its problem; the ranks up to its top have items
 pub record IsPart (part : GridList) : Type 0 where
   pub whole : IsWhole part.problem
+  pub top : part.bound.top ≤ length part.problem.ranking.order
   pub rising : AllPairs (λ low high. low < high) part.sequences
   pub within : AllByRecursion (λ i. i < length part.problem.sequences) part.sequences
 

@@ -3,6 +3,6 @@
 #[derive(Clone, Copy, Debug, PartialEq, Eq)]
 pub struct NextRank {
     pub rank: u32,
-    pub support: u64,
+    pub weight: u64,
     pub snapshots: usize,
 }

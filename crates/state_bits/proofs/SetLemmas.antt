@@ -4,7 +4,7 @@ use Rattle.std.proofs.Math.ListN.{length-set}
 use Rattle.std.proofs.lemmas.Nat.{or_lt, and_le_l}
 use Rattle.std.proofs.lemmas.Nat.Bits.{bit_at-lt, bit_at_or, bit_at_and, bit_at_set_same, bit_at_set_other}
 use Rattle.std.proofs.lemmas.Bool.{cases_eq}
-use Rattle.state_bits.specs.Members.{Has}
+use Rattle.state_bits.specs.Members.{Has, HasBit}
 use Rattle.state_bits.specs.Words.{joined, AreWords}
 use Rattle.state_bits.proofs.WordLemmas.{Fit, bit_of, bit_from_member, member_from_bit}
 
@@ -86,16 +86,22 @@ Has-or words more both fit more_fit both_fit are r =
       ])),
     )
 
-pub Has-and : (words more both : List ℕ) → Fit words → Fit more → Fit both → ((k : ℕ) → get_or both k 0 ≡ bit_and (get_or words k 0) (get_or more k 0))
-    → (r : ℕ) → Has (joined both) r ↔ (Has (joined words) r × Has (joined more) r)
-Has-and words more both fit more_fit both_fit are r =
+pub Has-and_bits : (words more both : List ℕ) → Fit words → Fit both → ((k : ℕ) → get_or both k 0 ≡ bit_and (get_or words k 0) (get_or more k 0))
+    → (r : ℕ) → Has (joined both) r ↔ (Has (joined words) r × HasBit more r)
+Has-and_bits words more both fit both_fit are r =
     let bits : bit_of both r ≡ min (bit_of words r) (bit_of more r) = rw (are (r / 64)) (bit_at_and (get_or words (r / 64) 0) (get_or more (r / 64) 0) (r % 64)) in
     let small = bit_at-lt (get_or words (r / 64) 0) (r % 64) in
     let more_small = bit_at-lt (get_or more (r / 64) 0) (r % 64) in (
-      (λ has. let one = bit_from_member both r both_fit has in
-          (member_from_bit words r fit (omega arith), member_from_bit more r more_fit (omega arith))),
-      (λ (here, there). member_from_bit both r both_fit
-          (let one = bit_from_member words r fit here in let other_one = bit_from_member more r more_fit there in omega arith)),
+      (λ has. let one = bit_from_member both r both_fit has in (member_from_bit words r fit (omega arith), omega arith)),
+      (λ (here, there). member_from_bit both r both_fit (let one = bit_from_member words r fit here in omega arith)),
+    )
+
+pub Has-and : (words more both : List ℕ) → Fit words → Fit more → Fit both → ((k : ℕ) → get_or both k 0 ≡ bit_and (get_or words k 0) (get_or more k 0))
+    → (r : ℕ) → Has (joined both) r ↔ (Has (joined words) r × Has (joined more) r)
+Has-and words more both fit more_fit both_fit are r =
+    let (from, to) = Has-and_bits words more both fit both_fit are r in (
+      (λ has. let (here, there) = from has in (here, member_from_bit more r more_fit there)),
+      (λ (here, there). to (here, bit_from_member more r more_fit there)),
     )
 
 pub AreWords-or : (width : ℕ) (words more both : List ℕ) → AreWords width words → AreWords width more → length both ≡ length words
@@ -106,9 +112,9 @@ AreWords-or width words more both are more_are long bits = record {
   far_empty = λ k far. rw (bits k, are.far_empty k far, more_are.far_empty k far) refl;
 }
 
-pub AreWords-and : (width : ℕ) (words more both : List ℕ) → AreWords width words → AreWords width more → length both ≡ length words
+pub AreWords-and : (width : ℕ) (words more both : List ℕ) → AreWords width words → length both ≡ length words
     → ((k : ℕ) → get_or both k 0 ≡ bit_and (get_or words k 0) (get_or more k 0)) → AreWords width both
-AreWords-and width words more both are more_are long bits = record {
+AreWords-and width words more both are long bits = record {
   long = long ∙ are.long;
   fit = λ k. omega (arith, bits k, and_le_l (get_or words k 0) (get_or more k 0), are.fit k);
   far_empty = λ k far. rw (bits k, are.far_empty k far) refl;

@@ -5,7 +5,7 @@ ghost use Rattle.std.specs.Cmp.Rules.{comparing};
 ghost use Rattle.std.specs.Hash as fed;
 ghost use Rattle.std.specs.Hash.{same_Alike};
 ghost use Rattle.std.proofs.lemmas.Bool.Decides.{Decides-eqb};
-ghost use Rattle.state_bits.specs.Members.{Has, words_of};
+ghost use Rattle.state_bits.specs.Members.{Has, HasBit, words_of};
 
 use super::state_iter::StateIter;
 use super::words::{are_zero, join_words, keep_words, words_meet};
@@ -88,6 +88,13 @@ impl<const W: usize> StateSet<W> {
         ensures { (r : ℕ) → Has self.new r ↔ (Has self.old r × Has other.now r) }
     {
         keep_words(&mut self.words, &other.words);
+    }
+
+    /// Keeps the members whose bits these words have, the lowest states first.
+    pub fn intersect_with_words(&mut self, words: &[u64])
+        ensures { (r : ℕ) → Has self.new r ↔ (Has self.old r × HasBit words.now r) }
+    {
+        keep_words(&mut self.words, words);
     }
 
     /// Whether the two sets share a member.

@@ -2,7 +2,7 @@ use Rattle.std.proofs.Common.{ℕ, ◌<◌, ◌≤◌, length, arith, rules}
 use Rattle.state_bits.specs.Members.{Has}
 use Rattle.std.proofs.lemmas.Result.{IfOk-weaker}
 use Rattle.fst_compile.proofs.RowLemmas.{Has-none}
-use Rattle.candidate_gen.proofs.SuccessorLemmas.{leads-from, leads-within}
+use Rattle.fst_simulate.proofs.SuccessorLemmas.{leads-from, leads-within}
 use Rattle.candidate_gen.proofs.ItemLemmas.{step-live, step-past, step-idle}
 use Rattle.candidate_gen.proofs.advancing.step.Goals as goal
 
@@ -28,9 +28,9 @@ enter_all-requires g c =
     let room = c.requires.successors.room in
     let small = c.requires.small in
     let position : c.args.position < length c.args.view.now.sequence = omega (arith, c.length.ensures.length, c.if-position-length.false) in
-    let targets : (to : ℕ) → Has c.targets_of-targets.result to → (0 < to) × (to ≤ length c.args.view.now.problem.machine.labels) = λ to has.
+    let targets : (to : ℕ) → Has c.neighbours-targets.result to → (0 < to) × (to ≤ length c.args.view.now.problem.machine.labels) = λ to has.
     leads-within c.args.view.now.problem.machine c.length.ensures.whole.automaton.labelled c.args.live.now to
-    ((leads-from g.row.W c.args.view.now.problem.machine c.args.successors.now c.args.live.now c.targets_of-targets.result c.requires.successors c.requires.states c.targets_of-targets.ensures to).0 has) in
+    ((leads-from g.row.W c.args.view.now.problem.machine c.args.successors.now c.args.live.now c.neighbours-targets.result c.requires.successors c.requires.states c.neighbours-targets.ensures to).0 has) in
     search rules
 
 pub returns-clause-ahead : goal.returns-clause-ahead
@@ -38,7 +38,7 @@ returns-clause-ahead g c =
     let inside : c.args.position < length c.args.view.now.sequence = omega (arith, c.length.ensures.length, c.if-position-length.false) in
     IfOk-weaker c.enter_all.result _ _
     (λ after entered. step-live c.args.view.now c.args.position inside c.length.ensures.whole.automaton.labelled c.args.found.now.items c.enter_all.new.found.items
-    c.args.live.now c.targets_of-targets.result after
-    (leads-from g.row.W c.args.view.now.problem.machine c.args.successors.now c.args.live.now c.targets_of-targets.result c.requires.successors c.requires.states c.targets_of-targets.ensures)
+    c.args.live.now c.neighbours-targets.result after
+    (leads-from g.row.W c.args.view.now.problem.machine c.args.successors.now c.args.live.now c.neighbours-targets.result c.requires.successors c.requires.states c.neighbours-targets.ensures)
     entered)
     c.enter_all.ensures.ahead

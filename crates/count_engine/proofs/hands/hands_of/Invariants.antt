@@ -1,6 +1,6 @@
 use Rattle.std.proofs.Common.{◌≡◌, ◌++◌, length}
 use Rattle.std.specs.Vec.Iter.{into_iter_items, into_iter_len}
-use Rattle.count_engine.specs.Shares.{AreHandsOf}
+use Rattle.count_engine.specs.Hands.{AreHandsOf}
 use Rattle.count_engine.proofs.hands.hands_of.Given as goal
 
 abbrev pub invariant-lists : goal.invariant-lists

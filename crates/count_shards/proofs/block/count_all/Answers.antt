@@ -5,7 +5,7 @@ use Rattle.mine_model.specs.Counted.{told_of}
 use Rattle.mine_model.specs.Database.{IsWithinLimits, sequence_at}
 use Rattle.mine_model.specs.Support.{Sequence}
 use Rattle.candidate_gen.specs.Candidates.{AreCandidateRanks}
-use Rattle.count_shards.specs.Blocks.{home_of}
+use Rattle.count_shards.specs.Blocks.{block_size, home_of}
 use Rattle.count_shards.specs.Tallied.{AddsEach, AreTallied, ArePairs}
 use Rattle.count_shards.proofs.PairLemmas.{each_once, candidates_listed, pairs_more}
 use Rattle.count_shards.proofs.TalliedLemmas.{sequences_between, between_more, between_block, tallied_more, tallied_most}
@@ -17,9 +17,9 @@ add_each-requires-clause-each_once c = each_once c.fill.new.self.listed c.in_ok-
 pub add_each-requires-clause-room : goal.add_each-requires-clause-room
 add_each-requires-clause-room c = λ list.
     let problem = c.args.job.now in
-    let first = 256 * c.args.block in
+    let first = block_size * c.args.block in
     let n = c.loop-number.number in
-    let end : c.min-end.result ≡ min c.sequences-count.result (first + 256) = c.min-end.ensures in
+    let end : c.min-end.result ≡ min c.sequences-count.result (first + block_size) = c.min-end.ensures in
     let whole : length c.db-db.result.now ≡ length problem.sequences = ap length c.db-db.ensures.sequences in
     let limits : All IsWithinLimits problem.sequences = rw c.db-db.ensures.sequences at c.sequences-count.ensures.limits in
     let most = tallied_most problem first n c.loop-number.homes.items limits (omega arith) (omega arith) c.loop-number.invariant.tallied (home_of list) list in
@@ -28,7 +28,7 @@ add_each-requires-clause-room c = λ list.
 pub loop-number-preserved : goal.loop-number-preserved
 loop-number-preserved c =
     let problem = c.args.job.now in
-    let first = 256 * c.args.block in
+    let first = block_size * c.args.block in
     let n = c.loop-number.number in
     let listed = c.fill.new.self.listed in
     let done = sequences_between problem.sequences first n in
@@ -51,12 +51,12 @@ loop-number-preserved c =
 pub returns-clause-counted : goal.returns-clause-counted
 returns-clause-counted c =
     let problem = c.args.job.now in
-    let first = 256 * c.args.block in
+    let first = block_size * c.args.block in
     let n = c.loop-number.number in
     let whole : length c.db-db.result.now ≡ length problem.sequences = ap length c.db-db.ensures.sequences in
     let limits : All IsWithinLimits problem.sequences = rw c.db-db.ensures.sequences at c.sequences-count.ensures.limits in
-    let end : n ≡ min (length problem.sequences) (first + 256) =
-    omega (arith, c.loop-number-test.false, c.min-end.ensures, c.sequences-count.ensures.count, whole, c.requires.block) ∙ c.min-end.ensures ∙ ap (λ k. min k (first + 256)) (c.sequences-count.ensures.count ∙ whole) in
+    let end : n ≡ min (length problem.sequences) (first + block_size) =
+    omega (arith, c.loop-number-test.false, c.min-end.ensures, c.sequences-count.ensures.count, whole, c.requires.block) ∙ c.min-end.ensures ∙ ap (λ k. min k (first + block_size)) (c.sequences-count.ensures.count ∙ whole) in
     let all = between_block problem c.args.block first n refl (omega (arith, c.requires.block)) end in
     record {
       tallied = subst (λ done. AreTallied problem done c.loop-number.homes.items) all c.loop-number.invariant.tallied;

@@ -2,7 +2,7 @@ use Rattle.std.proofs.Common.{◌≡◌, [], Some, get_or, arith}
 use Rattle.std.specs.List.{slice_get}
 use Rattle.std.proofs.lemmas.Option.{slice_get-get_or}
 use Rattle.mine_model.specs.declared.row.Row.{Row}
-use Rattle.count_shards.proofs.RowLemmas.{IsRowOf, rows_begin, rows_skip, rows_push, rows_end}
+use Rattle.count_shards.proofs.RowLemmas.{IsRowAt, rows_begin, rows_skip, rows_push, rows_end}
 use Rattle.count_shards.proofs.rows.append_rows.Goals as goal
 
 pub loop-number-init : goal.loop-number-init
@@ -22,7 +22,7 @@ loop-number-preserved c =
     let list = c.list.result.now in
     let sum = c.sum-sum.result in
     let row : Row = record { pattern = c.in_ok-pattern.pattern; support = sum } in
-    let is : IsRowOf c.args.counts.now c.args.ranks.now.order c.args.support c.loop-number.number row = record {
+    let is : IsRowAt c.args.counts.now c.args.ranks.now.order c.args.support c.loop-number.number row = record {
       list = list;
       at = c.list.ensures;
       ranked = c.in_ok-pattern.ensures;

@@ -3,7 +3,7 @@ use Rattle.std.proofs.lemmas.List.{append-nil}
 use Rattle.fst_simulate.specs.declared.kinds.Kind.{Kind}
 use Rattle.fst_simulate.specs.Grids.{Reads}
 use Rattle.fst_simulate.specs.Tables.{IsClassOf}
-use Rattle.fst_simulate.specs.Kinds.{Goes, Needs, AreKinds}
+use Rattle.fst_simulate.specs.Kinds.{Writes, Needs, AreKinds}
 use Rattle.mine_model.proofs.ElementLemmas.{stands_last}
 use Rattle.fst_simulate.proofs.KindLemmas.{AreKinds-grow, AreKinds-more, Extends-nothing, KindsGrow-nothing, entered_below, IsClassFor-of, IsKind-of}
 use Rattle.fst_simulate.proofs.kinds.kind_of.Goals as goal
@@ -18,10 +18,10 @@ class_number-requires-clause-silent c =
     rw c.as_slice.ensures.value (entered_below (λ k. Reads c.args.job.now c.args.t k []) c.push_outputs.new.scratch.silent.items (length c.args.job.now.machine.labels + 1)
     (length c.args.tables.now.predecessors) c.in_ok-push_outputs.ensures.entered.silent_are (sym c.requires.states))
 
-pub class_number-requires-clause-goes : goal.class_number-requires-clause-goes
-class_number-requires-clause-goes c =
-    rw c.as_slice-2.ensures.value (entered_below (λ k. Goes c.args.job.now c.args.bound c.args.t k) c.push_outputs.new.scratch.goes.items (length c.args.job.now.machine.labels + 1)
-    (length c.args.tables.now.predecessors) c.in_ok-push_outputs.ensures.entered.goes_are (sym c.requires.states))
+pub class_number-requires-clause-writes : goal.class_number-requires-clause-writes
+class_number-requires-clause-writes c =
+    rw c.as_slice-2.ensures.value (entered_below (λ k. Writes c.args.job.now c.args.bound c.args.t k) c.push_outputs.new.scratch.writes.items (length c.args.job.now.machine.labels + 1)
+    (length c.args.tables.now.predecessors) c.in_ok-push_outputs.ensures.entered.writes_are (sym c.requires.states))
 
 pub class_number-requires-clause-needs : goal.class_number-requires-clause-needs
 class_number-requires-clause-needs c =
@@ -46,7 +46,7 @@ returns-in_err-push-clause-kinds c =
 pub returns-clause-kind : goal.returns-clause-kind
 returns-clause-kind c =
     let (class, found, are) = c.in_ok-class.ensures.class in
-    let of : IsClassOf class c.push_outputs.new.scratch.silent.items c.push_outputs.new.scratch.goes.items c.push_outputs.new.scratch.needs.items =
+    let of : IsClassOf class c.push_outputs.new.scratch.silent.items c.push_outputs.new.scratch.writes.items c.push_outputs.new.scratch.needs.items =
     rw (c.as_slice.ensures.value, c.as_slice-2.ensures.value, c.as_slice-3.ensures.value) at are in
     let number : c.in_ok-number.number ≡ length c.args.kinds.now.kinds.items = omega (arith, c.in_ok-number.ensures, c.len.ensures) in
     let base : c.len-base.result ≡ length c.args.kinds.now.ends.items = omega (arith, c.len-base.ensures) in
@@ -55,7 +55,7 @@ returns-clause-kind c =
       (rw c.in_ok-push.ensures.items (stands_last c.args.kinds.now.kinds.items kind c.in_ok-number.number number)),
       IsKind-of c.args.job.now c.args.bound c.class_number.new.self.classes c.push_outputs.new.ends.items c.push_outputs.new.ranks.items c.args.t kind (length c.args.kinds.now.ends.items) base
           c.in_ok-push_outputs.ensures.row class found
-          (IsClassFor-of c.args.job.now c.args.bound c.args.t class c.push_outputs.new.scratch.silent.items c.push_outputs.new.scratch.goes.items c.push_outputs.new.scratch.needs.items of
+          (IsClassFor-of c.args.job.now c.args.bound c.args.t class c.push_outputs.new.scratch.silent.items c.push_outputs.new.scratch.writes.items c.push_outputs.new.scratch.needs.items of
           c.in_ok-push_outputs.ensures.entered),
     )
 

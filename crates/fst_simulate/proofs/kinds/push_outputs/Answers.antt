@@ -22,4 +22,4 @@ pub returns-clause-entered : goal.returns-clause-entered
 returns-clause-entered c =
     let states : c.states-k-end.result ≡ length c.args.job.now.machine.labels + 1 = c.states-k-end.ensures.states ∙ ap (λ (m : Transducer). length m.labels + 1) c.fst.ensures.machine in
     let last : c.loop-k.k ≡ length c.args.job.now.machine.labels + 1 = omega (arith, states, c.loop-k-test.false, c.loop-k.auto.k-end) in
-    subst (λ (count : ℕ). AreEntered c.args.job.now c.args.bound c.args.t count c.loop-k.scratch.silent.items c.loop-k.scratch.goes.items c.loop-k.scratch.needs.items) last c.loop-k.invariant.entered
+    subst (λ (count : ℕ). AreEntered c.args.job.now c.args.bound c.args.t count c.loop-k.scratch.silent.items c.loop-k.scratch.writes.items c.loop-k.scratch.needs.items) last c.loop-k.invariant.entered

@@ -7,5 +7,5 @@ invariant-loop-k l = record {
   ends : Extends l.fn.ends.items l.ends.items;
   ranks : Extends l.fn.ranks.items l.ranks.items;
   row : IsRow l.job l.bound l.t (length l.fn.ends.items) l.ends.items l.ranks.items l.k;
-  entered : AreEntered l.job l.bound l.t l.k l.scratch.silent.items l.scratch.goes.items l.scratch.needs.items;
+  entered : AreEntered l.job l.bound l.t l.k l.scratch.silent.items l.scratch.writes.items l.scratch.needs.items;
 }

@@ -16,11 +16,11 @@ loop-item-preserved c =
     elim c.match-rank.branch [
       | in-Some+then-rank-top+in_ok-push w ↦ rw (w.found-is, w.in_ok-push.ensures.items)
           (ArePushedSoFar-push c.args.ranks.now.order c.args.top c.args.items.now c.loop-item.found.items c.loop-item.item-index item c.loop-item.invariant c.loop-item-test.true same_item
-          c.requires.once w.in-Some.rank w.in-Some.ensures.rank w.if-rank-top.true)
+          c.requires.ranked c.requires.rising w.in-Some.rank w.in-Some.ensures.rank w.if-rank-top.true)
       | in-Some+else-rank-top w ↦ rw w.found-is
           (ArePushedSoFar-skip c.args.ranks.now.order c.args.top c.args.items.now c.loop-item.found.items c.loop-item.item-index item c.loop-item.invariant c.loop-item-test.true same_item
           (λ rank has low.
-          let same : rank ≡ w.in-Some.rank = rank_unique c.args.ranks.now.order item rank w.in-Some.rank c.requires.once has w.in-Some.ensures.rank in
+          let same : rank ≡ w.in-Some.rank = rank_unique c.args.ranks.now.order item rank w.in-Some.rank c.requires.ranked has w.in-Some.ensures.rank in
           let high = w.if-rank-top.false in
           omega arith))
       | in_default w ↦ rw w.found-is
@@ -28,5 +28,8 @@ loop-item-preserved c =
           (λ rank has low. w.in_default.ensures.none.0 refl (HasRank-held c.args.ranks.now.order item rank has)))
     ]
 
-pub returns : goal.returns
-returns c = ArePushedSoFar-all c.args.ranks.now.order c.args.top c.args.items.now c.loop-item.found.items c.loop-item.item-index c.loop-item.invariant c.loop-item-test.false
+pub returns-clause-ranks : goal.returns-clause-ranks
+returns-clause-ranks c = ArePushedSoFar-all c.args.ranks.now.order c.args.top c.args.items.now c.loop-item.found.items c.loop-item.item-index c.loop-item.invariant c.loop-item-test.false
+
+pub returns-clause-once : goal.returns-clause-once
+returns-clause-once c = c.loop-item.invariant.once

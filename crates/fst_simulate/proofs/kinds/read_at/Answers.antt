@@ -59,4 +59,4 @@ returns-clause-found c =
     captured_writes c.args.job.now c.args.bound c.args.t c.args.k c.leaf-leaf.result label c.outputs.new.out.items c.push_ranks.new.found.items
     (subst (λ (h : Ancestry). (v : Item) → Contains c.outputs.new.out.items v ↔ (Matches h.links (leaf_of c.leaf-leaf.result) c.args.t × MayWrite h.links (leaf_of c.leaf-leaf.result) c.args.t v))
     c.hierarchy.ensures.hierarchy c.in_ok-matches.ensures.outputs)
-    (rw (c.as_slice.ensures.value, c.ranks.ensures.ranking) at c.in_ok-push_ranks.ensures)
+    (rw (c.as_slice.ensures.value, c.ranks.ensures.ranking) at c.in_ok-push_ranks.ensures.ranks)

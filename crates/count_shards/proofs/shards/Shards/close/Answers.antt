@@ -1,6 +1,8 @@
 use Rattle.std.proofs.Common.{◌≡◌, ◌<◌, ◌+◌, ◌∷◌, [], ◌++◌, ℕ, Some, slice_get, get_or, length, length-append, ap, sym, subst, ◌∙◌, arith}
 use Rattle.fst_simulate.specs.Problems.{Problem}
-use Rattle.count_shards.specs.Shards.{AppendsHome, AreRowsFrom, column}
+use Rattle.count_shards.specs.Blocks.{home_count}
+use Rattle.count_shards.specs.Rows.{Appends, IsRowOf, AreRowsFrom}
+use Rattle.count_shards.specs.Shards.{column}
 use Rattle.count_shards.proofs.Lists.{get_popped, get_before}
 use Rattle.count_shards.proofs.PassLemmas.{back_passes, back_blocks, lists_width}
 use Rattle.count_shards.proofs.HomeRows.{rows_more, frequent_rows, rows_within}
@@ -37,7 +39,7 @@ append_rows-requires-clause-all c =
     let popped : c.locks.lists.items ≡ c.pop-in-Some.new.self.items ++ passes ∷ [] = rw c.unwrap-passes.ensures at c.pop-in-Some.ensures.items in
     let place : length c.pop-in-Some.new.self.items ≡ home = omega (arith, c.locks.invariant.count, ap length popped, length-append c.pop-in-Some.new.self.items (passes ∷ []), ap length c.in-Some.ensures.items, length-append rest (lock ∷ [])) in
     let is : passes.items ≡ column home c.args.passes.items = c.locks.invariant.columns home passes (subst (λ (k : ℕ). slice_get c.locks.lists.items k ≡ Some passes) place (get_popped c.locks.lists.items c.pop-in-Some.new.self.items passes popped)) in
-    let within : home < 16 = omega (arith, c.locks.invariant.few, ap length c.in-Some.ensures.items, length-append rest (lock ∷ [])) in
+    let within : home < home_count = omega (arith, c.locks.invariant.few, ap length c.in-Some.ensures.items, length-append rest (lock ∷ [])) in
     back_blocks c.args.job.now c.args.passes.items home c.close-shard.result.added within c.requires.each_once (rw is at c.close-shard.ensures.counts)
 
 pub locks-preserved : goal.locks-preserved
@@ -52,7 +54,7 @@ locks-preserved c =
     let popped : c.locks.lists.items ≡ left ++ passes ∷ [] = rw c.unwrap-passes.ensures at c.pop-in-Some.ensures.items in
     let long : length c.locks.locks.items ≡ home + 1 = ap length c.in-Some.ensures.items ∙ length-append rest (lock ∷ []) in
     let same : c.close-shard.result.home ≡ home = ap (λ (g : Problem × ℕ). g.1) c.close-shard.ensures.stays ∙ (c.requires.shards.each home lock at).1 in
-    let appends : AppendsHome problem home c.locks.rows.items c.append_rows.new.rows.items = subst (λ (h : ℕ). AppendsHome problem h c.locks.rows.items c.append_rows.new.rows.items) same c.in_ok-append_rows.ensures in
+    let appends : Appends (IsRowOf problem home) c.locks.rows.items c.append_rows.new.rows.items = subst (λ (h : ℕ). Appends (IsRowOf problem h) c.locks.rows.items c.append_rows.new.rows.items) same c.in_ok-append_rows.ensures in
     record {
       locks = λ k l there. c.locks.invariant.locks k l (get_before c.locks.locks.items rest lock c.in-Some.ensures.items k l there);
       few = omega (arith, c.locks.invariant.few, long);

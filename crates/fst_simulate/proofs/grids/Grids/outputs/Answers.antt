@@ -17,8 +17,15 @@ outputs_of-requires-clause-cell c =
     HasCell-of c.args.self.now.problem c.args.self.now.bound c.self.inside.tables c.self.inside.kinds t c.place_of-place.result.kind c.args.k.0
     ((is_place (goal.at.outputs_of-requires-clause-cell c).After-place_of-place).kind t there) (c.requires.start, c.requires.state)
 
-pub returns : goal.returns
-returns c t rank there =
-    let (kind, found, is) = (is_place (goal.at.returns c).After-place_of-place).kind t there in
+pub returns-clause-ranks : goal.returns-clause-ranks
+returns-clause-ranks c t rank there =
+    let (kind, found, is) = (is_place (goal.at.returns-clause-ranks c).After-place_of-place).kind t there in
     let cell = is.cells c.args.k.0 (c.requires.start, c.requires.state) in
     rw (c.outputs_of.ensures kind found) (cell.outputs rank)
+
+pub returns-clause-once : goal.returns-clause-once
+returns-clause-once c =
+    let (t, there) = item_there (items_at c.args.self.now c.args.grid) c.args.pos c.requires.pos in
+    let (kind, found, is) = (is_place (goal.at.returns-clause-once c).After-place_of-place).kind t there in
+    let cell = is.cells c.args.k.0 (c.requires.start, c.requires.state) in
+    rw (c.outputs_of.ensures kind found) cell.once

@@ -26,7 +26,7 @@ before-before-requires g c =
     let below : AreBelow (length c.self.inside.predecessors.items) (class_sets {W = g.row.W} c.index-as_slice-class.result) = c.self.invariant.below c.args.class (class_sets {W = g.row.W} c.index-as_slice-class.result) (class_there g c) in
     let same : length c.as_slice.result.now ≡ length c.self.inside.predecessors.items = ap length c.as_slice.ensures.value in
     let silent : (k : ℕ) → Has c.index-as_slice-class.result.silent k → k < length c.as_slice.result.now = λ k has. (let h = below.silent k has in omega arith) in
-    let goes : (k : ℕ) → Has c.index-as_slice-class.result.goes k → k < length c.as_slice.result.now = λ k has. (let h = below.goes k has in omega arith) in
+    let writes : (k : ℕ) → Has c.index-as_slice-class.result.writes k → k < length c.as_slice.result.now = λ k has. (let h = below.writes k has in omega arith) in
     let needs : (k : ℕ) → Has c.index-as_slice-class.result.needs k → k < length c.as_slice.result.now = λ k has. (let h = below.needs k has in omega arith) in
     let width = c.requires.width in
     search rules

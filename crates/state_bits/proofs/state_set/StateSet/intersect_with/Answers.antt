@@ -3,10 +3,10 @@ use Rattle.state_bits.proofs.SetLemmas.{AreWords-and, Has-and}
 use Rattle.state_bits.proofs.state_set.StateSet.intersect_with.Goals as goal
 
 pub invariant_of-self : goal.invariant_of-self
-invariant_of-self g c = AreWords-and g.row.W c.self.inside.words c.other.inside.words c.keep_words.new.words c.self.invariant c.other.invariant (omega arith) c.keep_words.ensures
+invariant_of-self g c = AreWords-and g.row.W c.self.inside.words c.other.inside.words c.keep_words.new.words c.self.invariant (omega arith) c.keep_words.ensures
 
 pub returns : goal.returns
 returns g c =
-    let after = AreWords-and g.row.W c.self.inside.words c.other.inside.words c.keep_words.new.words c.self.invariant c.other.invariant (omega arith) c.keep_words.ensures in
+    let after = AreWords-and g.row.W c.self.inside.words c.other.inside.words c.keep_words.new.words c.self.invariant (omega arith) c.keep_words.ensures in
     rw (← c.self.view_is, ← c.other.view_is)
     (Has-and c.self.inside.words c.other.inside.words c.keep_words.new.words c.self.invariant.fit c.other.invariant.fit after.fit c.keep_words.ensures)

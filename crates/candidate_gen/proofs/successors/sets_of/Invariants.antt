@@ -1,5 +1,0 @@
-use Rattle.candidate_gen.proofs.SuccessorLemmas.{AreFirst}
-use Rattle.candidate_gen.proofs.successors.sets_of.Given as goal
-
-abbrev pub invariant-loop-state : goal.invariant-loop-state
-invariant-loop-state g l = AreFirst l.fst l.sets.items l.state

@@ -1,0 +1,42 @@
+-- What each worker is given and what it gives back.
+use Rattle.std.specs.Prelude.{◌≡◌, ℕ, ◌<◌, List, [], length, slice_get, Some, Result, Ok, Err, All}
+use Rattle.std.specs.declared.alloc.Global.{Global}
+use Rattle.std.specs.declared.vec.Vec.{Vec}
+use Rattle.mine_model.specs.declared.memory.NoMemory.{NoMemory}
+use Rattle.mine_model.specs.Counted.{IsTold}
+use Rattle.fst_simulate.specs.Problems.{Problem}
+use Rattle.turn_lock.specs.Passes.{made}
+use Rattle.count_shards.specs.declared.shards.Shards.{Shards}
+use Rattle.count_shards.specs.Blocks.{block_count}
+use Rattle.count_shards.specs.Shards.{ShardPass, PassLists, ArePassesOf}
+use Rattle.count_engine.specs.declared.hands.Hand.{Hand}
+use Rattle.count_engine.specs.declared.hands.Done.{Done}
+use Rattle.count_engine.specs.Shares.{share_of, made_by, HasBlockPairs}
+
+-- a worker of so many begins with one pass of each shard, and they made nothing
+pub record IsHandOf (shards : Shards) (workers : ℕ) (hand : Hand) : Type 0 where
+  pub worker : hand.worker < workers
+  pub passes : ArePassesOf shards hand.passes.items
+  pub fresh : All (λ pass. made pass ≡ []) hand.passes.items
+
+-- the worker gives its passes back, which added the blocks of its share in order, and the pairs of its share
+pub record IsDone (problem : Problem) (shards : Shards) (workers worker : ℕ) (done : Done) : Type 0 where
+  pub passes : ArePassesOf shards done.passes.items
+  pub made : All (λ pass. made pass ≡ made_by problem worker workers) done.passes.items
+  pub pairs : IsTold (HasBlockPairs problem (share_of worker workers (block_count problem))) done.pairs
+
+-- each hand has its place as the number of its worker, and the list of passes at that place
+pub record AreHandsOf (lists : PassLists) (hands : List Hand) : Type 0 where
+  pub all : length hands ≡ length lists
+  pub each : (k : ℕ) (hand : Hand) → slice_get hands k ≡ Some hand
+      → (hand.worker ≡ k) × (slice_get lists k ≡ Some hand.passes)
+
+-- each list of passes was given back, at its place
+pub record AreListsOf (results : List (Result Done NoMemory)) (lists : PassLists) : Type 0 where
+  pub all : length lists ≡ length results
+  pub each : (k : ℕ) (list : Vec ShardPass Global) → slice_get lists k ≡ Some list
+      → (done : Done) × (slice_get results k ≡ Some (Ok done)) × (done.passes ≡ list)
+
+abbrev pub pairs_told : Result Done NoMemory → ℕ
+pairs_told (Ok done) = done.pairs
+pairs_told (Err refused) = 0

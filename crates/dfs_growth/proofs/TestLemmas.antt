@@ -1,0 +1,186 @@
+-- The tests say what the words say of items and of ranks.
+use Rattle.std.proofs.Common.{◌≡◌, ◌≢◌, ◌⊎◌, ℕ, zero, suc, ◌+◌, ◌-◌, ◌≤◌, ◌<◌, ◌==◌, inl, inr, Bool, true, ◌&&◌, ◌||◌, List, [], ◌∷◌, ◌++◌, length, refl, sym, ap, ◌∙◌, subst, arith, leb}
+use Rattle.std.specs.Bool.{Decides}
+use Rattle.std.specs.List.{AllByRecursion, AllPairs, Contains, list_any, list_all, range_with_len}
+use Rattle.std.proofs.lemmas.Bool.{and_parts, and_from, or_cases, or_left, or_right, false≢true, eqb-true, eq-eqb, leb-true, le-leb}
+use Rattle.std.proofs.lemmas.Bool.Decides.{Decides-eqb, Decides-like, Decides-not, Decides-and, Decides-or}
+use Rattle.std.proofs.lemmas.List.Folds.{Any-from_list_any, list_any-from_Any}
+use Rattle.std.proofs.lemmas.List.FromFn.{length-range_with_len, get_or-range_with_len}
+use Rattle.mine_model.specs.declared.item.Item.{Item}
+use Rattle.mine_model.specs.Hierarchy.{Link, IsWalk, IsAncestor}
+use Rattle.mine_model.specs.Expression.{Leaf, under, exact, climb, forced, any, any_climb, not_under, not_exact}
+use Rattle.mine_model.specs.Generation.{Matches, MayWrite}
+use Rattle.mine_model.specs.Ranks.{HasRank, AreRanked}
+use Rattle.mine_model.specs.SearchTree.{IsRankedUpTo, HoldsRank, IsWithinPivot}
+use Rattle.mine_model.proofs.ListLemmas.{Contains-cases, Contains-first, Contains-other, Contains-none}
+use Rattle.mine_model.proofs.WalkLemmas.{IsAncestor-chain, IsAncestor-more}
+use Rattle.mine_model.proofs.ApartLemmas.{item_eq-Decides}
+use Rattle.mine_model.proofs.RankedLemmas.{item_rank}
+use Rattle.mine_model.proofs.SearchAnswerLemmas.{ranked-within}
+use Rattle.dfs_growth.specs.Tree.{is_above, matches, may_write, begin_with, are_within}
+
+-- Links
+
+module _ {A : Type 0} (links : List (Link A)) (link : Link A) where
+  -- a walk over one more link need not take it more than once
+  taken : (t : A) (steps : List A) (w : A) → IsWalk (link ∷ links) t steps w
+      → IsAncestor links w t ⊎ (IsAncestor links link.child t × IsAncestor links w link.parent)
+  taken t [] w same = inl ([], same)
+  taken t (up ∷ steps) w walk = elim (Contains-cases link links (record { child = t; parent = up }) walk.0) [
+    | inl here ↦
+        let child : t ≡ link.child = ap (λ l. l.child) here in
+        let parent : up ≡ link.parent = ap (λ l. l.parent) here in
+        elim (taken up steps w walk.1) [
+          | inl above ↦ inr (([], child), subst (IsAncestor links w) parent above)
+          | inr again ↦ inr (([], child), again.1)
+        ]
+    | inr there ↦ elim (taken up steps w walk.1) [
+      | inl above ↦ inl (up ∷ above.0, (there, above.1))
+      | inr again ↦ inr ((up ∷ again.0.0, (there, again.0.1)), again.1)
+    ]
+  ]
+
+  more : (other : Link A) → Contains links other → Contains (link ∷ links) other
+  more other held = Contains-other link links other held
+
+  walked : (w t : A) → IsAncestor links w t ⊎ (IsAncestor links link.child t × IsAncestor links w link.parent) → IsAncestor (link ∷ links) w t
+  walked w t (inl above) = IsAncestor-more links (link ∷ links) more w t above
+  walked w t (inr over) =
+      let step : IsAncestor (link ∷ links) link.parent link.child = (link.parent ∷ [], (Contains-first link links, refl)) in
+      IsAncestor-chain (link ∷ links) w link.parent t (IsAncestor-more links (link ∷ links) more w link.parent over.1)
+      (IsAncestor-chain (link ∷ links) link.parent link.child t step (IsAncestor-more links (link ∷ links) more link.child t over.0))
+
+no_links : (w t : Item) → IsAncestor [] w t → t ≡ w
+no_links w t ([], same) = same
+no_links w t (up ∷ steps, walk) = absurd (Contains-none (record { child = t; parent = up }) walk.0)
+
+pub above-Decides : (links : List (Link Item)) (w t : Item) → Decides (is_above links w t) (IsAncestor links w t)
+unfolding is_above
+above-Decides [] w t = Decides-like (t.0 == w.0) (λ same. ([], same)) (no_links w t) (item_eq-Decides t w)
+above-Decides (link ∷ links) w t =
+    Decides-like (is_above links w t || (is_above links link.child t && is_above links w link.parent))
+    (walked links link w t) (λ up. taken links link t up.0 w up.1)
+    (Decides-or (is_above links w t) (is_above links link.child t && is_above links w link.parent) (above-Decides links w t)
+    (Decides-and (is_above links link.child t) (is_above links w link.parent) (above-Decides links link.child t) (above-Decides links w link.parent)))
+
+-- Item expressions
+
+pub matches-Decides : (links : List (Link Item)) (l : Leaf Item) (t : Item) → Decides (matches links l t) (Matches links l t)
+unfolding matches
+matches-Decides links (under w) t = above-Decides links w t
+matches-Decides links (exact w) t = item_eq-Decides t w
+matches-Decides links (climb w) t = above-Decides links w t
+matches-Decides links (forced w) t = above-Decides links w t
+matches-Decides links any t = ((λ e. tt), (λ u. refl))
+matches-Decides links any_climb t = ((λ e. tt), (λ u. refl))
+matches-Decides links (not_under w) t = Decides-not (is_above links w t) (above-Decides links w t)
+matches-Decides links (not_exact w) t = Decides-not (t.0 == w.0) (item_eq-Decides t w)
+
+pub may_write-Decides : (links : List (Link Item)) (l : Leaf Item) (t v : Item) → Decides (may_write links l t v) (MayWrite links l t v)
+unfolding may_write
+may_write-Decides links (under w) t v = item_eq-Decides v t
+may_write-Decides links (exact w) t v = item_eq-Decides v w
+may_write-Decides links (climb w) t v = Decides-and (is_above links v t) (is_above links w v) (above-Decides links v t) (above-Decides links w v)
+may_write-Decides links (forced w) t v = item_eq-Decides v w
+may_write-Decides links any t v = item_eq-Decides v t
+may_write-Decides links any_climb t v = above-Decides links v t
+may_write-Decides links (not_under w) t v = item_eq-Decides v t
+may_write-Decides links (not_exact w) t v = item_eq-Decides v t
+
+-- Lists
+
+pub any-forth : {X : Type 0} (p : X → Bool) (xs : List X) → list_any p xs ≡ true → (x : X) × Contains xs x × (p x ≡ true)
+any-forth p xs passes = let (k, x, below, at, is) = Any-from_list_any p xs passes in (x, (k, below, at), is)
+
+pub any-back : {X : Type 0} (p : X → Bool) (xs : List X) (x : X) → Contains xs x → p x ≡ true → list_any p xs ≡ true
+any-back p xs x (k, below, at) is = list_any-from_Any p xs (k, x, below, at, is)
+
+pub range-forth : (n rank : ℕ) → Contains (range_with_len 1 n) rank → (1 ≤ rank) × (rank ≤ n)
+range-forth n rank (k, below, at) =
+    let short : k < n = omega (arith, below, length-range_with_len 1 n) in
+    let is : 1 + k ≡ rank = sym (get_or-range_with_len 1 n k rank short) ∙ at in
+    (omega (arith, is), omega (arith, is, short))
+
+pub range-back : (n rank : ℕ) → 1 ≤ rank → rank ≤ n → Contains (range_with_len 1 n) rank
+range-back n rank least most =
+    let short : rank - 1 < n = omega (arith, least, most) in
+    let is : 1 + (rank - 1) ≡ rank = omega (arith, least) in
+    (rank - 1, omega (arith, short, length-range_with_len 1 n), get_or-range_with_len 1 n (rank - 1) rank short ∙ is)
+
+pub range-rises : (n : ℕ) → AllPairs (λ low high. low < high) (range_with_len 1 n)
+range-rises n i j d less within =
+    let short : j < n = omega (arith, within, length-range_with_len 1 n) in
+    omega (arith, less, get_or-range_with_len 1 n i d (omega (arith, less, short)), get_or-range_with_len 1 n j d short)
+
+-- Ranks
+
+pub begin_with-Decides : (prefix ranks : List ℕ) → Decides (begin_with prefix ranks) ((others : List ℕ) × (ranks ≡ prefix ++ others))
+unfolding begin_with
+begin_with-Decides [] ranks = ((λ e. (ranks, refl)), (λ is. refl))
+begin_with-Decides (rank ∷ prefix) [] = ((λ e. absurd (false≢true e)), (λ (others, same). absurd (cc)))
+begin_with-Decides (rank ∷ prefix) (other ∷ ranks) =
+    Decides-like (rank == other && begin_with prefix ranks)
+    (λ (first, (others, same)). (others, (λ i. sym first i ∷ same i)))
+    (λ (others, same). (first_same others same, (others, rest_same others same)))
+    (Decides-and (rank == other) (begin_with prefix ranks) (Decides-eqb rank other) (begin_with-Decides prefix ranks))
+  where
+    first_same : (others : List ℕ) → other ∷ ranks ≡ rank ∷ (prefix ++ others) → rank ≡ other
+    first_same others same = cc
+
+    rest_same : (others : List ℕ) → other ∷ ranks ≡ rank ∷ (prefix ++ others) → ranks ≡ prefix ++ others
+    rest_same others same = cc
+
+module _ (order : List Item) (different : AllPairs (λ v w. v ≢ w) order) where
+  up-forth : (top : ℕ) (items : List Item) (ranks : List ℕ) → AreRanked order items ranks → list_all (λ rank. leb rank top) ranks ≡ true
+      → AllByRecursion (IsRankedUpTo order top) items
+  up-forth top [] ranks ranked all = tt
+  up-forth top (v ∷ items) [] ranked all = absurd ranked
+  up-forth top (v ∷ items) (r ∷ ranks) ranked all =
+      let both = and_parts (leb r top) (list_all (λ rank. leb rank top) ranks) all in
+      ((r, ranked.0, leb-true r top both.0), up-forth top items ranks ranked.1 both.1)
+
+  up-back : (top : ℕ) (items : List Item) (ranks : List ℕ) → AreRanked order items ranks → AllByRecursion (IsRankedUpTo order top) items
+      → list_all (λ rank. leb rank top) ranks ≡ true
+  up-back top [] [] ranked all = refl
+  up-back top [] (r ∷ ranks) ranked all = absurd ranked
+  up-back top (v ∷ items) [] ranked all = absurd ranked
+  up-back top (v ∷ items) (r ∷ ranks) ranked ((rank, has, most), all) =
+      let same : r ≡ rank = item_rank order different v r rank ranked.0 has in
+      and_from (leb r top) (list_all (λ rank. leb rank top) ranks) (le-leb r top (omega (arith, same, most))) (up-back top items ranks ranked.1 all)
+
+  holds-forth : (need : ℕ) (items : List Item) (ranks : List ℕ) → AreRanked order items ranks → list_any (λ rank. rank == need) ranks ≡ true → HoldsRank order items need
+  holds-forth need items [] ranked some = absurd (false≢true some)
+  holds-forth need [] (r ∷ ranks) ranked some = absurd ranked
+  holds-forth need (v ∷ items) (r ∷ ranks) ranked some = elim (or_cases (r == need) (list_any (λ rank. rank == need) ranks) some) [
+    | inl here ↦ (v, Contains-first v items, subst (HasRank order v) (eqb-true r need here) ranked.0)
+    | inr there ↦ (let (w, held, has) = holds-forth need items ranks ranked.1 there in (w, Contains-other v items w held, has))
+  ]
+
+  holds-back : (need : ℕ) (items : List Item) (ranks : List ℕ) → AreRanked order items ranks → HoldsRank order items need → list_any (λ rank. rank == need) ranks ≡ true
+  holds-back need [] ranks ranked (w, held, has) = absurd (Contains-none w held)
+  holds-back need (v ∷ items) [] ranked some = absurd ranked
+  holds-back need (v ∷ items) (r ∷ ranks) ranked (w, held, has) = elim (Contains-cases v items w held) [
+    | inl here ↦ or_left (r == need) (list_any (λ rank. rank == need) ranks)
+        (eq-eqb r need (item_rank order different v r need ranked.0 (subst (λ t. HasRank order t need) here has)))
+    | inr there ↦ or_right (r == need) (list_any (λ rank. rank == need) ranks) (holds-back need items ranks ranked.1 (w, there, has))
+  ]
+
+  pub within-Decides : (pivot : ℕ) (items : List Item) (ranks : List ℕ) → AreRanked order items ranks
+      → Decides (are_within pivot ranks) (IsWithinPivot order pivot items)
+  unfolding are_within
+  within-Decides zero items ranks ranked = ((λ e. ranked-within order items ranks ranked), (λ within. refl))
+  within-Decides (suc before) items ranks ranked = (
+    (λ e. let both = and_parts (list_all (λ rank. leb rank (suc before)) ranks) (list_any (λ rank. rank == suc before) ranks) e in
+        record { ranked = up-forth (suc before) items ranks ranked both.0; needed = holds-forth (suc before) items ranks ranked both.1 }),
+    (λ within. and_from (list_all (λ rank. leb rank (suc before)) ranks) (list_any (λ rank. rank == suc before) ranks)
+        (up-back (suc before) items ranks ranked within.ranked) (holds-back (suc before) items ranks ranked within.needed)),
+  )
+
+-- items with ranks up to a top have ranks
+pub up-ranks : (order : List Item) (top : ℕ) (items : List Item) → AllByRecursion (IsRankedUpTo order top) items → (ranks : List ℕ) × AreRanked order items ranks
+up-ranks order top [] all = ([], tt)
+up-ranks order top (v ∷ items) ((rank, has, most), all) = let (ranks, ranked) = up-ranks order top items all in (rank ∷ ranks, (has, ranked))
+
+pub within-ranks : (order : List Item) (pivot : ℕ) (items : List Item) → IsWithinPivot order pivot items → (ranks : List ℕ) × AreRanked order items ranks
+within-ranks order zero items within = up-ranks order (length order) items within.ranked
+within-ranks order (suc before) items within = up-ranks order (suc before) items within.ranked
