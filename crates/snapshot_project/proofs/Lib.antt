@@ -9,3 +9,5 @@ pub mod WalkLemmas
 pub mod ListedLemmas
 pub mod HitLemmas
 pub mod SearchLemmas
+pub mod TallyLemmas
+pub mod ReadLemmas

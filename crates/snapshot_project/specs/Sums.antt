@@ -50,6 +50,13 @@ AreAdded hits weight before after =
     (rank : ℕ) → (HasHit hits rank × (weight_of after rank ≡ weight_of before rank + weight))
     ⊎ ((HasHit hits rank → ⊥) × (weight_of after rank ≡ weight_of before rank))
 
+-- each rank that was hit has grown by the weight, with the sequence of the grid, and the others stay
+abbrev pub HaveAdded : List Hit → ℕ → ℕ → List Sum → List Sum → Type 0
+HaveAdded hits grid weight before now =
+    (rank : ℕ) → (HasHit hits rank
+    × ((sum : Sum) × (sum_of now rank ≡ Some sum) × (sum.last ≡ grid) × (sum.weight ≡ weight_of before rank + weight)))
+    ⊎ ((HasHit hits rank → ⊥) × (sum_of now rank ≡ sum_of before rank))
+
 -- exactly the ranks whose weight reaches the least, rising, each with it
 pub record AreEnough (least : ℕ) (sums : List Sum) (found : List NextRank) : Type 0 where
   pub rising : AllPairs (λ low high. low.rank < high.rank) found
