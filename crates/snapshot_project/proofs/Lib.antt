@@ -11,3 +11,7 @@ pub mod HitLemmas
 pub mod SearchLemmas
 pub mod TallyLemmas
 pub mod ReadLemmas
+pub mod FileLemmas
+pub mod PartLemmas
+pub mod FoundLemmas
+pub mod StartLemmas

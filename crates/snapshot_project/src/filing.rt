@@ -1,10 +1,8 @@
 //! What may be written behind a prefix, as snapshots of the longer prefixes.
 
-ghost use Rattle.std.specs.Prelude.{◌≡◌, ℕ, ◌≤◌, ◌<◌, ◌++◌, map, length, All, AllPairs, Some, OnOk, slice_get};
-ghost use Rattle.snapshot_project.specs.declared.next_rank.NextRank.{NextRank as Next};
-ghost use Rattle.snapshot_project.specs.Snapshots.{SnapshotList};
+ghost use Rattle.std.specs.Prelude.{◌≡◌, ◌<◌, map, length, All, AllPairs, OnOk};
 ghost use Rattle.snapshot_project.specs.Sums.{ArePlaced};
-ghost use Rattle.snapshot_project.specs.Files.{filed, with_more};
+ghost use Rattle.snapshot_project.specs.Files.{AreFiled, filed, with_more};
 
 use super::counting::to_place;
 use super::hit::Hit;
@@ -42,9 +40,7 @@ pub(crate) fn file_all(
     requires placed { ArePlaced places.now (map (λ n. n.rank) next.now) }
     requires long { length longer.old.items ≡ length next.now }
     ensures long { length longer.new.items ≡ length next.now }
-    ensures filed { OnOk result ((k : ℕ) (n : Next) (list : SnapshotList) → slice_get next.now k ≡ Some n
-        → slice_get longer.old.items k ≡ Some list
-        → slice_get longer.new.items k ≡ Some (with_more list (filed sequence n.rank hits.now))) }
+    ensures filed { OnOk result (AreFiled sequence next.now hits.now longer.old.items longer.new.items) }
 {
     for hit in hits {
         let place = places[hit.rank as usize] as usize;
