@@ -104,7 +104,7 @@ module _ (sequence : ℕ) (next : List NextRank) (places : List ℕ) (placed : A
       → AreFiled sequence next (hits ++ hit ∷ []) begun now
   filed-nowhere place d is none k n old at_k at_old =
       let apart : hit.rank ≢ n.rank = λ same.
-          let here : place ≡ k = is ∙ ap (λ (r : ℕ). slice_index places r) same ∙ place-of k n at_k in
-          let inside : k < length next = slice_get_within next k n at_k in
-          none (omega arith) (ap (λ (i : ℕ). (get_or next i d).rank) here ∙ ap (λ (m : NextRank). m.rank) (get_or_from_slice_get next k n d at_k) ∙ sym same) in
+      let here : place ≡ k = is ∙ ap (λ (r : ℕ). slice_index places r) same ∙ place-of k n at_k in
+      let inside : k < length next = slice_get_within next k n at_k in
+      none (omega arith) (ap (λ (i : ℕ). (get_or next i d).rank) here ∙ ap (λ (m : NextRank). m.rank) (get_or_from_slice_get next k n d at_k) ∙ sym same) in
       so_far k n old at_k at_old ∙ ap Some (more-other sequence n.rank hits hit old apart)

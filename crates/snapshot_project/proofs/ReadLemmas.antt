@@ -155,13 +155,13 @@ module _ (part : GridList) (is : IsPart part) where
           rising = λ j k d less inside.
               let few : length (slice_range snapshots read group.end) ≡ group.end - read = range-length snapshots read group.end stretch.within in
               let (in_j, at_j) = range-at snapshots read group.end stretch.within j (get_or (slice_range snapshots read group.end) j d)
-                  (slice_get-get_or (slice_range snapshots read group.end) j d (omega arith)) in
+              (slice_get-get_or (slice_range snapshots read group.end) j d (omega arith)) in
               let (in_k, at_k) = range-at snapshots read group.end stretch.within k (get_or (slice_range snapshots read group.end) k d)
-                  (slice_get-get_or (slice_range snapshots read group.end) k d inside) in
+              (slice_get-get_or (slice_range snapshots read group.end) k d inside) in
               let one = stretch.here (read + j) (get_or (slice_range snapshots read group.end) j d) (omega arith) in_j at_j in
               let two = stretch.here (read + k) (get_or (slice_range snapshots read group.end) k d) (omega arith) in_k at_k in
               positions-rise snapshots are.rising (read + j) (read + k) (get_or (slice_range snapshots read group.end) j d)
-                  (get_or (slice_range snapshots read group.end) k d) (omega arith) at_j at_k (one ∙ sym two);
+              (get_or (slice_range snapshots read group.end) k d) (omega arith) at_j at_k (one ∙ sym two);
           exact = λ position state.
               let law = group-has part prefix snapshots are next.sequence read group.end read-group position state in (
                 (λ has.

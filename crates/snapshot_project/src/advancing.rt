@@ -3,10 +3,11 @@
 ghost use Rattle.std.specs.Prelude.{◌≡◌, ℕ, ◌-◌, ◌≤◌, ◌<◌, List, [], ◌∷◌, ◌++◌, length, map, All, AllPairs, IfOk, OnOk, Some, slice_get};
 ghost use Rattle.snapshot_project.specs.declared.next_rank.NextRank.{NextRank as Next};
 ghost use Rattle.snapshot_project.specs.Snapshots.{SnapshotList, AreSnapshots};
+ghost use Rattle.snapshot_project.specs.Extensions.{IsSupportOf};
 ghost use Rattle.snapshot_project.specs.Sums.{ArePlaced};
 ghost use Rattle.snapshot_project.specs.Aims.{sees as sees_with};
 
-use super::filing::{file_all, file_rank, place_ranks};
+use super::filing::{file_all, file_rank, has_end, place_ranks};
 use super::grouping::next_group;
 use super::hit::Hit;
 use super::next_rank::NextRank;
@@ -30,7 +31,8 @@ pub fn advance(
         → AreSnapshots part.now (ranks ++ rank ∷ []) longer) }
 {
     let mut hits = Vec::new(alloc);
-    let mut longer = Snapshots::new(alloc, sees(snapshots.seen(), part.need(), rank), 0)?;
+    let mut longer = Snapshots::new(alloc, sees(snapshots.seen(), part.need(), rank), 0, 0)?;
+    let mut support = 0;
     let mut read = 0;
     let mut grid = 0;
     'groups: while let Some(group) = next_group(
@@ -43,9 +45,13 @@ pub fn advance(
         walk(part, group.grid, stretch, snapshots.seen(), &mut hits)?;
         let sequence = part.sequences()[group.grid as usize];
         file_rank(hits.as_slice(), sequence, rank, &mut longer)?;
+        if has_end(hits.as_slice(), rank) {
+            support += part.weight(group.grid);
+        }
         read = group.end;
         grid = group.grid + 1;
     }
+    longer.set_support(support);
     Ok(longer)
 }
 
@@ -64,6 +70,7 @@ pub fn advance_all(
     ensures all { IfOk result (λ longer. length longer.items ≡ length next.now) }
     ensures each { IfOk result (λ longer. (ranks : List ℕ) → AreSnapshots part.now ranks snapshots.now
         → (i : ℕ) (n : Next) (list : SnapshotList) → slice_get next.now i ≡ Some n
+        → IsSupportOf part.now (ranks ++ n.rank ∷ []) n.support
         → slice_get longer.items i ≡ Some list → AreSnapshots part.now (ranks ++ n.rank ∷ []) list) }
 {
     // Nothing follows a leaf, so no walk is made.
@@ -91,11 +98,11 @@ fn empty_lists(
     need: Option<u32>,
 ) -> Result<Vec<Snapshots>, NoMemory>
     ensures { IfOk result (λ lists. lists.items
-        ≡ map (λ n. record { seen = sees_with seen need n.rank; snapshots = [] }) next.now) }
+        ≡ map (λ n. record { seen = sees_with seen need n.rank; support = n.support; snapshots = [] }) next.now) }
 {
     let mut lists = Vec::with_capacity(alloc, next.len())?;
     for n in next {
-        lists.push(Snapshots::new(alloc, sees(seen, need, n.rank), n.snapshots)?)?;
+        lists.push(Snapshots::new(alloc, sees(seen, need, n.rank), n.support, n.snapshots)?)?;
     }
     Ok(lists)
 }
@@ -113,10 +120,15 @@ fn fill_lists(
     requires room { length part.now.problem.ranking.order < length places.now }
     requires placed { ArePlaced places.now (map (λ n. n.rank) next.now) }
     requires empty { longer.old.items
-        ≡ map (λ n. record { seen = sees_with snapshots.now.seen part.now.bound.need n.rank; snapshots = [] }) next.now }
+        ≡ map (λ n. record {
+          seen = sees_with snapshots.now.seen part.now.bound.need n.rank;
+          support = n.support;
+          snapshots = [];
+        }) next.now }
     ensures all { OnOk result (length longer.new.items ≡ length next.now) }
     ensures each { OnOk result ((ranks : List ℕ) → AreSnapshots part.now ranks snapshots.now
         → (i : ℕ) (n : Next) (list : SnapshotList) → slice_get next.now i ≡ Some n
+        → IsSupportOf part.now (ranks ++ n.rank ∷ []) n.support
         → slice_get longer.new.items i ≡ Some list → AreSnapshots part.now (ranks ++ n.rank ∷ []) list) }
 {
     let mut read = 0;

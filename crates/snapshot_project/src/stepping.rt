@@ -8,10 +8,10 @@ ghost use Rattle.fst_simulate.specs.Readings.{HasOutputs, outputs_at};
 ghost use Rattle.fst_simulate.specs.Successors.{AreSuccessors, LeadsFrom};
 ghost use Rattle.snapshot_project.specs.declared.hit.Hit.{Hit as Found};
 ghost use Rattle.snapshot_project.specs.Aims.{goes, sees_all};
-ghost use Rattle.snapshot_project.specs.Hits.{AreInOrder, AreRanksWithin, IsWritten, Passes, IsHitOf, AreWritable, words_of};
+ghost use Rattle.snapshot_project.specs.Hits.{AreInOrder, AreRanksWithin, IsWritten, Passes, IsHitOf, WritesFrom, HasHitAt, AreWritable, words_of, marked};
 
 use super::aim::Aim;
-use super::hit::Hit;
+use super::hit::{Hit, Marks};
 use super::part::Part;
 use fst_compile::State;
 use fst_simulate::{Reading, neighbours};
@@ -46,6 +46,10 @@ pub(crate) fn step<const W: usize>(
         → (hit : Found) → Contains hits.new.items hit ↔ (Contains hits.old.items hit
         ⊎ IsHitOf part.now.problem part.now.bound live.now t (rest_at part.now grid (at + 1)) aim.seen (at + 1)
         hit)) }
+    ensures all { OnOk result ((t : Item) → slice_get (items_at part.now grid) at ≡ Some t
+        → (rank state : ℕ) → WritesFrom part.now.problem part.now.bound live.now t
+        (rest_at part.now grid (at + 1)) aim.seen rank state
+        → HasHitAt hits.new.items rank (at + 1) state) }
     ensures order { OnOk result (AreInOrder at hits.old.items → AreInOrder (at + 1) hits.new.items) }
     ensures ranks { OnOk result (AreRanksWithin part.now.problem hits.old.items
         → AreRanksWithin part.now.problem hits.new.items) }
@@ -89,12 +93,21 @@ fn write<const W: usize>(
     writers.intersect_with_words(reading.writing);
     writers.intersect_with_words(reading.seen);
     let mut closed = writers;
-    if !aim.sees_all() {
-        closed.intersect_with_words(reading.unseen);
-    }
+    closed.intersect_with_words(reading.unseen);
+    let mut ended = writers;
+    ended.intersect_with_words(reading.ending);
     for state in writers.iter() {
-        let ranks = allowed(reading.outputs(State(state)), closed.has(state), aim.need);
-        push_hits(hits, ranks, position, state as u16)?;
+        let all = aim.sees_all() || closed.has(state);
+        let ranks = allowed(reading.outputs(State(state)), all, aim.need);
+        let any = Marks {
+            ends: aim.sees_all() && ended.has(state),
+            writes_on: aim.goes() || closed.has(state),
+        };
+        let needed = Marks {
+            ends: ended.has(state),
+            writes_on: true,
+        };
+        push_hits(hits, ranks, position, state as u16, aim.need, any, needed)?;
     }
     Ok(())
 }
@@ -128,19 +141,27 @@ fn only(ranks: &[u32], need: u32) -> &[u32]
     &ranks[..0]
 }
 
-/// Appends a hit for each of the ranks.
-fn push_hits(hits: &mut Vec<Hit>, ranks: &[u32], position: u16, state: u16) -> Result<(), NoMemory>
-    ensures { OnOk result (hits.new.items ≡ hits.old.items ++ map (λ rank. record {
-      rank = rank;
-      position = position;
-      state = state;
-    }) ranks.now) }
+/// Appends a hit for each of the ranks: with marks of its own the one that is needed.
+fn push_hits(
+    hits: &mut Vec<Hit>,
+    ranks: &[u32],
+    position: u16,
+    state: u16,
+    need: Option<u32>,
+    any: Marks,
+    needed: Marks,
+) -> Result<(), NoMemory>
+    ensures { OnOk result (hits.new.items
+        ≡ hits.old.items ++ map (marked position state need any needed) ranks.now) }
 {
     for rank in ranks {
+        let marks = if need == Some(*rank) { needed } else { any };
         hits.push(Hit {
             rank: *rank,
             position,
             state,
+            ends: marks.ends,
+            writes_on: marks.writes_on,
         })?;
     }
     Ok(())
