@@ -5,6 +5,7 @@ pub mod LiveLemmas
 pub mod ExtensionLemmas
 pub mod SumLemmas
 pub mod GroupLemmas
+pub mod OpenLemmas
 pub mod WalkLemmas
 pub mod ListedLemmas
 pub mod HitLemmas

@@ -6,7 +6,7 @@ use Rattle.mine_model.specs.Support.{Sequence}
 use Rattle.fst_compile.specs.Transducer.{Leads}
 use Rattle.fst_simulate.specs.declared.bound.Bound.{Bound}
 use Rattle.fst_simulate.specs.Problems.{Problem}
-use Rattle.fst_simulate.specs.Grids.{GridList, HoldsNeeded, Completes, Reads, WritesRank}
+use Rattle.fst_simulate.specs.Grids.{GridList, HoldsNeeded, Completes, Ends, Reads, WritesRank}
 use Rattle.fst_simulate.specs.Kinds.{IsNeededRank}
 use Rattle.snapshot_project.specs.declared.snapshot.Snapshot.{Snapshot}
 use Rattle.snapshot_project.specs.Runs.{IsRun}
@@ -52,6 +52,12 @@ WritesNext problem bound items prefix rank position state =
     × IsLive problem bound items prefix position from × Leads problem.machine from state
     × WritesRank problem bound t state rank
     × CompletesWith problem bound prefix rank (drop (position + 1) items) state
+
+-- the same, what is needed is seen with the rank, and a path from there writes nothing more
+abbrev pub EndsNext : Problem → Bound → List Item → List Item → ℕ → ℕ → ℕ → Type 0
+EndsNext problem bound items prefix rank position state =
+    WritesNext problem bound items prefix rank position state × HoldsNeededWith problem bound prefix rank
+    × Ends problem (drop (position + 1) items) state
 
 -- such an edge leads to this state at the position, and a path goes on from there as it has to
 abbrev pub OpensNext : Problem → Bound → List Item → List Item → Bool → ℕ → ℕ → ℕ → Type 0
