@@ -8,11 +8,14 @@ pub mod GroupLemmas
 pub mod OpenLemmas
 pub mod WalkLemmas
 pub mod ListedLemmas
-pub mod HitLemmas
-pub mod SearchLemmas
-pub mod TallyLemmas
 pub mod ReadLemmas
 pub mod FileLemmas
 pub mod PartLemmas
 pub mod FoundLemmas
 pub mod StartLemmas
+pub mod TallyLemmas
+pub mod LongerLemmas
+pub mod HitLemmas
+pub mod WayLemmas
+pub mod StepLemmas
+pub mod SearchLemmas

@@ -200,3 +200,10 @@ pub next-shown : (sequences others : List ℕ) (snapshots shown : List Snapshot)
     → IsNextGroup others shown read grid group → IsNextGroup sequences snapshots read grid group
 next-shown sequences others snapshots shown read grid group one two next =
     subst (λ (l : List ℕ). IsNextGroup l snapshots read grid group) one (subst (λ (l : List Snapshot). IsNextGroup others l read grid group) two next)
+
+pub none-shown : (sequences others : List ℕ) (snapshots shown : List Snapshot) (read grid : ℕ) → others ≡ sequences → shown ≡ snapshots
+    → ((snapshot : Snapshot) → slice_get shown read ≡ Some snapshot → (k : ℕ) → grid ≤ k → k < length others → slice_index others k ≢ snapshot.sequence)
+    → (snapshot : Snapshot) → slice_get snapshots read ≡ Some snapshot → (k : ℕ) → grid ≤ k → k < length sequences → slice_index sequences k ≢ snapshot.sequence
+none-shown sequences others snapshots shown read grid one two none snapshot at k least most =
+    subst (λ (l : List ℕ). slice_index l k ≢ snapshot.sequence) one
+    (none snapshot (ap (λ (l : List Snapshot). slice_get l read) two ∙ at) k least (subst (λ (l : List ℕ). k < length l) (sym one) most))

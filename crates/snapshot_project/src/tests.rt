@@ -1,9 +1,10 @@
-ghost use Rattle.std.specs.Prelude.{◌≡◌, ◌+◌, ◌<◌, ◌≤◌, All, IfOk, IsTrue};
+ghost use Rattle.std.specs.Prelude.{◌≡◌, ◌+◌, ◌<◌, ◌≤◌, length, All, IfOk, IfSome, IsTrue};
 ghost use Rattle.std.specs.List.{AllByRecursion};
 ghost use Rattle.mine_model.specs.Expression.{named_in, named_by, unfolded_leaves};
 ghost use Rattle.mine_model.specs.Numbered.{tree_of, leaf_of};
+ghost use Rattle.snapshot_project.specs.Snapshots.{bound_of};
 
-use super::{Part, Room, Snapshots, advance, advance_all, next_ranks, start, support};
+use super::{NextRank, Part, Room, Snapshots, advance, advance_all, next_ranks, start, support};
 use frequency_list::count;
 use fst_compile::compile;
 use fst_simulate::Job;
@@ -158,40 +159,88 @@ fn told<T: Threads + Sync>(rt: &T, alloc: Global, asked: Asked) -> Result<String
 }
 
 fn told_of(alloc: Global, job: &Job, asked: Asked) -> Result<String, NoMemory> {
-    let top = asked.pivot.unwrap_or(job.ranks().count());
-    if job.db().sequences() < 5 || top < 1 || top > job.ranks().count() {
+    let count = job.ranks().count();
+    let pivot = known(asked.pivot, count);
+    let top = top_of(count, pivot);
+    if job.db().sequences() < 5 || top < 2 {
         return Ok(String::new(alloc));
     }
-    let part = Part::new(alloc, job, asked.pivot, &[0, 1, 4])?;
-    let mut snapshots = start(alloc, &part)?;
-    for rank in asked.ranks {
-        if 1 <= *rank && *rank <= top {
-            snapshots = advance(alloc, &part, &snapshots, *rank)?;
-        }
-    }
+    let part = Part::new(alloc, job, pivot, &[0, 1, 4])?;
+    let snapshots = follow(alloc, &part, asked.ranks, top)?;
     let mut room = Room::new(alloc, job)?;
-    text_of(alloc, &part, &snapshots, asked.least, &mut room)
+    text_of(alloc, &part, &snapshots, asked.least.max(1), &mut room)
 }
 
-/// The support of the prefix; each rank that can follow, with its weight; the supports of the longer prefixes.
+/// The pivot, where it is a rank.
+fn known(pivot: Option<u32>, count: u32) -> Option<u32>
+    ensures least { IfSome result (λ rank. 1 ≤ rank) }
+    ensures most { IfSome result (λ rank. rank ≤ count) }
+{
+    match pivot {
+        Some(rank) if 1 <= rank && rank <= count => Some(rank),
+        _ => None,
+    }
+}
+
+/// The greatest rank of the part of a pivot.
+fn top_of(count: u32, pivot: Option<u32>) -> u32
+    ensures { result ≡ (bound_of count pivot).top }
+{
+    match pivot {
+        Some(rank) => rank,
+        None => count,
+    }
+}
+
+/// The snapshots of the prefix with these ranks, found rank by rank.
+fn follow(alloc: Global, part: &Part, ranks: &[u32], top: u32) -> Result<Snapshots, NoMemory>
+    requires { top ≡ part.now.bound.top }
+{
+    let mut snapshots = start(alloc, part)?;
+    for rank in ranks {
+        if 1 <= *rank && *rank <= top {
+            snapshots = advance(alloc, part, &snapshots, *rank)?;
+        }
+    }
+    Ok(snapshots)
+}
+
+/// The support of the prefix; each rank that can follow, with its weight; the supports of the prefixes that are
+/// longer by the ranks 1 and 2.
 fn text_of(
     alloc: Global,
     part: &Part,
     snapshots: &Snapshots,
     least: u64,
     room: &mut Room,
-) -> Result<String, NoMemory> {
+) -> Result<String, NoMemory>
+    requires top { 2 ≤ part.now.bound.top }
+    requires least { 1 ≤ least }
+    requires room { length part.now.problem.ranking.order ≤ room.old }
+{
     let mut text = format!(in alloc; "{}:", support(part, snapshots))?;
-    let next = next_ranks(alloc, part, snapshots, least, room)?;
-    for n in &next {
-        write!(text, " {} {}", n.rank, n.weight)?;
+    for next in &next_ranks(alloc, part, snapshots, least, room)? {
+        write!(text, " {} {}", next.rank, next.weight)?;
     }
-    let longer = advance_all(alloc, part, snapshots, next.as_slice(), room)?;
-    for list in &longer {
-        write!(text, ", {}", support(part, list))?;
+    text.push(',')?;
+    for longer in &advance_all(alloc, part, snapshots, &FIRST, room)? {
+        write!(text, " {}", support(part, longer))?;
     }
     Ok(text)
 }
+
+const FIRST: [NextRank; 2] = [
+    NextRank {
+        rank: 1,
+        weight: 0,
+        snapshots: 0,
+    },
+    NextRank {
+        rank: 2,
+        weight: 0,
+        snapshots: 1,
+    },
+];
 
 const RUNNING: [&[Item]; 5] = [
     &[A1, C, D, C, B],
@@ -205,15 +254,15 @@ const RUNNING: [&[Item]; 5] = [
 #[test]
 fn follows_prefixes_through_the_running_data(rt: HostRuntime) -> Result<(), Fail> {
     let table: [(Option<u32>, &[u32], u64, &str); 9] = [
-        (None, &[], 1, "0: 3 3, 0"),
-        (None, &[], 4, "0:"),
-        (None, &[3], 1, "0: 1 3 2 2 3 2 4 1 5 1, 3, 0, 0, 0, 0"),
-        (None, &[3], 2, "0: 1 3 2 2 3 2, 3, 0, 0"),
-        (None, &[3, 1], 1, "3:"),
-        (None, &[3, 2], 1, "0: 1 2, 2"),
-        (Some(3), &[], 1, "0: 3 3, 0"),
-        (Some(3), &[3], 1, "0: 1 3 2 2 3 2, 3, 0, 0"),
-        (Some(2), &[], 1, "0:"),
+        (None, &[], 1, "0: 3 3, 0 0"),
+        (None, &[], 4, "0:, 0 0"),
+        (None, &[3], 1, "0: 1 3 2 2 3 2 4 1 5 1, 3 0"),
+        (None, &[3], 2, "0: 1 3 2 2 3 2, 3 0"),
+        (None, &[3, 1], 1, "3:, 0 0"),
+        (None, &[3, 2], 1, "0: 1 2, 2 0"),
+        (Some(3), &[], 1, "0: 3 3, 0 0"),
+        (Some(3), &[3], 1, "0: 1 3 2 2 3 2, 3 0"),
+        (Some(2), &[], 1, "0:, 0 0"),
     ];
     for (pivot, ranks, least, want) in table {
         let asked = Asked {
