@@ -19,3 +19,5 @@ pub mod HitLemmas
 pub mod WayLemmas
 pub mod StepLemmas
 pub mod SearchLemmas
+pub mod CountLemmas
+pub mod EnoughLemmas
