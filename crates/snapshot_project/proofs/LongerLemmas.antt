@@ -1,11 +1,13 @@
 -- The snapshots of a prefix that is longer by one rank, found group by group.
-use Rattle.std.proofs.Common.{◌≡◌, ◌≢◌, ◌↔◌, ℕ, ◌+◌, ◌-◌, ◌≤◌, ◌<◌, inl, inr, IsTrue, Some, List, [], ◌∷◌, ◌++◌, length, refl, sym, ap, ◌∙◌, subst, arith}
+use Rattle.std.proofs.Common.{◌≡◌, ◌≢◌, ◌↔◌, ℕ, ◌+◌, ◌-◌, ◌≤◌, ◌<◌, inl, inr, Bool, IsTrue, Option, Some, List, [], ◌∷◌, ◌++◌, map, length, refl, sym, ap, ◌∙◌, subst, arith}
 use Rattle.std.specs.List.{Contains, slice_get, slice_index, slice_range}
+use Rattle.std.proofs.lemmas.Option.{slice_get_within, same_Some}
 use Rattle.mine_model.specs.declared.item.Item.{Item}
 use Rattle.mine_model.proofs.ElementLemmas.{get-some, get-held}
 use Rattle.fst_simulate.specs.Problems.{items_of}
 use Rattle.fst_simulate.specs.Grids.{GridList, items_at}
 use Rattle.snapshot_project.specs.declared.hit.Hit.{Hit}
+use Rattle.snapshot_project.specs.declared.next_rank.NextRank.{NextRank}
 use Rattle.snapshot_project.specs.declared.snapshot.Snapshot.{Snapshot}
 use Rattle.snapshot_project.specs.declared.grouping.Group.{Group}
 use Rattle.snapshot_project.specs.Snapshots.{IsPart, SnapshotList, AreSnapshots}
@@ -14,12 +16,13 @@ use Rattle.snapshot_project.specs.Aims.{sees}
 use Rattle.snapshot_project.specs.Hits.{AreInOrder, AreHits}
 use Rattle.snapshot_project.specs.Groups.{IsNextGroup, AreRead}
 use Rattle.snapshot_project.specs.Walks.{AreGroupOf}
-use Rattle.snapshot_project.specs.Files.{filed}
+use Rattle.snapshot_project.specs.Files.{filed, with_more, AreFiled}
 use Rattle.snapshot_project.proofs.ExtensionLemmas.{grows-next}
 use Rattle.snapshot_project.proofs.WalkLemmas.{sees-tells}
 use Rattle.snapshot_project.proofs.ListedLemmas.{snapshots-of, grows-not, snapshots-longer}
 use Rattle.snapshot_project.proofs.ReadLemmas.{read-passed, read-sequence, read-walk, read-all}
-use Rattle.snapshot_project.proofs.FoundLemmas.{AreFoundBefore, found-more, found-all, filed-rising, filed-held}
+use Rattle.snapshot_project.proofs.FileLemmas.{mapped-from}
+use Rattle.snapshot_project.proofs.FoundLemmas.{AreFoundBefore, found-none, found-more, found-all, filed-rising, filed-held}
 
 -- a snapshot of the prefix with the rank appended
 abbrev pub IsLonger : GridList → List Item → ℕ → Snapshot → Type 0
@@ -81,3 +84,57 @@ module _ (part : GridList) (is : IsPart part) (ranks : List ℕ) (list : Snapsho
         (found-all part is (IsLonger part are.prefix rank) grid longer.snapshots found
         (λ g snapshot least most at. longer-not rank snapshot.sequence (get-held part.sequences g snapshot.sequence at)
             (read-all part is are.prefix list.snapshots all read grid so_far none g snapshot.sequence least at) snapshot refl))
+
+-- ---- lists for several ranks
+
+-- each list tells whether what is needed is seen with its rank
+abbrev pub AreBegun : Bool → Option ℕ → List NextRank → List SnapshotList → Type 0
+AreBegun seen need next lists =
+    (k : ℕ) (n : NextRank) (list : SnapshotList) → slice_get next k ≡ Some n → slice_get lists k ≡ Some list → list.seen ≡ sees seen need n.rank
+
+-- each list has the snapshots with its rank in the first so many sequences
+abbrev pub AreLongerSoFar : GridList → List Item → ℕ → List NextRank → List SnapshotList → Type 0
+AreLongerSoFar part prefix count next lists =
+    (k : ℕ) (n : NextRank) (list : SnapshotList) → slice_get next k ≡ Some n → slice_get lists k ≡ Some list
+    → AreFoundBefore part (IsLonger part prefix n.rank) count list.snapshots
+
+-- a list without snapshots that tells so
+abbrev pub empty_for : Bool → Option ℕ → NextRank → SnapshotList
+empty_for seen need n = record { seen = sees seen need n.rank; snapshots = [] }
+
+module _ (seen : Bool) (need : Option ℕ) (next : List NextRank) where
+  empty-is : (k : ℕ) (n : NextRank) (list : SnapshotList) → slice_get next k ≡ Some n → slice_get (map (empty_for seen need) next) k ≡ Some list
+      → empty_for seen need n ≡ list
+  empty-is k n list at_n at_list =
+      let (m, at_m, same) = mapped-from (empty_for seen need) next k list at_list in
+      ap (empty_for seen need) (same_Some n m (sym at_n ∙ at_m)) ∙ same
+
+  pub begun-empty : AreBegun seen need next (map (empty_for seen need) next)
+  begun-empty k n list at_n at_list = ap (λ (l : SnapshotList). l.seen) (sym (empty-is k n list at_n at_list))
+
+  pub longer-empty : (part : GridList) → IsPart part → (prefix : List Item) → AreLongerSoFar part prefix 0 next (map (empty_for seen need) next)
+  longer-empty part is prefix k n list at_n at_list =
+      subst (λ (l : SnapshotList). AreFoundBefore part (IsLonger part prefix n.rank) 0 l.snapshots) (empty-is k n list at_n at_list)
+      (found-none part is (IsLonger part prefix n.rank))
+
+-- lists that were as long as the ranks still have one for each
+before-filed : (next : List NextRank) (before : List SnapshotList) → length before ≡ length next → (k : ℕ) (n : NextRank) → slice_get next k ≡ Some n
+    → (list : SnapshotList) × (slice_get before k ≡ Some list)
+before-filed next before long k n at = let inside : k < length next = slice_get_within next k n at in get-some before k (omega arith)
+
+module _ (number : ℕ) (next : List NextRank) (hits : List Hit) (before after : List SnapshotList) (long : length before ≡ length next)
+    (all : AreFiled number next hits before after) where
+  pub begun-filed : (seen : Bool) (need : Option ℕ) → AreBegun seen need next before → AreBegun seen need next after
+  begun-filed seen need begun k n list at_n at_list =
+      let (old, at_old) = before-filed next before long k n at_n in
+      let same : with_more old (filed number n.rank hits) ≡ list = same_Some (with_more old (filed number n.rank hits)) list (sym (all k n old at_n at_old) ∙ at_list) in
+      ap (λ (l : SnapshotList). l.seen) (sym same) ∙ begun k n old at_n at_old
+
+  pub longer-filed : (part : GridList) (prefix : List Item) (count more : ℕ) → AreLongerSoFar part prefix count next before
+      → ((rank : ℕ) (longer : List Snapshot) → AreFoundBefore part (IsLonger part prefix rank) count longer
+          → AreFoundBefore part (IsLonger part prefix rank) more (longer ++ filed number rank hits))
+      → AreLongerSoFar part prefix more next after
+  longer-filed part prefix count more found step k n list at_n at_list =
+      let (old, at_old) = before-filed next before long k n at_n in
+      let same : with_more old (filed number n.rank hits) ≡ list = same_Some (with_more old (filed number n.rank hits)) list (sym (all k n old at_n at_old) ∙ at_list) in
+      subst (λ (l : SnapshotList). AreFoundBefore part (IsLonger part prefix n.rank) more l.snapshots) same (step n.rank old.snapshots (found k n old at_n at_old))

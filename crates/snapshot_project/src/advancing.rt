@@ -77,8 +77,10 @@ pub fn advance_all(
     if next.is_empty() {
         return Ok(Vec::new(alloc));
     }
+    // Its contract also says that the ranks up to the top have room.
+    let need = part.need();
     place_ranks(next, &mut room.places)?;
-    let mut longer = empty_lists(alloc, next, snapshots.seen(), part.need())?;
+    let mut longer = empty_lists(alloc, next, snapshots.seen(), need)?;
     fill_lists(
         part,
         snapshots,
