@@ -43,7 +43,7 @@ module _ (part : GridList) (is : IsPart part) (ranks : List ℕ) (list : Snapsho
     passed : Counts (GrowsBehind part (ranks ++ rank ∷ [])) (sequences_before part group.grid) (weight_of before rank)
     passed = sum-pass part (GrowsBehind part (ranks ++ rank ∷ [])) grid group.grid (weight_of before rank) next.forward
         (λ k i least most at. grows-not part is.whole ranks (rank ∷ []) list are i (get-held part.sequences k i at)
-            (read-passed part is are.prefix list.snapshots (snapshots-of part ranks list are) read grid so_far group next k i least most at))
+        (read-passed part is are.prefix list.snapshots (snapshots-of part ranks list are) read grid so_far group next k i least most at))
         (counted rank)
 
     -- the ranks that follow are those that were hit
@@ -56,8 +56,11 @@ module _ (part : GridList) (is : IsPart part) (ranks : List ℕ) (list : Snapsho
               (hit, (found hit).1 (position, refl, writes), refl)),
           (λ (hit, held, has).
               let (at, position_is, writes) = (found hit).0 held in
-              law.1 (at, hit.state,
-                subst (λ (r : ℕ). WritesNext part.problem part.bound (items_at part group.grid) are.prefix r at hit.state) has writes)),
+              law.1 (
+                at,
+                hit.state,
+                subst (λ (r : ℕ). WritesNext part.problem part.bound (items_at part group.grid) are.prefix r at hit.state) has writes,
+              )),
         )
 
     pub counted-next : Counts (GrowsBehind part (ranks ++ rank ∷ [])) (sequences_before part (group.grid + 1)) (weight_of after rank)
@@ -73,9 +76,9 @@ module _ (part : GridList) (is : IsPart part) (ranks : List ℕ) (list : Snapsho
           subst (Counts (GrowsBehind part (ranks ++ rank ∷ [])) (sequences_before part (group.grid + 1))) (sym stays)
           (sum-pass part (GrowsBehind part (ranks ++ rank ∷ [])) group.grid (group.grid + 1) (weight_of before rank) (omega arith)
           (λ k i least most at grows.
-              let one : k ≡ group.grid = omega arith in
-              let number : i ≡ next.sequence = same_Some i next.sequence (sym at ∙ ap (slice_get part.sequences) one ∙ next.at) in
-              no' (grows-hit.0 (subst (λ (j : ℕ). GrowsBehind part (ranks ++ rank ∷ []) (items_of part.problem j)) (number ∙ sym here-is) grows)))
+          let one : k ≡ group.grid = omega arith in
+          let number : i ≡ next.sequence = same_Some i next.sequence (sym at ∙ ap (slice_get part.sequences) one ∙ next.at) in
+          no' (grows-hit.0 (subst (λ (j : ℕ). GrowsBehind part (ranks ++ rank ∷ []) (items_of part.problem j)) (number ∙ sym here-is) grows)))
           passed)
     ]
 
@@ -86,5 +89,5 @@ module _ (part : GridList) (is : IsPart part) (ranks : List ℕ) (list : Snapsho
   counted-all none inside rank = sum-all part (GrowsBehind part (ranks ++ rank ∷ [])) (length part.sequences) (weight_of before rank) (omega arith)
       (sum-pass part (GrowsBehind part (ranks ++ rank ∷ [])) grid (length part.sequences) (weight_of before rank) inside
       (λ k i least most at. grows-not part is.whole ranks (rank ∷ []) list are i (get-held part.sequences k i at)
-          (read-all part is are.prefix list.snapshots (snapshots-of part ranks list are) read grid so_far none k i least at))
+      (read-all part is are.prefix list.snapshots (snapshots-of part ranks list are) read grid so_far none k i least at))
       (counted rank))

@@ -71,7 +71,7 @@ module _ (least grid : ℕ) (places : List ℕ) (sums : List Sum) (are : AreSums
       rising = λ i j d less inside.
           let low : (get_or found i d).rank ≤ (get_or found j d).rank = sorted i j d (omega arith) inside in
           let apart = apart_by_permutation Decides-eqb (map (λ (n : NextRank). n.rank) (enough_of least sums)) (map (λ (n : NextRank). n.rank) found)
-              (IsPermutation-map (λ (n : NextRank). n.rank) (enough_of least sums) found moved) enough-apart in
+          (IsPermutation-map (λ (n : NextRank). n.rank) (enough_of least sums) found moved) enough-apart in
           let long : length (map (λ (n : NextRank). n.rank) found) ≡ length found = length-map found (λ (n : NextRank). n.rank) in
           let at_i = get_or-map (λ (n : NextRank). n.rank) found i d d.rank (omega arith) in
           let at_j = get_or-map (λ (n : NextRank). n.rank) found j d d.rank inside in

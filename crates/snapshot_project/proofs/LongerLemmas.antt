@@ -44,7 +44,7 @@ module _ (part : GridList) (is : IsPart part) (ranks : List ℕ) (list : Snapsho
     pub longer-more : (group : Group) (next : IsNextGroup part.sequences list.snapshots read grid group) (hits : List Hit)
         → AreInOrder (length (items_at part group.grid)) hits
         → ((prefix : List Item) → AreGroupOf part.problem part.bound (items_at part group.grid) prefix list.seen (slice_range list.snapshots read group.end)
-            → AreHits part.problem part.bound (items_at part group.grid) prefix hits)
+        → AreHits part.problem part.bound (items_at part group.grid) prefix hits)
         → (longer : List Snapshot) → AreFoundBefore part (IsLonger part are.prefix rank) grid longer
         → AreFoundBefore part (IsLonger part are.prefix rank) (group.grid + 1) (longer ++ filed (slice_index part.sequences group.grid) rank hits)
     longer-more group next hits order walked longer found =
@@ -54,7 +54,7 @@ module _ (part : GridList) (is : IsPart part) (ranks : List ℕ) (list : Snapsho
         let exact = walked are.prefix (read-walk part is are.prefix list.snapshots all read grid so_far group next list.seen are.seen) in
         found-more part is (IsLonger part are.prefix rank) grid longer found group.grid number (filed number rank hits) next.forward (next.at ∙ ap Some (sym known))
         (λ g snapshot least most at. longer-not rank snapshot.sequence (get-held part.sequences g snapshot.sequence at)
-            (read-passed part is are.prefix list.snapshots all read grid so_far group next g snapshot.sequence least most at) snapshot refl)
+        (read-passed part is are.prefix list.snapshots all read grid so_far group next g snapshot.sequence least most at) snapshot refl)
         (filed-rising number rank hits (length (items_at part group.grid)) order)
         (λ snapshot. (
           (λ held.
@@ -83,7 +83,7 @@ module _ (part : GridList) (is : IsPart part) (ranks : List ℕ) (list : Snapsho
         ((λ seen. tells.0 (sym seen_is ∙ seen)), (λ either. seen_is ∙ tells.1 either)) found.rising
         (found-all part is (IsLonger part are.prefix rank) grid longer.snapshots found
         (λ g snapshot least most at. longer-not rank snapshot.sequence (get-held part.sequences g snapshot.sequence at)
-            (read-all part is are.prefix list.snapshots all read grid so_far none g snapshot.sequence least at) snapshot refl))
+        (read-all part is are.prefix list.snapshots all read grid so_far none g snapshot.sequence least at) snapshot refl))
 
 -- ---- lists for several ranks
 
@@ -132,7 +132,7 @@ module _ (number : ℕ) (next : List NextRank) (hits : List Hit) (before after :
 
   pub longer-filed : (part : GridList) (prefix : List Item) (count more : ℕ) → AreLongerSoFar part prefix count next before
       → ((rank : ℕ) (longer : List Snapshot) → AreFoundBefore part (IsLonger part prefix rank) count longer
-          → AreFoundBefore part (IsLonger part prefix rank) more (longer ++ filed number rank hits))
+      → AreFoundBefore part (IsLonger part prefix rank) more (longer ++ filed number rank hits))
       → AreLongerSoFar part prefix more next after
   longer-filed part prefix count more found step k n list at_n at_list =
       let (old, at_old) = before-filed next before long k n at_n in

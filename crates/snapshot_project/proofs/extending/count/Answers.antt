@@ -47,14 +47,14 @@ groups-preserved c =
       sums = search rules;
       read = λ ranks are.
           read-next c.args.part.now c.sequences-sequences.ensures.part are.prefix c.args.snapshots.now.snapshots (snapshots-of c.args.part.now ranks c.args.snapshots.now are)
-              c.groups.read c.groups.grid (c.groups.invariant.read ranks are) c.in-Some.group next;
+          c.groups.read c.groups.grid (c.groups.invariant.read ranks are) c.in-Some.group next;
       counted = λ ranks are.
           let says : IsTrue c.seen.result ↔ HoldsNeeded c.args.part.now.problem.ranking c.args.part.now.bound.need are.prefix =
           subst (λ (b : Bool). IsTrue b ↔ HoldsNeeded c.args.part.now.problem.ranking c.args.part.now.bound.need are.prefix) (sym c.seen.ensures) are.seen in
           let group : AreGroupOf c.args.part.now.problem c.args.part.now.bound (items_at c.args.part.now c.in-Some.group.grid) are.prefix c.seen.result
-              (slice_range c.as_slice-in-Some.result.now c.groups.read c.in-Some.group.end) =
+          (slice_range c.as_slice-in-Some.result.now c.groups.read c.in-Some.group.end) =
           subst (λ (l : List Snapshot). AreGroupOf c.args.part.now.problem c.args.part.now.bound (items_at c.args.part.now c.in-Some.group.grid) are.prefix c.seen.result
-              (slice_range l c.groups.read c.in-Some.group.end)) (sym c.as_slice-in-Some.ensures)
+          (slice_range l c.groups.read c.in-Some.group.end)) (sym c.as_slice-in-Some.ensures)
           (read-walk c.args.part.now c.sequences-sequences.ensures.part are.prefix c.args.snapshots.now.snapshots (snapshots-of c.args.part.now ranks c.args.snapshots.now are)
           c.groups.read c.groups.grid (c.groups.invariant.read ranks are) c.in-Some.group next c.seen.result says) in
           let found : AreHits c.args.part.now.problem c.args.part.now.bound (items_at c.args.part.now c.in-Some.group.grid) are.prefix c.walk.new.hits.items =
