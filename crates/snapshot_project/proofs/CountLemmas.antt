@@ -1,6 +1,6 @@
 -- The weights of the ranks that can follow a prefix, group by group.
-use Rattle.std.proofs.Common.{◌≡◌, ◌↔◌, ℕ, ◌+◌, ◌≤◌, ◌<◌, ◌⊎◌, inl, inr, List, [], ◌∷◌, ◌++◌, Some, length, refl, sym, ap, ◌∙◌, subst, arith}
-use Rattle.std.specs.List.{Contains, slice_get, slice_index}
+use Rattle.std.proofs.Common.{◌≡◌, ◌↔◌, ℕ, ◌+◌, ◌≤◌, ◌<◌, inl, inr, List, [], ◌∷◌, ◌++◌, Some, length, refl, sym, ap, ◌∙◌, subst, arith}
+use Rattle.std.specs.List.{slice_get, slice_index}
 use Rattle.std.proofs.lemmas.Option.{same_Some}
 use Rattle.mine_model.specs.Database.{sequence_at}
 use Rattle.mine_model.specs.Support.{Counts}
@@ -12,7 +12,7 @@ use Rattle.snapshot_project.specs.declared.grouping.Group.{Group}
 use Rattle.snapshot_project.specs.declared.hit.Hit.{Hit}
 use Rattle.snapshot_project.specs.declared.counting.Sum.{Sum}
 use Rattle.snapshot_project.specs.Snapshots.{IsPart, SnapshotList, AreSnapshots}
-use Rattle.snapshot_project.specs.Extensions.{GrowsBehind, CanFollow, sequences_of}
+use Rattle.snapshot_project.specs.Extensions.{GrowsBehind, CanFollow}
 use Rattle.snapshot_project.specs.Live.{WritesNext, sequences_before}
 use Rattle.snapshot_project.specs.Groups.{IsNextGroup, AreRead}
 use Rattle.snapshot_project.specs.Hits.{HasHit, AreHits}
@@ -20,7 +20,7 @@ use Rattle.snapshot_project.specs.Sums.{weight_of, AreAdded}
 use Rattle.snapshot_project.proofs.ExtensionLemmas.{grows-next}
 use Rattle.snapshot_project.proofs.ListedLemmas.{snapshots-of, grows-not}
 use Rattle.snapshot_project.proofs.SumLemmas.{sum-none, sum-add, sum-pass, sum-all}
-use Rattle.snapshot_project.proofs.ReadLemmas.{read-group, read-passed, read-sequence, read-all}
+use Rattle.snapshot_project.proofs.ReadLemmas.{read-passed, read-sequence, read-all}
 
 -- the sums have what the sequences before the grid weigh
 abbrev pub HaveCounted : GridList → List ℕ → List Sum → ℕ → Type 0

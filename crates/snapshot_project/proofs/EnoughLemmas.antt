@@ -1,13 +1,13 @@
 -- The ranks whose weight is enough, sorted.
-use Rattle.std.proofs.Common.{◌≡◌, ◌≢◌, ◌↔◌, ℕ, ◌+◌, ◌≤◌, ◌<◌, inl, inr, Bool, true, leb, Option, Some, None, List, [], ◌∷◌, ◌++◌, length, get_or, map, take, cond, refl, sym, ap, ◌∙◌, subst, arith}
+use Rattle.std.proofs.Common.{◌≡◌, ◌≢◌, ℕ, ◌≤◌, inl, inr, Bool, leb, Option, Some, None, List, length, get_or, map, refl, sym, ap, ◌∙◌, arith}
 use Rattle.std.specs.List.{AllPairs, Contains, filter, slice_get, slice_index}
 use Rattle.std.specs.List.Sorted.{IsPermutation, IsNonDecreasingBy}
 use Rattle.std.proofs.lemmas.Bool.{cases_lt, leb-true, le-leb}
 use Rattle.std.proofs.lemmas.Bool.Decides.{Decides-eqb}
 use Rattle.std.proofs.lemmas.List.{get_or-map, length-map}
 use Rattle.std.proofs.lemmas.List.Kept.{AllPairs-filter}
-use Rattle.std.proofs.lemmas.List.Sorted.{IsPermutation-map, IsPermutation-sym, Contains-permutation, length_permutation}
-use Rattle.std.proofs.lemmas.Option.{slice_get-get_or, slice_get_within}
+use Rattle.std.proofs.lemmas.List.Sorted.{IsPermutation-map, IsPermutation-sym, Contains-permutation}
+use Rattle.std.proofs.lemmas.Option.{slice_get-get_or}
 use Rattle.mine_model.proofs.ApartLemmas.{apart_by_permutation}
 use Rattle.mine_model.proofs.ElementLemmas.{get-held}
 use Rattle.mine_model.proofs.ListLemmas.{Contains-by, Contains-from, Contains-filter, filter-Contains}

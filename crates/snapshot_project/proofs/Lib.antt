@@ -21,3 +21,4 @@ pub mod StepLemmas
 pub mod SearchLemmas
 pub mod CountLemmas
 pub mod EnoughLemmas
+pub mod NextLemmas

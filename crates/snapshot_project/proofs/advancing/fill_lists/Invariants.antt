@@ -1,5 +1,4 @@
-use Rattle.std.proofs.Common.{◌≡◌, ◌≤◌, ◌-◌, List, ℕ, Some, length}
-use Rattle.std.specs.List.{slice_get}
+use Rattle.std.proofs.Common.{◌≡◌, ◌≤◌, ◌-◌, List, ℕ, length}
 use Rattle.snapshot_project.specs.Groups.{AreRead}
 use Rattle.snapshot_project.specs.Snapshots.{AreSnapshots}
 use Rattle.snapshot_project.proofs.LongerLemmas.{AreBegun, AreLongerSoFar}

@@ -1,11 +1,10 @@
-use Rattle.std.proofs.Common.{◌≡◌, ◌↔◌, ℕ, ◌≤◌, ◌<◌, ◌+◌, Bool, IsTrue, Some, List, length, get_or, refl, sym, ap, ◌∙◌, subst, arith, rules}
-use Rattle.std.specs.List.{Contains, slice_get, slice_range}
+use Rattle.std.proofs.Common.{◌≡◌, ◌↔◌, ℕ, ◌<◌, Bool, IsTrue, List, length, get_or, sym, ap, subst, arith, rules}
+use Rattle.std.specs.List.{Contains, slice_range}
 use Rattle.std.proofs.lemmas.List.Elements.{Contains-get_or}
 use Rattle.std.proofs.lemmas.Option.{slice_get_within}
 use Rattle.fst_simulate.specs.Grids.{HoldsNeeded, items_at}
 use Rattle.snapshot_project.specs.declared.snapshot.Snapshot.{Snapshot}
 use Rattle.snapshot_project.specs.declared.hit.Hit.{Hit}
-use Rattle.snapshot_project.specs.Snapshots.{AreSnapshots}
 use Rattle.snapshot_project.specs.Groups.{IsNextGroup}
 use Rattle.snapshot_project.specs.Walks.{AreGroupOf}
 use Rattle.snapshot_project.specs.Hits.{AreHits}
