@@ -32,7 +32,7 @@ module _ (sequence rank : ℕ) (hits : List Hit) (hit : Hit) where
   filed-by b test =
       filed-both
       ∙ ap (λ (l : List Snapshot). filed sequence rank hits ++ l)
-          (one-by (hit.rank == rank && hit.writes_on) ∙ ap (λ (b : Bool). cond b (snapshot_in sequence hit ∷ []) []) test)
+      (one-by (hit.rank == rank && hit.writes_on) ∙ ap (λ (b : Bool). cond b (snapshot_in sequence hit ∷ []) []) test)
 
   -- a hit of the rank that writes on is filed behind the others
   pub filed-same : hit.rank ≡ rank → IsTrue hit.writes_on → filed sequence rank (hits ++ hit ∷ []) ≡ filed sequence rank hits ++ snapshot_in sequence hit ∷ []

@@ -106,9 +106,9 @@ module _ (number rank : ℕ) (hits : List Hit) where
   filed-rising position order =
       pairs-map (λ first second. first.rank ≡ second.rank → StandsBefore first second) ComesBefore (snapshot_in number) (filter chosen hits)
       (λ first second early late stands.
-          let (first_held, first_is, first_on) = chosen-of first early in
-          let (second_held, second_is, second_on) = chosen-of second late in
-          inr (refl, stands (first_is ∙ sym second_is)))
+      let (first_held, first_is, first_on) = chosen-of first early in
+      let (second_held, second_is, second_on) = chosen-of second late in
+      inr (refl, stands (first_is ∙ sym second_is)))
       (AllPairs-filter (λ first second. first.rank ≡ second.rank → StandsBefore first second) chosen hits order.rising)
 
   -- what is filed is a hit of the rank that writes on

@@ -1,5 +1,5 @@
 -- The snapshots of a prefix that is longer by one rank, found group by group.
-use Rattle.std.proofs.Common.{Bool, ◌≡◌, ◌≢◌, ◌↔◌, ℕ, ◌+◌, ◌-◌, ◌≤◌, ◌<◌, inl, inr, Bool, IsTrue, Option, Some, List, [], ◌∷◌, ◌++◌, map, length, refl, sym, ap, ◌∙◌, subst, arith}
+use Rattle.std.proofs.Common.{◌≡◌, ◌≢◌, ◌↔◌, ℕ, ◌+◌, ◌-◌, ◌≤◌, ◌<◌, inl, inr, Bool, IsTrue, Option, Some, List, [], ◌∷◌, ◌++◌, map, length, refl, sym, ap, ◌∙◌, subst, arith}
 use Rattle.std.specs.List.{Contains, slice_get, slice_index, slice_range}
 use Rattle.std.proofs.lemmas.Option.{slice_get_within, same_Some}
 use Rattle.mine_model.specs.declared.item.Item.{Item}
@@ -28,6 +28,19 @@ abbrev pub IsLonger : GridList → List Item → Bool → ℕ → Snapshot → T
 IsLonger part prefix seen rank snapshot =
     OpensNext part.problem part.bound (items_of part.problem snapshot.sequence) prefix seen rank snapshot.position snapshot.state
 
+-- the hits are what a walk finds that begins with these snapshots
+abbrev pub AreWalked : GridList → ℕ → Bool → List Snapshot → List Hit → Type 0
+AreWalked part grid seen group hits =
+    (prefix : List Item) → AreGroupOf part.problem part.bound (items_at part grid) prefix seen group
+    → AreHits part.problem part.bound (items_at part grid) prefix seen hits
+
+-- what is said of a slice of the snapshots, said of what it shows
+pub walked-shown : (part : GridList) (grid read end : ℕ) (hits : List Hit) (seen told : Bool) (snapshots shown : List Snapshot) → told ≡ seen → shown ≡ snapshots
+    → AreWalked part grid told (slice_range shown read end) hits → AreWalked part grid seen (slice_range snapshots read end) hits
+walked-shown part grid read end hits seen told snapshots shown one two walked =
+    subst (λ (b : Bool). AreWalked part grid b (slice_range snapshots read end) hits) one
+    (subst (λ (l : List Snapshot). AreWalked part grid told (slice_range l read end) hits) two walked)
+
 module _ (part : GridList) (is : IsPart part) (ranks : List ℕ) (list : SnapshotList) (are : AreSnapshots part ranks list) where
   -- there is none in a sequence that has no snapshot of the prefix in the list
   longer-not : (rank i : ℕ) → Contains part.sequences i → ((snapshot : Snapshot) → Contains list.snapshots snapshot → snapshot.sequence ≡ i → ⊥)
@@ -45,8 +58,7 @@ module _ (part : GridList) (is : IsPart part) (ranks : List ℕ) (list : Snapsho
     -- with those of one more group
     module _ (group : Group) (next : IsNextGroup part.sequences list.snapshots read grid group) (hits : List Hit)
         (order : AreInOrder (length (items_at part group.grid)) hits)
-        (walked : (prefix : List Item) → AreGroupOf part.problem part.bound (items_at part group.grid) prefix list.seen (slice_range list.snapshots read group.end)
-            → AreHits part.problem part.bound (items_at part group.grid) prefix list.seen hits) where
+        (walked : AreWalked part group.grid list.seen (slice_range list.snapshots read group.end) hits) where
       abbrev number : ℕ
       number = slice_index part.sequences group.grid
 
@@ -60,22 +72,22 @@ module _ (part : GridList) (is : IsPart part) (ranks : List ℕ) (list : Snapsho
           let known : number ≡ next.sequence = read-sequence part is are.prefix list.snapshots all read grid so_far group next in
           found-more part is (IsLonger part are.prefix list.seen rank) grid longer found group.grid number (filed number rank hits) next.forward (next.at ∙ ap Some (sym known))
           (λ g snapshot least most at. longer-not rank snapshot.sequence (get-held part.sequences g snapshot.sequence at)
-              (read-passed part is are.prefix list.snapshots all read grid so_far group next g snapshot.sequence least most at) snapshot refl)
+          (read-passed part is are.prefix list.snapshots all read grid so_far group next g snapshot.sequence least most at) snapshot refl)
           (filed-rising number rank hits (length (items_at part group.grid)) order)
           (λ snapshot.
-              let law = opens-hit part is.whole ranks list are (items_at part group.grid) hits group-hits rank snapshot.position snapshot.state in (
-                (λ held.
-                    let (same, hit) = (filed-held number rank hits snapshot).0 held in (
-                      same,
-                      subst (λ (k : ℕ). OpensNext part.problem part.bound (items_of part.problem k) are.prefix list.seen rank snapshot.position snapshot.state) (sym same)
-                          (law.1 hit),
-                    )),
-                (λ (same, opens).
-                    (filed-held number rank hits snapshot).1 (
-                      same,
-                      law.0 (subst (λ (k : ℕ). OpensNext part.problem part.bound (items_of part.problem k) are.prefix list.seen rank snapshot.position snapshot.state) same opens),
-                    )),
-              ))
+          let law = opens-hit part is.whole ranks list are (items_at part group.grid) hits group-hits rank snapshot.position snapshot.state in (
+            (λ held.
+                let (same, hit) = (filed-held number rank hits snapshot).0 held in (
+                  same,
+                  subst (λ (k : ℕ). OpensNext part.problem part.bound (items_of part.problem k) are.prefix list.seen rank snapshot.position snapshot.state) (sym same)
+                      (law.1 hit),
+                )),
+            (λ (same, opens).
+                (filed-held number rank hits snapshot).1 (
+                  same,
+                  law.0 (subst (λ (k : ℕ). OpensNext part.problem part.bound (items_of part.problem k) are.prefix list.seen rank snapshot.position snapshot.state) same opens),
+                )),
+          ))
 
     -- all of them, where no group is left
     pub longer-all : ((snapshot : Snapshot) → slice_get list.snapshots read ≡ Some snapshot → (k : ℕ) → grid ≤ k → k < length part.sequences
@@ -89,4 +101,61 @@ module _ (part : GridList) (is : IsPart part) (ranks : List ℕ) (list : Snapsho
         snapshots-longer part is.whole ranks list are w rank (record { least = least; place = place }) most longer seen_is support found.rising
         (found-all part is (IsLonger part are.prefix list.seen rank) grid longer.snapshots found
         (λ g snapshot least most at. longer-not rank snapshot.sequence (get-held part.sequences g snapshot.sequence at)
-            (read-all part is are.prefix list.snapshots all read grid so_far none g snapshot.sequence least at) snapshot refl))
+        (read-all part is are.prefix list.snapshots all read grid so_far none g snapshot.sequence least at) snapshot refl))
+
+-- ---- lists for several ranks
+
+-- each list tells whether what is needed is seen with its rank, and its support
+abbrev pub AreBegun : Bool → Option ℕ → List NextRank → List SnapshotList → Type 0
+AreBegun seen need next lists =
+    (k : ℕ) (n : NextRank) (list : SnapshotList) → slice_get next k ≡ Some n → slice_get lists k ≡ Some list
+    → (list.seen ≡ sees seen need n.rank) × (list.support ≡ n.support)
+
+-- each list has the snapshots with its rank in the first so many sequences
+abbrev pub AreLongerSoFar : GridList → List Item → Bool → ℕ → List NextRank → List SnapshotList → Type 0
+AreLongerSoFar part prefix seen count next lists =
+    (k : ℕ) (n : NextRank) (list : SnapshotList) → slice_get next k ≡ Some n → slice_get lists k ≡ Some list
+    → AreFoundBefore part (IsLonger part prefix seen n.rank) count list.snapshots
+
+-- a list without snapshots that tells so
+abbrev pub empty_for : Bool → Option ℕ → NextRank → SnapshotList
+empty_for seen need n = record { seen = sees seen need n.rank; support = n.support; snapshots = [] }
+
+module _ (seen : Bool) (need : Option ℕ) (next : List NextRank) where
+  empty-is : (k : ℕ) (n : NextRank) (list : SnapshotList) → slice_get next k ≡ Some n → slice_get (map (empty_for seen need) next) k ≡ Some list
+      → empty_for seen need n ≡ list
+  empty-is k n list at_n at_list =
+      let (m, at_m, same) = mapped-from (empty_for seen need) next k list at_list in
+      ap (empty_for seen need) (same_Some n m (sym at_n ∙ at_m)) ∙ same
+
+  pub begun-empty : AreBegun seen need next (map (empty_for seen need) next)
+  begun-empty k n list at_n at_list =
+      let is = empty-is k n list at_n at_list in (ap (λ (l : SnapshotList). l.seen) (sym is), ap (λ (l : SnapshotList). l.support) (sym is))
+
+  pub longer-empty : (part : GridList) → IsPart part → (prefix : List Item) → AreLongerSoFar part prefix seen 0 next (map (empty_for seen need) next)
+  longer-empty part is prefix k n list at_n at_list =
+      subst (λ (l : SnapshotList). AreFoundBefore part (IsLonger part prefix seen n.rank) 0 l.snapshots) (empty-is k n list at_n at_list)
+      (found-none part is (IsLonger part prefix seen n.rank))
+
+-- lists that were as long as the ranks still have one for each
+before-filed : (next : List NextRank) (before : List SnapshotList) → length before ≡ length next → (k : ℕ) (n : NextRank) → slice_get next k ≡ Some n
+    → (list : SnapshotList) × (slice_get before k ≡ Some list)
+before-filed next before long k n at = let inside : k < length next = slice_get_within next k n at in get-some before k (omega arith)
+
+module _ (number : ℕ) (next : List NextRank) (hits : List Hit) (before after : List SnapshotList) (long : length before ≡ length next)
+    (all : AreFiled number next hits before after) where
+  pub begun-filed : (seen : Bool) (need : Option ℕ) → AreBegun seen need next before → AreBegun seen need next after
+  begun-filed seen need begun k n list at_n at_list =
+      let (old, at_old) = before-filed next before long k n at_n in
+      let same : with_more old (filed number n.rank hits) ≡ list = same_Some (with_more old (filed number n.rank hits)) list (sym (all k n old at_n at_old) ∙ at_list) in
+      let (seen_is, support_is) = begun k n old at_n at_old in
+      (ap (λ (l : SnapshotList). l.seen) (sym same) ∙ seen_is, ap (λ (l : SnapshotList). l.support) (sym same) ∙ support_is)
+
+  pub longer-filed : (part : GridList) (prefix : List Item) (seen : Bool) (count more : ℕ) → AreLongerSoFar part prefix seen count next before
+      → ((rank : ℕ) (longer : List Snapshot) → AreFoundBefore part (IsLonger part prefix seen rank) count longer
+      → AreFoundBefore part (IsLonger part prefix seen rank) more (longer ++ filed number rank hits))
+      → AreLongerSoFar part prefix seen more next after
+  longer-filed part prefix seen count more found step k n list at_n at_list =
+      let (old, at_old) = before-filed next before long k n at_n in
+      let same : with_more old (filed number n.rank hits) ≡ list = same_Some (with_more old (filed number n.rank hits)) list (sym (all k n old at_n at_old) ∙ at_list) in
+      subst (λ (l : SnapshotList). AreFoundBefore part (IsLonger part prefix seen n.rank) more l.snapshots) same (step n.rank old.snapshots (found k n old at_n at_old))

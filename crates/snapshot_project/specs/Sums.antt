@@ -31,6 +31,10 @@ weight_of sums rank = weight_in (sum_of sums rank)
 abbrev pub support_of : List Sum → ℕ → ℕ
 support_of sums rank = support_in (sum_of sums rank)
 
+-- before which grid it was counted
+abbrev pub ended_of : List Sum → ℕ → ℕ
+ended_of sums rank = ended_in (sum_of sums rank)
+
 -- by its rank the place of each is found, so there is one of each rank
 abbrev pub ArePlaced : List ℕ → List ℕ → Type 0
 ArePlaced places ranks =
@@ -63,7 +67,7 @@ pub record IsAdded (rank : ℕ) (ends : Bool) (grid weight : ℕ) (before after 
   pub this : sum_of after rank ≡ Some sum
   pub last : sum.last ≡ grid
   pub weight_is : Adds grid weight (sum_of before rank) sum.weight
-  pub support_is : AddsSupport ends grid weight (ended_in (sum_of before rank)) (support_in (sum_of before rank)) sum
+  pub support_is : AddsSupport ends grid weight (ended_of before rank) (support_of before rank) sum
   pub others : (other : ℕ) → other ≢ rank → sum_of after other ≡ sum_of before other
 
 -- each rank that was hit has grown by the weight, and each that a hit of ends has it as support; the others
@@ -74,12 +78,15 @@ pub record AreAdded (hits : List Hit) (weight : ℕ) (before after : List Sum) :
   pub supports : (rank : ℕ) → (HasEnd hits rank × (support_of after rank ≡ support_of before rank + weight))
       ⊎ ((HasEnd hits rank → ⊥) × (support_of after rank ≡ support_of before rank))
 
--- each rank that was hit has grown by the weight, with the sequence of the grid, and the others stay
-abbrev pub HaveAdded : List Hit → ℕ → ℕ → List Sum → List Sum → Type 0
-HaveAdded hits grid weight before now =
-    (rank : ℕ) → (HasHit hits rank
-    × ((sum : Sum) × (sum_of now rank ≡ Some sum) × (sum.last ≡ grid) × (sum.weight ≡ weight_of before rank + weight)))
-    ⊎ ((HasHit hits rank → ⊥) × (sum_of now rank ≡ sum_of before rank))
+-- the same of hits that were gone over, with the sequence of the grid
+pub record HaveAdded (hits : List Hit) (grid weight : ℕ) (before now : List Sum) : Type 0 where
+  pub weights : (rank : ℕ) → (HasHit hits rank
+      × ((sum : Sum) × (sum_of now rank ≡ Some sum) × (sum.last ≡ grid) × (sum.weight ≡ weight_of before rank + weight)))
+      ⊎ ((HasHit hits rank → ⊥) × (sum_of now rank ≡ sum_of before rank))
+  pub supports : (rank : ℕ) → (HasEnd hits rank × (ended_of now rank ≡ grid + 1)
+      × (support_of now rank ≡ support_of before rank + weight))
+      ⊎ ((HasEnd hits rank → ⊥) × (ended_of now rank ≡ ended_of before rank)
+      × (support_of now rank ≡ support_of before rank))
 
 -- exactly the ranks whose weight reaches the least, rising, each with it and with its support
 pub record AreEnough (least : ℕ) (sums : List Sum) (found : List NextRank) : Type 0 where
