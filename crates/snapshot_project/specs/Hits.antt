@@ -1,5 +1,5 @@
 -- What may be written behind a prefix, as a walk over one sequence finds it.
-use Rattle.std.specs.Prelude.{◌≡◌, ◌≢◌, ℕ, ◌+◌, ◌^◌, ◌≤◌, ◌<◌, Bool, true, false, ◌⊎◌, ◌↔◌, IsTrue, if◌then◌else◌, ◌==◌, Option, Some, None, List, length, drop, AllPairs, Contains}
+use Rattle.std.specs.Prelude.{◌≡◌, ◌≢◌, ℕ, ◌+◌, ◌^◌, ◌≤◌, ◌<◌, Bool, true, false, ◌⊎◌, ◌↔◌, IsTrue, ◌&&◌, ◌||◌, Option, Some, List, length, drop, AllPairs, Contains}
 use Rattle.state_bits.specs.Members.{Has, HasBit}
 use Rattle.mine_model.specs.declared.item.Item.{Item}
 use Rattle.fst_simulate.specs.declared.bound.Bound.{Bound}
@@ -9,7 +9,6 @@ use Rattle.fst_simulate.specs.Grids.{Completes, Ends, WritesRank}
 use Rattle.fst_simulate.specs.Readings.{HasOutputs, outputs_at}
 use Rattle.fst_simulate.specs.Successors.{LeadsFrom}
 use Rattle.snapshot_project.specs.declared.hit.Hit.{Hit}
-use Rattle.snapshot_project.specs.declared.hit.Marks.{Marks}
 use Rattle.snapshot_project.specs.declared.aim.Aim.{Aim}
 use Rattle.snapshot_project.specs.Aims.{sees, sees_all, goes}
 use Rattle.snapshot_project.specs.Live.{WritesNext}
@@ -69,19 +68,14 @@ pub record AreWritable (reading : Reading) (state : ℕ) : Type 0 where
   pub once : AllPairs (λ one other. one ≢ other) (outputs_at reading state)
   pub small : state < 2 ^ 16
 
--- the marks of a rank: those of the one that is needed, or those of any other
-abbrev pub marks_of : Option ℕ → Marks → Marks → ℕ → Marks
-marks_of None any needed rank = any
-marks_of (Some need) any needed rank = if need == rank then needed else any
-
--- the hit of the rank with its marks
-abbrev pub marked : ℕ → ℕ → Option ℕ → Marks → Marks → ℕ → Hit
-marked position state need any needed rank = record {
+-- the hit of the rank at the state, which completes unseen or not and which ends or not
+abbrev pub hit_of : Aim → ℕ → ℕ → Bool → Bool → ℕ → Hit
+hit_of aim position state unseen ending rank = record {
   rank = rank;
   position = position;
   state = state;
-  ends = (marks_of need any needed rank).ends;
-  writes_on = (marks_of need any needed rank).writes_on;
+  ends = sees aim.seen aim.need rank && ending;
+  writes_on = goes (sees aim.seen aim.need rank) aim.need || unseen;
 }
 
 -- the hit is in the words of the reading

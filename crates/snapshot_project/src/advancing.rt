@@ -7,6 +7,7 @@ ghost use Rattle.snapshot_project.specs.Extensions.{IsSupportOf};
 ghost use Rattle.snapshot_project.specs.Sums.{ArePlaced};
 ghost use Rattle.snapshot_project.specs.Aims.{sees as sees_with};
 
+use super::aim::sees;
 use super::filing::{file_all, file_rank, has_end, place_ranks};
 use super::grouping::next_group;
 use super::hit::Hit;
@@ -149,14 +150,4 @@ fn fill_lists(
         grid = group.grid + 1;
     }
     Ok(())
-}
-
-/// Whether the prefix with the rank appended holds what is needed.
-fn sees(seen: bool, need: Option<u32>, rank: u32) -> bool
-    ensures { result ≡ sees_with seen need rank }
-{
-    match need {
-        Some(need) => seen || need == rank,
-        None => true,
-    }
 }

@@ -11,10 +11,3 @@ pub(crate) struct Hit {
     pub(crate) ends: bool,
     pub(crate) writes_on: bool,
 }
-
-/// What the paths from a hit do.
-#[derive(Clone, Copy, Debug)]
-pub(crate) struct Marks {
-    pub(crate) ends: bool,
-    pub(crate) writes_on: bool,
-}

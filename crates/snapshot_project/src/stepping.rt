@@ -8,10 +8,10 @@ ghost use Rattle.fst_simulate.specs.Readings.{HasOutputs, outputs_at};
 ghost use Rattle.fst_simulate.specs.Successors.{AreSuccessors, LeadsFrom};
 ghost use Rattle.snapshot_project.specs.declared.hit.Hit.{Hit as Found};
 ghost use Rattle.snapshot_project.specs.Aims.{goes, sees_all};
-ghost use Rattle.snapshot_project.specs.Hits.{AreInOrder, AreRanksWithin, IsWritten, Passes, IsHitOf, WritesFrom, HasHitAt, AreWritable, words_of, marked};
+ghost use Rattle.snapshot_project.specs.Hits.{AreInOrder, AreRanksWithin, IsWritten, Passes, IsHitOf, WritesFrom, HasHitAt, AreWritable, words_of, hit_of};
 
 use super::aim::Aim;
-use super::hit::{Hit, Marks};
+use super::hit::Hit;
 use super::part::Part;
 use fst_compile::State;
 use fst_simulate::{Reading, neighbours};
@@ -96,18 +96,12 @@ fn write<const W: usize>(
     closed.intersect_with_words(reading.unseen);
     let mut ended = writers;
     ended.intersect_with_words(reading.ending);
+    let free = aim.sees_all();
     for state in writers.iter() {
-        let all = aim.sees_all() || closed.has(state);
-        let ranks = allowed(reading.outputs(State(state)), all, aim.need);
-        let any = Marks {
-            ends: aim.sees_all() && ended.has(state),
-            writes_on: aim.goes() || closed.has(state),
-        };
-        let needed = Marks {
-            ends: ended.has(state),
-            writes_on: true,
-        };
-        push_hits(hits, ranks, position, state as u16, aim.need, any, needed)?;
+        let unseen = closed.has(state);
+        let ending = ended.has(state);
+        let ranks = allowed(reading.outputs(State(state)), free || unseen, aim.need);
+        push_hits(hits, ranks, aim, position, state as u16, unseen, ending)?;
     }
     Ok(())
 }
@@ -141,27 +135,27 @@ fn only(ranks: &[u32], need: u32) -> &[u32]
     &ranks[..0]
 }
 
-/// Appends a hit for each of the ranks: with marks of its own the one that is needed.
+/// Appends a hit for each of the ranks, at a state that completes unseen or not, and that ends or not.
 fn push_hits(
     hits: &mut Vec<Hit>,
     ranks: &[u32],
+    aim: Aim,
     position: u16,
     state: u16,
-    need: Option<u32>,
-    any: Marks,
-    needed: Marks,
+    unseen: bool,
+    ending: bool,
 ) -> Result<(), NoMemory>
     ensures { OnOk result (hits.new.items
-        ≡ hits.old.items ++ map (marked position state need any needed) ranks.now) }
+        ≡ hits.old.items ++ map (hit_of aim position state unseen ending) ranks.now) }
 {
     for rank in ranks {
-        let marks = if need == Some(*rank) { needed } else { any };
+        let behind = aim.with(*rank);
         hits.push(Hit {
             rank: *rank,
             position,
             state,
-            ends: marks.ends,
-            writes_on: marks.writes_on,
+            ends: behind.seen && ending,
+            writes_on: behind.goes() || unseen,
         })?;
     }
     Ok(())
