@@ -1,4 +1,4 @@
-ghost use Rattle.std.specs.Prelude.{◌≡◌, IsTrue};
+ghost use Rattle.std.specs.Prelude.{◌≡◌, ◌||◌};
 ghost use Rattle.snapshot_project.specs.Aims.{goes, sees as sees_with, sees_all};
 
 /// Whether a prefix holds what is needed, and which rank is needed.
@@ -16,7 +16,14 @@ impl Aim {
         self.seen || self.need.is_none()
     }
 
-    /// The same once the rank is behind the prefix.
+    /// Whether any rank may be written into a state, which completes unseen or not.
+    pub(crate) fn takes_any(self, unseen: bool) -> bool
+        ensures { result ≡ (sees_all self.seen self.need || unseen) }
+    {
+        self.sees_all() || unseen
+    }
+
+    /// The aim once the rank is behind the prefix.
     pub(crate) fn with(self, rank: u32) -> Aim
         ensures seen { result.seen ≡ sees_with self.seen self.need rank }
         ensures need { result.need ≡ self.need }

@@ -96,11 +96,10 @@ fn write<const W: usize>(
     closed.intersect_with_words(reading.unseen);
     let mut ended = writers;
     ended.intersect_with_words(reading.ending);
-    let free = aim.sees_all();
     for state in writers.iter() {
         let unseen = closed.has(state);
         let ending = ended.has(state);
-        let ranks = allowed(reading.outputs(State(state)), free || unseen, aim.need);
+        let ranks = allowed(reading.outputs(State(state)), aim.takes_any(unseen), aim.need);
         push_hits(hits, ranks, aim, position, state as u16, unseen, ending)?;
     }
     Ok(())
