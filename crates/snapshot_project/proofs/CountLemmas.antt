@@ -93,6 +93,21 @@ module _ (part : GridList) (is : IsPart part) (ranks : List ℕ) (list : Snapsho
       → GeneratesWithin part (ranks ++ rank ∷ []) (items_of part.problem i) → ⊥
   generates-unlisted rank i inside none = generates-not part is.whole ranks list are i inside rank none
 
+  -- the support of one rank
+  module _ (rank before : ℕ) (counted : Counts (GeneratesWithin part (ranks ++ rank ∷ [])) (sequences_before part grid) before) where
+    pub support-next : (group : Group) (next : IsNextGroup part.sequences list.snapshots read grid group) (hits : List Hit)
+        → AreHits part.problem part.bound (items_at part group.grid) are.prefix list.seen hits → (weight : ℕ)
+        → weight ≡ (sequence_at part.problem.sequences (slice_index part.sequences group.grid)).weight → (after : ℕ)
+        → (HasEnd hits rank × (after ≡ before + weight)) ⊎ ((HasEnd hits rank → ⊥) × (after ≡ before))
+        → Counts (GeneratesWithin part (ranks ++ rank ∷ [])) (sequences_before part (group.grid + 1)) after
+    support-next group next hits found weight weight_is after added =
+        counted-with (GeneratesWithin part (ranks ++ rank ∷ [])) (generates-unlisted rank) before counted group next weight weight_is
+        (HasEnd hits rank) (generates-hit part is.whole ranks list are (items_at part group.grid) hits found rank) after added
+
+    pub support-all : ((snapshot : Snapshot) → slice_get list.snapshots read ≡ Some snapshot → (k : ℕ) → grid ≤ k → k < length part.sequences
+        → slice_index part.sequences k ≡ snapshot.sequence → ⊥) → grid ≤ length part.sequences → IsSupportOf part (ranks ++ rank ∷ []) before
+    support-all none inside = counted-whole (GeneratesWithin part (ranks ++ rank ∷ [])) (generates-unlisted rank) before counted none inside
+
   module _ (before : List Sum) (counted : HaveCounted part ranks before grid) where
     pub counted-next : (group : Group) (next : IsNextGroup part.sequences list.snapshots read grid group) (hits : List Hit)
         → AreHits part.problem part.bound (items_at part group.grid) are.prefix list.seen hits → (weight : ℕ)
@@ -101,8 +116,7 @@ module _ (part : GridList) (is : IsPart part) (ranks : List ℕ) (list : Snapsho
     counted-next group next hits found weight weight_is after added = record {
       weights = λ rank. counted-with (GrowsBehind part (ranks ++ rank ∷ [])) (grows-unlisted rank) (weight_of before rank) (counted.weights rank) group next weight weight_is
           (HasHit hits rank) (grows-hit part is.whole ranks list are (items_at part group.grid) hits found rank) (weight_of after rank) (added.weights rank);
-      supports = λ rank. counted-with (GeneratesWithin part (ranks ++ rank ∷ [])) (generates-unlisted rank) (support_of before rank) (counted.supports rank) group next weight weight_is
-          (HasEnd hits rank) (generates-hit part is.whole ranks list are (items_at part group.grid) hits found rank) (support_of after rank) (added.supports rank);
+      supports = λ rank. support-next rank (support_of before rank) (counted.supports rank) group next hits found weight weight_is (support_of after rank) (added.supports rank);
     }
 
     module _ (none : (snapshot : Snapshot) → slice_get list.snapshots read ≡ Some snapshot → (k : ℕ) → grid ≤ k → k < length part.sequences
@@ -111,4 +125,4 @@ module _ (part : GridList) (is : IsPart part) (ranks : List ℕ) (list : Snapsho
       counted-all = counted-whole (GrowsBehind part (ranks ++ rank ∷ [])) (grows-unlisted rank) (weight_of before rank) (counted.weights rank) none inside
 
       pub supports-all : IsSupportOf part (ranks ++ rank ∷ []) (support_of before rank)
-      supports-all = counted-whole (GeneratesWithin part (ranks ++ rank ∷ [])) (generates-unlisted rank) (support_of before rank) (counted.supports rank) none inside
+      supports-all = support-all rank (support_of before rank) (counted.supports rank) none inside

@@ -17,7 +17,7 @@ use Rattle.snapshot_project.specs.Aims.{sees}
 use Rattle.snapshot_project.specs.Hits.{AreInOrder, AreHits}
 use Rattle.snapshot_project.specs.Groups.{IsNextGroup, AreRead}
 use Rattle.snapshot_project.specs.Walks.{AreGroupOf}
-use Rattle.snapshot_project.specs.Files.{filed, with_more, AreFiled}
+use Rattle.snapshot_project.specs.Files.{empty_for, filed, with_more, AreFiled}
 use Rattle.snapshot_project.proofs.ListedLemmas.{snapshots-of, writes-listed, opens-hit, snapshots-longer}
 use Rattle.snapshot_project.proofs.ReadLemmas.{read-passed, read-sequence, read-walk, read-all}
 use Rattle.snapshot_project.proofs.FileLemmas.{mapped-from}
@@ -116,10 +116,6 @@ abbrev pub AreLongerSoFar : GridList → List Item → Bool → ℕ → List Nex
 AreLongerSoFar part prefix seen count next lists =
     (k : ℕ) (n : NextRank) (list : SnapshotList) → slice_get next k ≡ Some n → slice_get lists k ≡ Some list
     → AreFoundBefore part (IsLonger part prefix seen n.rank) count list.snapshots
-
--- a list without snapshots that tells so
-abbrev pub empty_for : Bool → Option ℕ → NextRank → SnapshotList
-empty_for seen need n = record { seen = sees seen need n.rank; support = n.support; snapshots = [] }
 
 module _ (seen : Bool) (need : Option ℕ) (next : List NextRank) where
   empty-is : (k : ℕ) (n : NextRank) (list : SnapshotList) → slice_get next k ≡ Some n → slice_get (map (empty_for seen need) next) k ≡ Some list

@@ -1,11 +1,11 @@
 //! The snapshots of the prefixes that are longer by one.
 
-ghost use Rattle.std.specs.Prelude.{◌≡◌, ℕ, ◌-◌, ◌≤◌, ◌<◌, List, [], ◌∷◌, ◌++◌, length, map, All, AllPairs, IfOk, OnOk, Some, slice_get};
+ghost use Rattle.std.specs.Prelude.{◌≡◌, ℕ, ◌≤◌, ◌<◌, List, [], ◌∷◌, ◌++◌, length, map, All, AllPairs, IfOk, OnOk, Some, slice_get};
 ghost use Rattle.snapshot_project.specs.declared.next_rank.NextRank.{NextRank as Next};
 ghost use Rattle.snapshot_project.specs.Snapshots.{SnapshotList, AreSnapshots};
 ghost use Rattle.snapshot_project.specs.Extensions.{IsSupportOf};
 ghost use Rattle.snapshot_project.specs.Sums.{ArePlaced};
-ghost use Rattle.snapshot_project.specs.Aims.{sees as sees_with};
+ghost use Rattle.snapshot_project.specs.Files.{empty_for};
 
 use super::aim::sees;
 use super::filing::{file_all, file_rank, has_end, place_ranks};
@@ -93,6 +93,9 @@ pub fn advance_all(
     Ok(longer)
 }
 
+// So many snapshots at most have room before they are found: what is expected is no more than a hint.
+const MOST_ROOM: usize = 65_536;
+
 /// For each of these ranks no snapshots yet, with room for as many as are expected.
 fn empty_lists(
     alloc: Global,
@@ -100,12 +103,12 @@ fn empty_lists(
     seen: bool,
     need: Option<u32>,
 ) -> Result<Vec<Snapshots>, NoMemory>
-    ensures { IfOk result (λ lists. lists.items
-        ≡ map (λ n. record { seen = sees_with seen need n.rank; support = n.support; snapshots = [] }) next.now) }
+    ensures { IfOk result (λ lists. lists.items ≡ map (empty_for seen need) next.now) }
 {
     let mut lists = Vec::with_capacity(alloc, next.len())?;
     for n in next {
-        lists.push(Snapshots::new(alloc, sees(seen, need, n.rank), n.support, n.snapshots)?)?;
+        let room = n.snapshots.min(MOST_ROOM);
+        lists.push(Snapshots::new(alloc, sees(seen, need, n.rank), n.support, room)?)?;
     }
     Ok(lists)
 }
@@ -123,11 +126,7 @@ fn fill_lists(
     requires room { length part.now.problem.ranking.order < length places.now }
     requires placed { ArePlaced places.now (map (λ n. n.rank) next.now) }
     requires empty { longer.old.items
-        ≡ map (λ n. record {
-          seen = sees_with snapshots.now.seen part.now.bound.need n.rank;
-          support = n.support;
-          snapshots = [];
-        }) next.now }
+        ≡ map (empty_for snapshots.now.seen part.now.bound.need) next.now }
     ensures all { OnOk result (length longer.new.items ≡ length next.now) }
     ensures each { OnOk result ((ranks : List ℕ) → AreSnapshots part.now ranks snapshots.now
         → (i : ℕ) (n : Next) (list : SnapshotList) → slice_get next.now i ≡ Some n
