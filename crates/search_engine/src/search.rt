@@ -71,7 +71,7 @@ impl<'a> Search<'a> {
     }
 
     /// The job.
-    fn job(&self) -> &'a Job
+    pub(crate) fn job(&self) -> &'a Job
         ensures problem { result.now ≡ self.now.problem }
         ensures whole { IsWhole self.now.problem }
     {
