@@ -20,14 +20,6 @@ use Rattle.snapshot_project.specs.Extensions.{sequences_of, GeneratesWithin}
 use Rattle.dfs_growth.specs.Projections.{part_of, IsPartBy}
 use Rattle.dfs_growth.proofs.PartLemmas.{for_part, Within, Behind, part-counts, generates-within, within-pivot}
 
--- an empty prefix has no row
-pub row-empty : (problem : Problem) (pivot : ℕ) (ranks : List ℕ) → ranks ≡ [] → (row : Row) → IsRowAt (data_of problem) problem.ranking.order pivot ranks row → ⊥
-row-empty problem pivot ranks empty row at = none row.pattern (subst (AreRanked problem.ranking.order row.pattern) empty at.ranked) at.frequent.not_empty
-  where
-    none : (pattern : List Item) → AreRanked problem.ranking.order pattern [] → pattern ≢ [] → ⊥
-    none [] ranked some = some refl
-    none (v ∷ pattern) ranked some = ranked
-
 module _ (problem : Problem) (seed : PartSeed) (complete : IsComplete problem seed) where
   abbrev IsPattern : List Item → List Item → Type 0
   IsPattern pattern items = IsPatternOf problem.hierarchy.links (tree_of problem.machine.expression) items pattern

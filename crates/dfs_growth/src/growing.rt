@@ -68,7 +68,7 @@ fn projection<'a>(
     }
 }
 
-// The row of the label, where its prefix is frequent.
+// The row of the label, where its prefix is frequent. The empty prefix has no support.
 fn row_of(
     alloc: Global,
     job: &Job,
@@ -81,15 +81,11 @@ fn row_of(
     ensures { IfOk result (λ row. let prefix = prefix_at job.now label.now in
         IsRowOf (data_of job.now) job.now.ranking.order prefix.pivot prefix.ranks row) }
 {
-    let ranks = &label[1..];
-    if ranks.is_empty() {
-        return Ok(None);
-    }
     let support = support(part, snapshots);
     if support < job.support() {
         return Ok(None);
     }
-    let pattern = pattern_of(alloc, job.ranks(), ranks)?;
+    let pattern = pattern_of(alloc, job.ranks(), &label[1..])?;
     Ok(Some(Row { pattern, support }))
 }
 

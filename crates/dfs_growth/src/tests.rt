@@ -204,7 +204,7 @@ fn follow<'a>(
 
 /// The node whose label ends with this number.
 fn ending(nodes: Vec<Node>, last: u32) -> Option<Node>
-    ensures { IfSome result (Contains nodes.items) }
+    ensures { IfSome result (Contains nodes.entry.items) }
 {
     'nodes: for node in nodes {
         if node.label.last().copied() == Some(last) {

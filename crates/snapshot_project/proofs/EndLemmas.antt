@@ -1,5 +1,5 @@
 -- The weight of the sequences that generate a prefix itself, group by group.
-use Rattle.std.proofs.Common.{◌≡◌, ◌↔◌, ℕ, ◌+◌, ◌≤◌, ◌<◌, inl, inr, Bool, IsTrue, List, Some, length, drop, refl, sym, ap, ◌∙◌, subst, arith}
+use Rattle.std.proofs.Common.{◌≡◌, ℕ, ◌+◌, ◌≤◌, ◌<◌, IsTrue, List, Some, length, drop, sym, ap, ◌∙◌, subst, arith}
 use Rattle.std.specs.List.{Contains, slice_get, slice_index, slice_range}
 use Rattle.std.proofs.lemmas.Option.{same_Some, slice_get-get_or}
 use Rattle.mine_model.specs.Database.{sequence_at}
@@ -17,7 +17,7 @@ use Rattle.snapshot_project.specs.Ends.{EndsAt}
 use Rattle.snapshot_project.proofs.SnapshotLemmas.{snapshot-state}
 use Rattle.snapshot_project.proofs.ListedLemmas.{snapshots-of, generates-listed}
 use Rattle.snapshot_project.proofs.SumLemmas.{sum-none, sum-add, sum-pass, sum-all}
-use Rattle.snapshot_project.proofs.ReadLemmas.{numbers-same, range-some, range-held, read-group, read-passed, read-sequence, read-all}
+use Rattle.snapshot_project.proofs.ReadLemmas.{range-some, range-held, read-group, read-passed, read-sequence, read-all}
 
 module _ (part : GridList) (is : IsPart part) (ranks : List ℕ) (list : SnapshotList) (are : AreSnapshots part ranks list) where
   -- a sequence without snapshots does not generate the prefix

@@ -1,5 +1,5 @@
 -- Hits that are filed one after another.
-use Rattle.std.proofs.Common.{◌≡◌, ◌≢◌, ◌↔◌, ℕ, ◌+◌, ◌≤◌, ◌<◌, ◌==◌, ◌⊎◌, inl, inr, Bool, true, false, cond, eqb, Some, List, [], ◌∷◌, ◌++◌, map, length, get_or, set, refl, sym, ap, ◌∙◌, subst, arith, append_assoc, get_or-set_other, get_or-set_same}
+use Rattle.std.proofs.Common.{◌≡◌, ◌≢◌, ℕ, ◌+◌, ◌<◌, ◌==◌, inl, inr, Bool, true, false, cond, Some, List, [], ◌∷◌, ◌++◌, map, length, get_or, set, refl, sym, ap, ◌∙◌, subst, arith, append_assoc, get_or-set_other, get_or-set_same}
 use Rattle.std.specs.List.{AllPairs, filter, slice_get, slice_index}
 use Rattle.std.proofs.lemmas.List.{map-append, append-nil}
 use Rattle.std.proofs.lemmas.List.Elements.{filter-append}
@@ -104,7 +104,7 @@ module _ (sequence : ℕ) (next : List NextRank) (places : List ℕ) (placed : A
       → AreFiled sequence next (hits ++ hit ∷ []) begun now
   filed-nowhere place d is none k n old at_k at_old =
       let apart : hit.rank ≢ n.rank = λ same.
-          let here : place ≡ k = is ∙ ap (λ (r : ℕ). slice_index places r) same ∙ place-of k n at_k in
-          let inside : k < length next = slice_get_within next k n at_k in
-          none (omega arith) (ap (λ (i : ℕ). (get_or next i d).rank) here ∙ ap (λ (m : NextRank). m.rank) (get_or_from_slice_get next k n d at_k) ∙ sym same) in
+      let here : place ≡ k = is ∙ ap (λ (r : ℕ). slice_index places r) same ∙ place-of k n at_k in
+      let inside : k < length next = slice_get_within next k n at_k in
+      none (omega arith) (ap (λ (i : ℕ). (get_or next i d).rank) here ∙ ap (λ (m : NextRank). m.rank) (get_or_from_slice_get next k n d at_k) ∙ sym same) in
       so_far k n old at_k at_old ∙ ap Some (more-other sequence n.rank hits hit old apart)

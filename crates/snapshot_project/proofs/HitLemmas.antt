@@ -1,15 +1,14 @@
 -- Hits that are found state by state.
-use Rattle.std.proofs.Common.{◌≡◌, ◌≢◌, ◌↔◌, ℕ, ◌+◌, ◌<◌, ◌≤◌, ◌⊎◌, inl, inr, IsTrue, Bool, Option, Some, List, [], ◌∷◌, ◌++◌, length, map, refl, sym, ap, ◌∙◌, subst, arith, append_assoc}
+use Rattle.std.proofs.Common.{◌≡◌, ◌≢◌, ◌↔◌, ℕ, ◌<◌, ◌⊎◌, inl, inr, IsTrue, Bool, Option, Some, List, [], ◌∷◌, ◌++◌, length, map, sym, ap, ◌∙◌, subst, arith, append_assoc}
 use Rattle.std.specs.List.{AllPairs, Contains, slice_index_or}
 use Rattle.std.proofs.Math.Seq.{get_or-append_seam}
 use Rattle.std.proofs.lemmas.List.{append-nil, get_or_append_left, length-append}
-use Rattle.std.proofs.lemmas.List.Elements.{Contains-append_left, Contains-append_right, Contains-append_cases, Contains-get_or}
+use Rattle.std.proofs.lemmas.List.Elements.{Contains-append_left, Contains-append_right, Contains-append_cases}
 use Rattle.state_bits.specs.Members.{Has, HasBit}
 use Rattle.mine_model.proofs.ListLemmas.{AllPairs-append, AllPairs-head, AllPairs-tail, Contains-cases, Contains-first, Contains-none, Contains-by, Contains-from}
 use Rattle.fst_simulate.specs.declared.reading.Reading.{Reading}
 use Rattle.fst_simulate.specs.Readings.{outputs_at}
 use Rattle.snapshot_project.specs.declared.hit.Hit.{Hit}
-use Rattle.snapshot_project.specs.declared.aim.Aim.{Aim}
 use Rattle.snapshot_project.specs.Aims.{sees_all}
 use Rattle.snapshot_project.specs.Hits.{StandsBefore, AreInOrder, Passes, IsWritten}
 

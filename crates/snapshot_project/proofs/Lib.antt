@@ -19,3 +19,6 @@ pub mod WayLemmas
 pub mod StepLemmas
 pub mod SearchLemmas
 pub mod EndLemmas
+pub mod CountLemmas
+pub mod EnoughLemmas
+pub mod NextLemmas

@@ -11,7 +11,7 @@ use Rattle.fst_simulate.specs.declared.successors.Successors.{Successors}
 use Rattle.fst_simulate.specs.Problems.{Problem, IsWhole}
 use Rattle.fst_simulate.specs.Grids.{GridList}
 use Rattle.fst_simulate.specs.Successors.{AreSuccessorsOf}
-use Rattle.snapshot_project.specs.Snapshots.{IsPart, bound_of}
+use Rattle.snapshot_project.specs.Snapshots.{bound_of}
 use Rattle.snapshot_project.specs.Parts.{IsKept}
 
 rising-least : (numbers : List ℕ) → AllPairs (λ low high. low < high) numbers → (i : ℕ) → i < length numbers → i ≤ get_or numbers i 0

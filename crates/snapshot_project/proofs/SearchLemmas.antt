@@ -1,5 +1,5 @@
 -- A search in a part of numbers that rise.
-use Rattle.std.proofs.Common.{◌≡◌, ◌≢◌, ℕ, ◌+◌, ◌-◌, ◌<◌, ◌≤◌, inl, inr, Result, Ok, Err, Some, List, length, take, drop, get_or, nat_cmp, length-take, length-drop, get_or-take, get_or-drop, refl, sym, ap, ◌∙◌, arith}
+use Rattle.std.proofs.Common.{◌≡◌, ◌≢◌, ℕ, ◌+◌, ◌-◌, ◌<◌, ◌≤◌, inl, inr, Ok, Err, Some, List, length, drop, get_or, nat_cmp, length-take, length-drop, get_or-take, get_or-drop, refl, sym, ap, ◌∙◌, arith}
 use Rattle.std.specs.List.{AllPairs, slice_get, slice_range}
 use Rattle.std.specs.List.Sorted.{IsBinarySearchResult}
 use Rattle.std.proofs.lemmas.Bool.{cases_lt, cases_eq}

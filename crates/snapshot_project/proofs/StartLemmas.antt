@@ -1,11 +1,11 @@
 -- The starts of the sequences.
-use Rattle.std.proofs.Common.{◌≡◌, ◌↔◌, ℕ, ◌+◌, ◌≤◌, ◌<◌, inl, inr, false, Some, List, [], ◌∷◌, ◌++◌, length, refl, sym, ap, ◌∙◌, subst, arith}
-use Rattle.std.specs.List.{AllPairs, Contains, slice_get}
+use Rattle.std.proofs.Common.{◌≡◌, ℕ, ◌+◌, ◌≤◌, inl, inr, false, Some, List, [], ◌∷◌, ◌++◌, length, sym, ap, ◌∙◌, subst, arith}
+use Rattle.std.specs.List.{Contains, slice_get}
 use Rattle.mine_model.proofs.ListLemmas.{Contains-none, Contains-cases, Contains-first}
 use Rattle.fst_simulate.specs.Problems.{items_of}
 use Rattle.fst_simulate.specs.Grids.{GridList, Completes}
 use Rattle.snapshot_project.specs.declared.snapshot.Snapshot.{Snapshot}
-use Rattle.snapshot_project.specs.Snapshots.{IsPart, ComesBefore, SnapshotList, AreSnapshots}
+use Rattle.snapshot_project.specs.Snapshots.{IsPart, SnapshotList, AreSnapshots}
 use Rattle.snapshot_project.proofs.FoundLemmas.{AreFoundBefore, found-more, found-all}
 use Rattle.snapshot_project.proofs.ListedLemmas.{snapshots-start}
 use Rattle.std.proofs.lemmas.List.{append-nil}

@@ -1,6 +1,5 @@
 -- What the words of a reading say of the live states.
-use Rattle.std.proofs.Common.{◌≡◌, ◌↔◌, ℕ, ◌+◌, ◌<◌, ◌≤◌, ◌⊎◌, inl, inr, Bool, true, false, ◌==◌, IsTrue, Option, Some, None, List, [], length, refl, sym, ap, ◌∙◌, subst, arith, rules}
-use Rattle.std.specs.List.{Contains}
+use Rattle.std.proofs.Common.{◌≡◌, ◌↔◌, ℕ, ◌<◌, ◌≤◌, ◌⊎◌, inl, inr, Bool, true, false, ◌==◌, IsTrue, Option, Some, None, List, [], length, refl, sym, ap, subst}
 use Rattle.std.proofs.lemmas.Bool.{cases_Bool, or_cases, or_left, or_right}
 use Rattle.std.proofs.lemmas.Bool.Decides.{Decides-eqb}
 use Rattle.std.proofs.lemmas.Option.{same_Some}
@@ -10,13 +9,12 @@ use Rattle.mine_model.proofs.RankLemmas.{HasRank-most}
 use Rattle.fst_simulate.specs.declared.bound.Bound.{Bound}
 use Rattle.fst_simulate.specs.declared.reading.Reading.{Reading}
 use Rattle.fst_simulate.specs.Problems.{Problem}
-use Rattle.fst_simulate.specs.Grids.{Completes, Reads, WritesRank}
+use Rattle.fst_simulate.specs.Grids.{Completes, Reads}
 use Rattle.fst_simulate.specs.Readings.{IsReading, IsReadAt}
 use Rattle.fst_simulate.specs.Successors.{LeadsFrom}
 use Rattle.snapshot_project.specs.declared.hit.Hit.{Hit}
-use Rattle.snapshot_project.specs.declared.aim.Aim.{Aim}
 use Rattle.snapshot_project.specs.Aims.{sees, sees_all}
-use Rattle.snapshot_project.specs.Hits.{IsHitOf, AreRanksWithin, IsWritten, words_of}
+use Rattle.snapshot_project.specs.Hits.{IsHitOf, IsWritten, words_of}
 
 -- with which ranks what is needed is seen
 sees-cases : (seen : Bool) (need : Option ℕ) (rank : ℕ) → IsTrue (sees seen need rank) ↔ (IsTrue (sees_all seen need) ⊎ (need ≡ Some rank))

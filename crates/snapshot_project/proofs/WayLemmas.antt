@@ -1,6 +1,6 @@
 -- The way of a prefix through one sequence, position by position.
-use Rattle.std.proofs.Common.{◌≡◌, ◌↔◌, ℕ, suc, ◌+◌, ◌<◌, ◌≤◌, ◌⊎◌, inl, inr, Bool, IsTrue, Some, List, [], length, drop, get_or, refl, sym, ap, ◌∙◌, subst, arith}
-use Rattle.std.specs.List.{AllPairs, Contains, slice_get}
+use Rattle.std.proofs.Common.{◌≡◌, ◌↔◌, ℕ, ◌+◌, ◌<◌, ◌≤◌, ◌⊎◌, inl, inr, Bool, Some, List, [], length, drop, get_or, sym, ap, ◌∙◌, subst, arith}
+use Rattle.std.specs.List.{Contains, slice_get}
 use Rattle.std.proofs.lemmas.Bool.{cases_lt, cases_eq}
 use Rattle.std.proofs.lemmas.Option.{slice_get_within, get_or_from_slice_get, slice_get-get_or, same_Some}
 use Rattle.state_bits.specs.Members.{Has}
@@ -10,12 +10,11 @@ use Rattle.mine_model.proofs.ElementLemmas.{get-held}
 use Rattle.mine_model.proofs.ListLemmas.{Contains-none}
 use Rattle.fst_simulate.specs.declared.bound.Bound.{Bound}
 use Rattle.fst_simulate.specs.Problems.{Problem, IsWhole}
-use Rattle.fst_simulate.specs.Grids.{Completes, Reads, WritesRank}
+use Rattle.fst_simulate.specs.Grids.{Completes, Reads}
 use Rattle.fst_simulate.specs.Successors.{LeadsFrom}
-use Rattle.fst_simulate.proofs.GridLemmas.{item_there}
 use Rattle.snapshot_project.specs.declared.snapshot.Snapshot.{Snapshot}
 use Rattle.snapshot_project.specs.declared.hit.Hit.{Hit}
-use Rattle.snapshot_project.specs.Aims.{sees, goes}
+use Rattle.snapshot_project.specs.Aims.{goes}
 use Rattle.snapshot_project.specs.Snapshots.{HasSnapshot}
 use Rattle.snapshot_project.specs.Live.{WritesNext}
 use Rattle.snapshot_project.specs.Hits.{AreInOrder, AreHits, IsHitOf}

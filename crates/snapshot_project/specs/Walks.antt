@@ -1,5 +1,5 @@
 -- The way of a prefix through one sequence.
-use Rattle.std.specs.Prelude.{◌≡◌, ℕ, zero, suc, ◌+◌, ◌≤◌, ◌<◌, Bool, ◌⊎◌, ◌↔◌, IsTrue, Some, List, [], length, drop, slice_get, AllPairs, Contains}
+use Rattle.std.specs.Prelude.{◌≡◌, ℕ, zero, suc, ◌+◌, ◌≤◌, ◌<◌, Bool, ◌⊎◌, ◌↔◌, IsTrue, Some, List, [], drop, slice_get, AllPairs, Contains}
 use Rattle.state_bits.specs.Members.{Has}
 use Rattle.mine_model.specs.declared.item.Item.{Item}
 use Rattle.fst_compile.specs.Transducer.{Leads}
@@ -8,7 +8,7 @@ use Rattle.fst_simulate.specs.Problems.{Problem}
 use Rattle.fst_simulate.specs.Grids.{HoldsNeeded, Completes, Reads}
 use Rattle.snapshot_project.specs.declared.snapshot.Snapshot.{Snapshot}
 use Rattle.snapshot_project.specs.declared.hit.Hit.{Hit}
-use Rattle.snapshot_project.specs.Snapshots.{HasSnapshot, ComesBefore}
+use Rattle.snapshot_project.specs.Snapshots.{HasSnapshot}
 use Rattle.snapshot_project.specs.Live.{IsLive, WritesNext}
 
 -- the snapshots are exactly those of the prefix in these items, by rising position

@@ -1,9 +1,10 @@
 //! The snapshots of the prefixes that are longer by one.
 
-ghost use Rattle.std.specs.Prelude.{◌≡◌, ℕ, ◌-◌, ◌≤◌, ◌<◌, List, [], ◌∷◌, ◌++◌, length, map, All, AllPairs, IfOk, OnOk, Some, slice_get};
+ghost use Rattle.std.specs.Prelude.{◌≡◌, ℕ, ◌≤◌, ◌<◌, List, [], ◌∷◌, ◌++◌, length, map, All, AllPairs, IfOk, OnOk, Some, slice_get};
 ghost use Rattle.snapshot_project.specs.declared.next_rank.NextRank.{NextRank as Next};
 ghost use Rattle.snapshot_project.specs.Snapshots.{SnapshotList, AreSnapshots};
 ghost use Rattle.snapshot_project.specs.Sums.{ArePlaced};
+ghost use Rattle.snapshot_project.specs.Files.{empty_for};
 ghost use Rattle.snapshot_project.specs.Aims.{sees as sees_with};
 
 use super::filing::{file_all, file_rank, place_ranks};
@@ -70,8 +71,10 @@ pub fn advance_all(
     if next.is_empty() {
         return Ok(Vec::new(alloc));
     }
+    // Its contract also says that the ranks up to the top have room.
+    let need = part.need();
     place_ranks(next, &mut room.places)?;
-    let mut longer = empty_lists(alloc, next, snapshots.seen(), part.need())?;
+    let mut longer = empty_lists(alloc, next, snapshots.seen(), need)?;
     fill_lists(
         part,
         snapshots,
@@ -83,6 +86,9 @@ pub fn advance_all(
     Ok(longer)
 }
 
+// So many snapshots at most have room before they are found: what is expected is no more than a hint.
+const MOST_ROOM: usize = 65_536;
+
 /// For each of these ranks no snapshots yet, with room for as many as are expected.
 fn empty_lists(
     alloc: Global,
@@ -90,12 +96,12 @@ fn empty_lists(
     seen: bool,
     need: Option<u32>,
 ) -> Result<Vec<Snapshots>, NoMemory>
-    ensures { IfOk result (λ lists. lists.items
-        ≡ map (λ n. record { seen = sees_with seen need n.rank; snapshots = [] }) next.now) }
+    ensures { IfOk result (λ lists. lists.items ≡ map (empty_for seen need) next.now) }
 {
     let mut lists = Vec::with_capacity(alloc, next.len())?;
     for n in next {
-        lists.push(Snapshots::new(alloc, sees(seen, need, n.rank), n.snapshots)?)?;
+        let room = n.snapshots.min(MOST_ROOM);
+        lists.push(Snapshots::new(alloc, sees(seen, need, n.rank), room)?)?;
     }
     Ok(lists)
 }
@@ -113,7 +119,7 @@ fn fill_lists(
     requires room { length part.now.problem.ranking.order < length places.now }
     requires placed { ArePlaced places.now (map (λ n. n.rank) next.now) }
     requires empty { longer.old.items
-        ≡ map (λ n. record { seen = sees_with snapshots.now.seen part.now.bound.need n.rank; snapshots = [] }) next.now }
+        ≡ map (empty_for snapshots.now.seen part.now.bound.need) next.now }
     ensures all { OnOk result (length longer.new.items ≡ length next.now) }
     ensures each { OnOk result ((ranks : List ℕ) → AreSnapshots part.now ranks snapshots.now
         → (i : ℕ) (n : Next) (list : SnapshotList) → slice_get next.now i ≡ Some n

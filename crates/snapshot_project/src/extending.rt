@@ -56,15 +56,11 @@ fn count(
     ensures weights { OnOk result ((ranks : List ℕ) → AreSnapshots part.now ranks snapshots.now
         → (rank : ℕ) → CanFollow part.now ranks rank (weight_of sums.new.items rank)) }
 {
+    let sequences = part.sequences();
     sums.clear();
     let mut read = 0;
     let mut grid = 0;
-    'groups: while let Some(group) = next_group(
-        part.sequences(),
-        snapshots.as_slice(),
-        read,
-        grid,
-    ) {
+    'groups: while let Some(group) = next_group(sequences, snapshots.as_slice(), read, grid) {
         let stretch = &snapshots.as_slice()[read..group.end];
         walk(part, group.grid, stretch, snapshots.seen(), hits)?;
         let weight = part.weight(group.grid);

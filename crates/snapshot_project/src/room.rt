@@ -19,12 +19,15 @@ pub struct Room {
 }
 
 impl Model for Room {
-    ghost use Rattle.std.specs.Prelude.{ℕ, ◌-◌, length};
+    ghost use Rattle.std.specs.Prelude.{ℕ, ◌-◌, ◌≤◌, length};
 
     // up to which rank there is room
     ghost Value = { ℕ };
 
     ghost view = { λ r. length r.places.items - 1 };
+
+    // no rank is 0, so there is a place more
+    ghost invariant = { λ r. 1 ≤ length r.places.items };
 }
 
 impl Room {

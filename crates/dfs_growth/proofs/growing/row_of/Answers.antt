@@ -5,16 +5,8 @@ use Rattle.mine_model.specs.Ranks.{AreRanked}
 use Rattle.fst_simulate.specs.Problems.{Problem}
 use Rattle.dfs_growth.specs.Nodes.{prefix_at}
 use Rattle.dfs_growth.proofs.NodeLemmas.{ranks-at, part-at, ranks-bounded}
-use Rattle.dfs_growth.proofs.RowLemmas.{row-empty, row-few, row-enough}
+use Rattle.dfs_growth.proofs.RowLemmas.{row-few, row-enough}
 use Rattle.dfs_growth.proofs.growing.row_of.Goals as goal
-
-pub returns-then-is_empty : goal.returns-then-is_empty
-returns-then-is_empty c =
-    let job = c.args.job.now in
-    let label = c.args.label.now in
-    let prefix = prefix_at job label in
-    let none : length prefix.ranks ≡ 0 = subst (λ l. length l ≡ 0) (ranks-at job label c.requires.some) (eqb-true _ 0 (sym c.is_empty.ensures ∙ c.if-is_empty.true)) in
-    row-empty job prefix.pivot prefix.ranks (nil_from_length prefix.ranks none)
 
 pub returns-then-support : goal.returns-then-support
 returns-then-support c =

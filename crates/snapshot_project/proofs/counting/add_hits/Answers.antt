@@ -1,8 +1,7 @@
-use Rattle.std.proofs.Common.{◌≡◌, ℕ, ◌+◌, ◌≤◌, ◌<◌, List, [], ◌∷◌, ◌++◌, length, get_or, take, sym, ap, ◌∙◌, subst, arith, rules, refl, Some}
-use Rattle.std.specs.List.{slice_get}
+use Rattle.std.proofs.Common.{◌≡◌, ◌+◌, List, [], ◌∷◌, ◌++◌, get_or, take, sym, subst, arith, rules, refl}
 use Rattle.std.proofs.lemmas.List.{take_more, take_all}
 use Rattle.snapshot_project.specs.declared.hit.Hit.{Hit}
-use Rattle.snapshot_project.specs.Sums.{AreSums, AreAdded, IsAdded, HaveAdded}
+use Rattle.snapshot_project.specs.Sums.{AreAdded, HaveAdded}
 use Rattle.snapshot_project.proofs.TallyLemmas.{sums-later, sums-earlier, added-none, added-more, added-all}
 use Rattle.snapshot_project.proofs.counting.add_hits.Goals as goal
 

@@ -1,4 +1,4 @@
-use Rattle.std.proofs.Common.{◌≡◌, ℕ, ◌<◌, ◌≤◌, map, length, Some}
+use Rattle.std.proofs.Common.{◌≡◌, ℕ, ◌<◌, map, length, Some}
 use Rattle.std.specs.List.{slice_get, slice_index}
 use Rattle.snapshot_project.proofs.filing.place_ranks.Given as goal
 

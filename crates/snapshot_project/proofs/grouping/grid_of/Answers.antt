@@ -1,6 +1,6 @@
-use Rattle.std.proofs.Common.{◌+◌, ◌-◌, ◌<◌, ◌≤◌, ℕ, length, get_or, arith, inl, inr}
+use Rattle.std.proofs.Common.{◌+◌, ◌-◌, ◌<◌, ◌≤◌, get_or, arith, inl, inr}
 use Rattle.std.proofs.lemmas.Bool.{cases_lt}
-use Rattle.snapshot_project.proofs.SearchLemmas.{rises_on, search_found, search_missed}
+use Rattle.snapshot_project.proofs.SearchLemmas.{search_found, search_missed}
 use Rattle.snapshot_project.proofs.grouping.grid_of.Goals as goal
 use Rattle.snapshot_project.proofs.grouping.grid_of.Goals.{then-steps-test+else-sequences-low, else-steps-test}
 

@@ -1,5 +1,4 @@
 use Rattle.std.proofs.Common.{◌≡◌, take}
-use Rattle.fst_simulate.specs.Grids.{GridList}
 use Rattle.snapshot_project.proofs.part.grids_of.Given as goal
 
 abbrev pub invariant-loop-number : goal.invariant-loop-number

@@ -1,11 +1,9 @@
-use Rattle.std.proofs.Common.{◌≡◌, ◌<◌, ◌≤◌, ◌∷◌, [], ◌++◌, ◌+◌, Some, false, List, ℕ, length, get_or, sym, subst, ap, ◌∙◌, refl, arith}
+use Rattle.std.proofs.Common.{◌≡◌, ◌<◌, ◌≤◌, ◌∷◌, [], ◌++◌, ◌+◌, Some, false, List, ℕ, length, get_or, sym, subst, ap, ◌∙◌, arith}
 use Rattle.std.specs.List.{slice_get}
 use Rattle.std.proofs.lemmas.Option.{slice_get-get_or}
-use Rattle.fst_simulate.specs.Problems.{items_of}
 use Rattle.fst_simulate.specs.Grids.{GridList, Completes, items_at}
-use Rattle.snapshot_project.specs.declared.snapshot.Snapshot.{Snapshot}
 use Rattle.snapshot_project.specs.Snapshots.{SnapshotList}
-use Rattle.snapshot_project.proofs.FoundLemmas.{AreFoundBefore, found-none}
+use Rattle.snapshot_project.proofs.FoundLemmas.{AreFoundBefore}
 use Rattle.snapshot_project.proofs.StartLemmas.{IsStart, start-more, start-pass, start-all}
 use Rattle.snapshot_project.proofs.starting.start.Goals as goal
 use Rattle.snapshot_project.proofs.starting.start.Goals.{then-completes+in_ok-push, else-completes}

@@ -1,4 +1,4 @@
-use Rattle.std.proofs.Common.{◌≡◌, ap, sym, ◌∙◌, inl, inr, Some, true, false, true≢false, rules}
+use Rattle.std.proofs.Common.{ap, sym, ◌∙◌, inl, inr, Some, true≢false}
 use Rattle.std.proofs.lemmas.Option.{same_Some}
 use Rattle.snapshot_project.proofs.stepping.allowed.Goals as goal
 

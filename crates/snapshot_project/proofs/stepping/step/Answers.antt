@@ -1,5 +1,5 @@
-use Rattle.std.proofs.Common.{◌≡◌, ◌↔◌, ◌⊎◌, ◌+◌, ◌^◌, ◌<◌, ◌≤◌, ℕ, inl, inr, length, Option, Some, sym, ◌∙◌, subst, arith, rules}
-use Rattle.std.specs.List.{Contains, slice_get}
+use Rattle.std.proofs.Common.{◌≡◌, ◌↔◌, ◌+◌, ◌<◌, ◌≤◌, ℕ, inl, inr, length, Option, Some, sym, subst, arith, rules}
+use Rattle.std.specs.List.{slice_get}
 use Rattle.mine_model.specs.declared.item.Item.{Item}
 use Rattle.state_bits.specs.Members.{Has}
 use Rattle.fst_simulate.specs.Grids.{items_at, rest_at}

@@ -1,18 +1,15 @@
-use Rattle.std.proofs.Common.{◌≡◌, ◌↔◌, ℕ, ◌≤◌, ◌<◌, ◌+◌, ◌*◌, ◌-◌, IsTrue, Some, List, length, refl, sym, ap, ◌∙◌, subst, arith, rules}
-use Rattle.std.specs.List.{Contains, slice_get, slice_index, slice_range}
+use Rattle.std.proofs.Common.{◌≡◌, ◌↔◌, ℕ, ◌≤◌, ◌<◌, ◌+◌, IsTrue, List, length, sym, ap, ◌∙◌, subst, arith}
+use Rattle.std.specs.List.{Contains, slice_index, slice_range}
 use Rattle.std.proofs.lemmas.Option.{slice_get_within}
-use Rattle.mine_model.specs.Limits.{most_weight}
 use Rattle.mine_model.specs.Database.{sequence_at}
 use Rattle.mine_model.specs.Support.{Counts}
 use Rattle.snapshot_project.specs.Extensions.{GeneratesWithin}
 use Rattle.snapshot_project.specs.Live.{sequences_before}
 use Rattle.snapshot_project.specs.declared.snapshot.Snapshot.{Snapshot}
-use Rattle.snapshot_project.specs.Snapshots.{AreSnapshots}
 use Rattle.snapshot_project.specs.Groups.{IsNextGroup}
 use Rattle.snapshot_project.specs.Ends.{EndsAt}
-use Rattle.snapshot_project.proofs.SumLemmas.{sum-none}
 use Rattle.snapshot_project.proofs.ListedLemmas.{snapshots-of}
-use Rattle.snapshot_project.proofs.ReadLemmas.{next-shown, none-shown, read-none, read-next}
+use Rattle.snapshot_project.proofs.ReadLemmas.{next-shown, none-shown, read-next}
 use Rattle.snapshot_project.proofs.EndLemmas.{support-add, support-pass, support-all, support-none}
 use Rattle.snapshot_project.proofs.supporting.support.Goals as goal
 use Rattle.snapshot_project.proofs.supporting.support.Goals.{then-end_in, else-end_in}

@@ -1,13 +1,10 @@
-use Rattle.std.proofs.Common.{◌≡◌, ◌↔◌, ◌⊎◌, ◌+◌, ◌*◌, ◌<◌, ◌≤◌, ℕ, Bool, inl, inr, List, [], length, Some, sym, ap, ◌∙◌, subst, arith, rules}
-use Rattle.std.specs.List.{Contains, slice_get}
+use Rattle.std.proofs.Common.{◌≡◌, ◌↔◌, ◌+◌, ◌*◌, ◌<◌, ◌≤◌, ℕ, Bool, inl, inr, [], length, sym, ap, ◌∙◌, subst, arith, rules}
 use Rattle.state_bits.specs.Members.{Has}
 use Rattle.fst_compile.proofs.RowLemmas.{Has-none}
-use Rattle.mine_model.specs.declared.item.Item.{Item}
 use Rattle.mine_model.proofs.ListLemmas.{Contains-none}
 use Rattle.fst_simulate.specs.Grids.{Completes, Reads, items_at, rest_at}
 use Rattle.fst_simulate.specs.Successors.{LeadsFrom}
 use Rattle.fst_simulate.proofs.GridLemmas.{item_there}
-use Rattle.snapshot_project.specs.declared.hit.Hit.{Hit}
 use Rattle.snapshot_project.specs.Aims.{goes}
 use Rattle.snapshot_project.proofs.WayLemmas.{next-forward, useful-next, order-later, way-first, way-more, way-all}
 use Rattle.snapshot_project.proofs.walking.walk_over.Given.{Over}
