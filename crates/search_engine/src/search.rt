@@ -71,7 +71,7 @@ impl<'a> Search<'a> {
     }
 
     /// The job.
-    pub(crate) fn job(&self) -> &'a Job
+    fn job(&self) -> &'a Job
         ensures problem { result.now ≡ self.now.problem }
         ensures whole { IsWhole self.now.problem }
     {

@@ -156,7 +156,8 @@ fn job<R: Threads + Sync>(rt: &R, alloc: Global, support: u64) -> Result<Job, Fa
     let db = database(alloc, &RUNNING)?;
     let fst = compile(alloc, &expression(alloc)?)?;
     let ranks = count(rt, alloc, &hierarchy, &db, support, &names)?;
-    Ok(Job::new(hierarchy, db, fst, ranks, support))
+    let job = Job::new(hierarchy, db, fst, ranks, support);
+    Ok(job)
 }
 
 /// What a simulated run finds.
@@ -239,8 +240,6 @@ fn rows_stand_in_the_order_of_the_schedule(rt: HostRuntime) -> Result<(), Fail> 
 fn posted<R: Threads + Sync>(rt: &R, alloc: Global, choices: &[u64]) -> Result<Posted, Fail> {
     let job = job(rt, alloc, 2)?;
     let search = Search::new(alloc, &job)?;
-    // The job of a search is whole, so that its tree is finite.
-    let _job = search.job();
     Ok(run_schedule(alloc, &search, 3, choices)?)
 }
 
