@@ -1,21 +1,21 @@
 -- The kids of a label are the ranks that can follow in sequences that weigh enough.
-use Rattle.std.proofs.Common.{◌≡◌, ◌≢◌, ◌↔◌, ℕ, ◌≤◌, ◌<◌, List, [], ◌∷◌, ◌++◌, map, length, get_or, refl, sym, ap, ◌∙◌, subst, arith}
-use Rattle.std.specs.List.{All, AllByRecursion, AllPairs, Contains}
+use Rattle.std.proofs.Common.{◌≡◌, ◌≢◌, ℕ, ◌≤◌, ◌<◌, List, [], ◌∷◌, ◌++◌, map, get_or, sym, subst, arith}
+use Rattle.std.specs.List.{All, AllPairs, Contains}
 use Rattle.std.proofs.lemmas.List.{get_or_default}
 use Rattle.std.proofs.lemmas.List.Elements.{Contains-get_or, Contains-append_left}
 use Rattle.std.proofs.lemmas.List.Kept.{AllPairs-cons}
 use Rattle.std.proofs.lemmas.Simd.{map-map}
 use Rattle.mine_model.specs.declared.item.Item.{Item}
-use Rattle.mine_model.specs.Support.{Sequence, Counts}
-use Rattle.mine_model.specs.Growth.{WeighAtLeast, HasPatternBehind}
+use Rattle.mine_model.specs.Support.{Counts}
+use Rattle.mine_model.specs.Growth.{WeighAtLeast}
 use Rattle.mine_model.specs.Ranks.{HasRank, AreRanked}
-use Rattle.mine_model.specs.SearchTree.{IsRankedUpTo, IsWithin, IsWithinPivot, label_of, IsAliveLabel, AreKids}
+use Rattle.mine_model.specs.SearchTree.{IsRankedUpTo, label_of, IsAliveLabel, AreKids}
 use Rattle.mine_model.proofs.ListLemmas.{AllByRecursion-contained, Contains-by, Contains-from, Contains-first, Contains-other, AllPairs-head, AllPairs-tail}
 use Rattle.mine_model.proofs.RankedLemmas.{same_ranks}
 use Rattle.mine_model.proofs.FrequencyLemmas.{Counts-by}
 use Rattle.mine_model.proofs.AliveLemmas.{WeighAtLeast-counted, WeighAtLeast-weaker, WeighAtLeast-some}
 use Rattle.fst_simulate.specs.declared.part_seed.PartSeed.{PartSeed}
-use Rattle.fst_simulate.specs.Problems.{Problem, data_of, items_of}
+use Rattle.fst_simulate.specs.Problems.{Problem, data_of}
 use Rattle.fst_simulate.specs.Grids.{GridList}
 use Rattle.fst_simulate.specs.Parts.{pivot_of, IsComplete}
 use Rattle.snapshot_project.specs.declared.next_rank.NextRank.{NextRank}

@@ -1,11 +1,11 @@
 -- What is counted in the part of a complete seed is what is counted in all sequences.
-use Rattle.std.proofs.Common.{◌≡◌, ◌↔◌, ℕ, zero, suc, ◌≤◌, ◌<◌, Option, Some, None, IfSome, List, [], ◌∷◌, ◌++◌, map, length, refl, sym, ap, subst, arith}
+use Rattle.std.proofs.Common.{◌≡◌, ◌↔◌, ℕ, zero, suc, ◌≤◌, ◌<◌, Option, Some, None, IfSome, List, [], ◌++◌, length, sym, subst, arith}
 use Rattle.std.specs.List.{Contains}
 use Rattle.mine_model.specs.declared.item.Item.{Item}
 use Rattle.mine_model.specs.Generation.{IsPatternOf}
 use Rattle.mine_model.specs.Numbered.{tree_of}
 use Rattle.mine_model.specs.Ranks.{AreRanked}
-use Rattle.mine_model.specs.Support.{Sequence, Counts}
+use Rattle.mine_model.specs.Support.{Counts}
 use Rattle.mine_model.specs.Growth.{WeighAtLeast, HasPatternBehind}
 use Rattle.mine_model.specs.SearchTree.{IsWithin, IsWithinPivot}
 use Rattle.mine_model.proofs.RankedLemmas.{ranked-same}

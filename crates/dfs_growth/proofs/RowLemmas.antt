@@ -1,13 +1,12 @@
 -- The row of a label.
-use Rattle.std.proofs.Common.{◌≡◌, ◌≢◌, ◌↔◌, ℕ, ◌≤◌, ◌<◌, List, [], ◌∷◌, ◌++◌, length, refl, sym, ap, ◌∙◌, subst, arith}
-use Rattle.std.specs.List.{Contains}
+use Rattle.std.proofs.Common.{◌≡◌, ◌≢◌, ℕ, ◌≤◌, ◌<◌, List, [], ◌∙◌, subst, arith}
 use Rattle.mine_model.specs.declared.item.Item.{Item}
 use Rattle.mine_model.specs.declared.row.Row.{Row}
 use Rattle.mine_model.specs.Generation.{IsPatternOf}
 use Rattle.mine_model.specs.Numbered.{tree_of}
-use Rattle.mine_model.specs.Support.{Sequence, Counts}
+use Rattle.mine_model.specs.Support.{Counts}
 use Rattle.mine_model.specs.Ranks.{AreRanked}
-use Rattle.mine_model.specs.SearchTree.{IsWithinPivot, IsRowAt}
+use Rattle.mine_model.specs.SearchTree.{IsRowAt}
 use Rattle.mine_model.proofs.RankedLemmas.{ranked-same}
 use Rattle.mine_model.proofs.SupportLemmas.{Counts-unique}
 use Rattle.mine_model.proofs.FrequencyLemmas.{Counts-by}
@@ -15,10 +14,10 @@ use Rattle.mine_model.proofs.AliveLemmas.{WeighAtLeast-counted, WeighAtLeast-som
 use Rattle.fst_simulate.specs.declared.part_seed.PartSeed.{PartSeed}
 use Rattle.fst_simulate.specs.Problems.{Problem, data_of}
 use Rattle.fst_simulate.specs.Grids.{GridList}
-use Rattle.fst_simulate.specs.Parts.{pivot_of, IsComplete}
+use Rattle.fst_simulate.specs.Parts.{IsComplete}
 use Rattle.snapshot_project.specs.Extensions.{sequences_of, GeneratesWithin}
 use Rattle.dfs_growth.specs.Projections.{part_of, IsPartBy}
-use Rattle.dfs_growth.proofs.PartLemmas.{for_part, Within, Behind, part-counts, generates-within, within-pivot}
+use Rattle.dfs_growth.proofs.PartLemmas.{for_part, Within, part-counts, generates-within, within-pivot}
 
 module _ (problem : Problem) (seed : PartSeed) (complete : IsComplete problem seed) where
   abbrev IsPattern : List Item → List Item → Type 0

@@ -1,10 +1,9 @@
-use Rattle.std.proofs.Common.{◌≡◌, ◌≢◌, ◌≤◌, map, length, sym, ap, ◌∙◌, subst, rules, arith, All, AllPairs}
+use Rattle.std.proofs.Common.{◌≡◌, ◌≢◌, map, sym, ap, ◌∙◌, subst, arith, All, AllPairs}
 use Rattle.std.proofs.lemmas.Simd.{map-map}
 use Rattle.std.proofs.lemmas.Result.{IfOk-weaker}
 use Rattle.std.specs.Arc.{arc_value}
-use Rattle.mine_model.specs.declared.item.Item.{Item}
 use Rattle.mine_model.specs.SearchTree.{AreKids}
-use Rattle.fst_simulate.specs.Problems.{Problem, data_of}
+use Rattle.fst_simulate.specs.Problems.{data_of}
 use Rattle.snapshot_project.specs.declared.next_rank.NextRank.{NextRank}
 use Rattle.snapshot_project.specs.Extensions.{AreNextRanks}
 use Rattle.dfs_growth.specs.Nodes.{Prefix, label_at, prefix_at, longer_by}

@@ -1,8 +1,5 @@
-use Rattle.std.proofs.Common.{◌≡◌, ◌<◌, ◌≤◌, [], length, sym, ◌∙◌, subst, arith, Contains, All}
-use Rattle.std.proofs.lemmas.Bool.{eqb-true}
-use Rattle.std.proofs.lemmas.List.{nil_from_length}
+use Rattle.std.proofs.Common.{◌<◌, ◌≤◌, subst, arith}
 use Rattle.mine_model.specs.Ranks.{AreRanked}
-use Rattle.fst_simulate.specs.Problems.{Problem}
 use Rattle.dfs_growth.specs.Nodes.{prefix_at}
 use Rattle.dfs_growth.proofs.NodeLemmas.{ranks-at, part-at, ranks-bounded}
 use Rattle.dfs_growth.proofs.RowLemmas.{row-few, row-enough}

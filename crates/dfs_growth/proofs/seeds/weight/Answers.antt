@@ -1,4 +1,4 @@
-use Rattle.std.proofs.Common.{◌≤◌, ◌<◌, length, ap, arith}
+use Rattle.std.proofs.Common.{◌≤◌, length, ap, arith}
 use Rattle.dfs_growth.proofs.RootLemmas.{length-le_from_rising}
 use Rattle.dfs_growth.proofs.seeds.weight.Goals as goal
 

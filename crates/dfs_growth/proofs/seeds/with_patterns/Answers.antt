@@ -1,5 +1,5 @@
-use Rattle.std.proofs.Common.{◌≡◌, ◌↔◌, ℕ, ◌<◌, true, false, sym, ◌∙◌, subst, arith}
-use Rattle.std.specs.List.{AllPairs, Contains}
+use Rattle.std.proofs.Common.{◌≡◌, ◌↔◌, ℕ, ◌<◌, false, ◌∙◌, subst, arith}
+use Rattle.std.specs.List.{Contains}
 use Rattle.std.proofs.lemmas.Bool.{iff_false}
 use Rattle.fst_simulate.specs.Problems.{items_of}
 use Rattle.fst_simulate.specs.Grids.{Completes}
