@@ -15,7 +15,7 @@ use turn_lock::Kept;
 
 /// A label that was posted, which clauses alone read, and the number of the pass that posted it.
 #[derive(Drop)]
-pub(crate) struct Entry {
+struct Entry {
     number: u32,
     label: Snapshot<Label>,
 }

@@ -1,0 +1,19 @@
+-- From weights by rank to the ranks that can follow.
+use Rattle.std.proofs.Common.{ℕ, ◌≤◌, List, [], ◌∷◌, ◌++◌, subst}
+use Rattle.mine_model.proofs.AliveLemmas.{WeighAtLeast-counted}
+use Rattle.fst_simulate.specs.Grids.{GridList}
+use Rattle.snapshot_project.specs.declared.counting.Sum.{Sum}
+use Rattle.snapshot_project.specs.declared.next_rank.NextRank.{NextRank}
+use Rattle.snapshot_project.specs.Extensions.{GrowsBehind, CanFollow, AreNextRanks, sequences_of}
+use Rattle.snapshot_project.specs.Sums.{weight_of, AreEnough}
+
+pub next-enough : (part : GridList) (ranks : List ℕ) (least : ℕ) → 1 ≤ least → (sums : List Sum)
+    → ((rank : ℕ) → CanFollow part ranks rank (weight_of sums rank)) → (found : List NextRank) → AreEnough least sums found → AreNextRanks part ranks least found
+next-enough part ranks least some sums weights found enough = record {
+  rising = enough.rising;
+  right = λ next held.
+      let (reached, is) = enough.right next held in
+      (reached, subst (CanFollow part ranks next.rank) is (weights next.rank));
+  all = λ rank weighs. enough.all rank some
+      ((WeighAtLeast-counted (GrowsBehind part (ranks ++ rank ∷ [])) (sequences_of part) (weight_of sums rank) least (weights rank)).0 weighs);
+}
