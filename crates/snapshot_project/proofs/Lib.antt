@@ -7,3 +7,15 @@ pub mod SumLemmas
 pub mod GroupLemmas
 pub mod WalkLemmas
 pub mod ListedLemmas
+pub mod FileLemmas
+pub mod PartLemmas
+pub mod ReadLemmas
+pub mod FoundLemmas
+pub mod StartLemmas
+pub mod TallyLemmas
+pub mod LongerLemmas
+pub mod HitLemmas
+pub mod WayLemmas
+pub mod StepLemmas
+pub mod SearchLemmas
+pub mod EndLemmas

@@ -1,5 +1,5 @@
 -- The live states of a prefix, position by position, and the snapshots of the prefixes that are longer by one.
-use Rattle.std.proofs.Common.{◌≡◌, ◌↔◌, ℕ, zero, suc, ◌+◌, ◌-◌, ◌≤◌, ◌<◌, ◌⊎◌, inl, inr, Some, List, [], ◌∷◌, ◌++◌, length, take, drop, refl, sym, ap, ◌∙◌, subst, arith, append_assoc}
+use Rattle.std.proofs.Common.{◌≡◌, ◌↔◌, ℕ, ◌+◌, ◌≤◌, ◌<◌, ◌⊎◌, inl, inr, Some, List, [], ◌∷◌, ◌++◌, length, take, drop, refl, sym, ap, ◌∙◌, subst, arith, append_assoc}
 use Rattle.std.specs.List.{slice_get}
 use Rattle.std.proofs.lemmas.List.{append-nil, length-append, length-take-le, same_from_push, take-append-drop, take_more, drop_more}
 use Rattle.std.proofs.lemmas.Option.{get_or_from_slice_get, slice_get_within, same_Some}
@@ -167,12 +167,12 @@ module _ (problem : Problem) (bound : Bound) (prefix : List Item) where
   )
 
 -- what is done and what is left at a position
-cut-done : (items : List Item) (position : ℕ) (t : Item) → slice_get items position ≡ Some t → take (position + 1) items ≡ take position items ++ t ∷ []
+pub cut-done : (items : List Item) (position : ℕ) (t : Item) → slice_get items position ≡ Some t → take (position + 1) items ≡ take position items ++ t ∷ []
 cut-done items position t here =
     take_more items position t (slice_get_within items position t here)
     ∙ ap (λ (x : Item). take position items ++ x ∷ []) (get_or_from_slice_get items position t t here)
 
-cut-rest : (items : List Item) (position : ℕ) (t : Item) → slice_get items position ≡ Some t → drop position items ≡ t ∷ drop (position + 1) items
+pub cut-rest : (items : List Item) (position : ℕ) (t : Item) → slice_get items position ≡ Some t → drop position items ≡ t ∷ drop (position + 1) items
 cut-rest items position t here =
     drop_more items position t (slice_get_within items position t here)
     ∙ ap (λ (x : Item). x ∷ drop (position + 1) items) (get_or_from_slice_get items position t t here)
@@ -255,25 +255,6 @@ module _ (problem : Problem) (whole : IsWhole problem) (bound : Bound) (items pr
       | inr goes ↦ live-to position state goes
     ]),
   )
-
-  -- where nothing is live and no snapshot comes behind, nothing is live any more
-  pub live-gone : (position later : ℕ) → position ≤ later → ((state : ℕ) → IsLive problem bound items prefix position state → ⊥)
-      → ((between state : ℕ) → position < between → between ≤ later → HasSnapshot problem bound items prefix between state → ⊥)
-      → (state : ℕ) → IsLive problem bound items prefix later state → ⊥
-  live-gone position later behind none no_more state live = by (later - position) later state (omega arith) no_more live
-    where
-      by : (distance later state : ℕ) → later ≡ position + distance
-          → ((between state : ℕ) → position < between → between ≤ later → HasSnapshot problem bound items prefix between state → ⊥)
-          → IsLive problem bound items prefix later state → ⊥
-      by zero later state is no_more live =
-          let same : later ≡ position = omega arith in none state (subst (λ (k : ℕ). IsLive problem bound items prefix k state) same live)
-      by (suc distance) later state is no_more live =
-          let next : later ≡ (position + distance) + 1 = omega arith in
-          elim ((live-next (position + distance) state).0 (subst (λ (k : ℕ). IsLive problem bound items prefix k state) next live)) [
-            | inl snapshot ↦ no_more ((position + distance) + 1) state (omega arith) (omega arith) snapshot
-            | inr (t, from, here, before, leads, reads, completes) ↦
-                by distance (position + distance) from refl (λ between state least most. no_more between state least (omega arith)) before
-          ]
 
   module _ (w : Item) where
     -- no longer prefix has a snapshot at the start

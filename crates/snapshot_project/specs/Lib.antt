@@ -4,3 +4,12 @@ pub mod Snapshots
 pub mod Extensions
 -- what the proofs keep
 pub mod Live
+pub mod Parts
+pub mod Aims
+pub mod Hits
+pub mod Joins
+pub mod Walks
+pub mod Groups
+pub mod Sums
+pub mod Files
+pub mod Ends

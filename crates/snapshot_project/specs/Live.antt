@@ -1,6 +1,5 @@
 -- Live states: where a path can stand that has written a prefix and nothing since, and can still complete.
 use Rattle.std.specs.Prelude.{◌≡◌, ℕ, ◌+◌, ◌≤◌, ◌<◌, Bool, ◌⊎◌, ◌↔◌, IsTrue, Some, List, [], ◌++◌, map, length, take, drop, slice_get, AllPairs, Contains}
-use Rattle.state_bits.specs.Members.{Has}
 use Rattle.mine_model.specs.declared.item.Item.{Item}
 use Rattle.mine_model.specs.Database.{sequence_at}
 use Rattle.mine_model.specs.Support.{Sequence}
@@ -26,23 +25,12 @@ IsLive problem bound items prefix position state =
     (position ≤ length items)
     × IsLiveAt problem bound (take position items) (drop position items) prefix state
 
--- the set has the live states at the position
-abbrev pub AreLive : Problem → Bound → List Item → List Item → ℕ → ℕ → Type 0
-AreLive problem bound items prefix position live =
-    (state : ℕ) → Has live state ↔ IsLive problem bound items prefix position state
-
 -- an edge that writes nothing leads from a live state at the position to this one, behind the item there
 abbrev pub GoesOn : Problem → Bound → List Item → List Item → ℕ → ℕ → Type 0
 GoesOn problem bound items prefix position state =
     (t : Item) × (from : ℕ) × (slice_get items position ≡ Some t)
     × IsLive problem bound items prefix position from × Leads problem.machine from state
     × Reads problem t state [] × CompletesBehind problem bound prefix (drop (position + 1) items) state
-
--- the set has the states that are live at the position by an edge that writes nothing
-abbrev pub AreCarried : Problem → Bound → List Item → List Item → ℕ → ℕ → Type 0
-AreCarried problem bound items prefix position carried =
-    (state : ℕ) → Has carried state
-    ↔ ((before : ℕ) × (position ≡ before + 1) × GoesOn problem bound items prefix before state)
 
 -- what is needed is in the prefix, or is the rank
 abbrev pub HoldsNeededWith : Problem → Bound → List Item → ℕ → Type 0

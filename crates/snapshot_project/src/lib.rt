@@ -2,18 +2,32 @@
 //! follow.
 #![tactic(auto)]
 
+mod advancing;
+mod aim;
+mod counting;
+mod extending;
+mod filing;
+mod grouping;
+mod hit;
+mod joining;
 mod next_rank;
 mod part;
 mod room;
 mod snapshot;
 mod snapshots;
+mod starting;
+mod stepping;
+mod supporting;
 #[cfg(test)]
 mod tests;
-mod walk;
+mod walking;
 
+pub use advancing::{advance, advance_all};
+pub use extending::next_ranks;
 pub use next_rank::NextRank;
 pub use part::Part;
 pub use room::Room;
 pub use snapshot::Snapshot;
 pub use snapshots::Snapshots;
-pub use walk::{advance, advance_all, next_ranks, start, support};
+pub use starting::start;
+pub use supporting::support;

@@ -1,23 +1,30 @@
 ghost use Rattle.std.specs.Prelude.{◌≡◌, ◌≤◌, length, IfOk};
 
+use super::counting::Sum;
+use super::hit::Hit;
 use fst_simulate::Job;
 use mine_model::NoMemory;
 use std::alloc::Global;
 use std::marker::Model;
 
-/// Room that the walks of one worker use again: sums by rank, with the sequence that added to each last.
+/// Room that the walks of one worker use again: what may be written in one sequence, and the sums of the ranks
+/// that were met, with the place of each by its rank.
+///
+/// A place stands only where what stands there has the rank, so none is cleared.
 #[derive(Drop)]
 pub struct Room {
-    sums: Vec<u64>,
+    pub(crate) hits: Vec<Hit>,
+    pub(crate) places: Vec<u32>,
+    pub(crate) sums: Vec<Sum>,
 }
 
 impl Model for Room {
-    ghost use Rattle.std.specs.Prelude.{ℕ, length};
+    ghost use Rattle.std.specs.Prelude.{ℕ, ◌-◌, length};
 
     // up to which rank there is room
     ghost Value = { ℕ };
 
-    ghost view = { λ r. length r.sums.items };
+    ghost view = { λ r. length r.places.items - 1 };
 }
 
 impl Room {
@@ -25,7 +32,10 @@ impl Room {
     pub fn new(alloc: Global, job: &Job) -> Result<Room, NoMemory>
         ensures { IfOk result (λ room. room ≡ length job.now.ranking.order) }
     {
-        let _ = (alloc, job);
-        Err(NoMemory)
+        Ok(Room {
+            hits: Vec::new(alloc),
+            places: vec![in alloc; 0; job.ranks().count() as usize + 1]?,
+            sums: Vec::new(alloc),
+        })
     }
 }

@@ -1,0 +1,5 @@
+pub mod PartLemmas
+pub mod KidLemmas
+pub mod RowLemmas
+pub mod RootLemmas
+pub mod NodeLemmas

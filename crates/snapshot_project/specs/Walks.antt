@@ -1,0 +1,54 @@
+-- The way of a prefix through one sequence.
+use Rattle.std.specs.Prelude.{◌≡◌, ℕ, zero, suc, ◌+◌, ◌≤◌, ◌<◌, Bool, ◌⊎◌, ◌↔◌, IsTrue, Some, List, [], length, drop, slice_get, AllPairs, Contains}
+use Rattle.state_bits.specs.Members.{Has}
+use Rattle.mine_model.specs.declared.item.Item.{Item}
+use Rattle.fst_compile.specs.Transducer.{Leads}
+use Rattle.fst_simulate.specs.declared.bound.Bound.{Bound}
+use Rattle.fst_simulate.specs.Problems.{Problem}
+use Rattle.fst_simulate.specs.Grids.{HoldsNeeded, Completes, Reads}
+use Rattle.snapshot_project.specs.declared.snapshot.Snapshot.{Snapshot}
+use Rattle.snapshot_project.specs.declared.hit.Hit.{Hit}
+use Rattle.snapshot_project.specs.Snapshots.{HasSnapshot, ComesBefore}
+use Rattle.snapshot_project.specs.Live.{IsLive, WritesNext}
+
+-- the snapshots are exactly those of the prefix in these items, by rising position
+pub record AreGroupOf (problem : Problem) (bound : Bound) (items prefix : List Item) (seen : Bool)
+    (group : List Snapshot)
+    : Type 0 where
+  pub seen_is : IsTrue seen ↔ HoldsNeeded problem.ranking bound.need prefix
+  pub rising : AllPairs (λ first second. first.position ≤ second.position) group
+  pub exact : (position state : ℕ) → HasSnapshot problem bound items prefix position state
+      ↔ ((snapshot : Snapshot) × Contains group snapshot × (snapshot.position ≡ position)
+      × (snapshot.state ≡ state))
+
+-- the position is the next one that matters
+pub record IsNextAt (group : List Snapshot) (taken position end live at : ℕ) : Type 0 where
+  pub within : at < end
+  pub stays : (live ≡ 0) ⊎ (at ≡ position)
+  pub jumps : live ≡ 0 → (snapshot : Snapshot) × (slice_get group taken ≡ Some snapshot) × (snapshot.position ≡ at)
+
+-- the state is live, and a path from it goes on as it has to
+abbrev pub IsUseful : Problem → Bound → List Item → List Item → Bool → ℕ → ℕ → Type 0
+IsUseful problem bound items prefix goes position state =
+    IsLive problem bound items prefix position state × Completes problem bound (drop position items) state goes
+
+-- an edge that writes nothing leads from such a state before the position to this one at the position
+abbrev pub Arrives : Problem → Bound → List Item → List Item → Bool → ℕ → ℕ → Type 0
+Arrives problem bound items prefix goes zero state = ⊥
+Arrives problem bound items prefix goes (suc before) state =
+    (t : Item) × (from : ℕ) × (slice_get items before ≡ Some t)
+    × IsUseful problem bound items prefix goes before from × Leads problem.machine from state
+    × Reads problem t state [] × Completes problem bound (drop (before + 1) items) state goes
+
+-- a prefix on its way: what stands before the position was found, and the snapshots before it were taken
+pub record IsOnWay (problem : Problem) (bound : Bound) (items prefix : List Item) (goes : Bool)
+    (group : List Snapshot)
+    (taken position live : ℕ) (hits : List Hit) : Type 0 where
+  pub arrived : (state : ℕ) → Has live state ↔ Arrives problem bound items prefix goes position state
+  pub before : (k : ℕ) (snapshot : Snapshot) → k < taken → slice_get group k ≡ Some snapshot
+      → snapshot.position < position
+  pub behind : (k : ℕ) (snapshot : Snapshot) → taken ≤ k → slice_get group k ≡ Some snapshot
+      → position ≤ snapshot.position
+  pub found : (hit : Hit) → Contains hits hit
+      ↔ ((at : ℕ) × (at < position) × (hit.position ≡ at + 1)
+      × WritesNext problem bound items prefix hit.rank at hit.state)

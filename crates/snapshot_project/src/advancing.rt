@@ -1,0 +1,148 @@
+//! The snapshots of the prefixes that are longer by one.
+
+ghost use Rattle.std.specs.Prelude.{◌≡◌, ℕ, ◌-◌, ◌≤◌, ◌<◌, List, [], ◌∷◌, ◌++◌, length, map, All, AllPairs, IfOk, OnOk, Some, slice_get};
+ghost use Rattle.snapshot_project.specs.declared.next_rank.NextRank.{NextRank as Next};
+ghost use Rattle.snapshot_project.specs.Snapshots.{SnapshotList, AreSnapshots};
+ghost use Rattle.snapshot_project.specs.Sums.{ArePlaced};
+ghost use Rattle.snapshot_project.specs.Aims.{sees as sees_with};
+
+use super::filing::{file_all, file_rank, place_ranks};
+use super::grouping::next_group;
+use super::hit::Hit;
+use super::next_rank::NextRank;
+use super::part::Part;
+use super::room::Room;
+use super::snapshots::Snapshots;
+use super::walking::walk;
+use mine_model::NoMemory;
+use std::alloc::Global;
+
+/// The snapshots of the prefix with this rank appended.
+pub fn advance(
+    alloc: Global,
+    part: &Part,
+    snapshots: &Snapshots,
+    rank: u32,
+) -> Result<Snapshots, NoMemory>
+    requires least { 1 ≤ rank }
+    requires most { rank ≤ part.now.bound.top }
+    ensures { IfOk result (λ longer. (ranks : List ℕ) → AreSnapshots part.now ranks snapshots.now
+        → AreSnapshots part.now (ranks ++ rank ∷ []) longer) }
+{
+    let mut hits = Vec::new(alloc);
+    let mut longer = Snapshots::new(alloc, sees(snapshots.seen(), part.need(), rank), 0)?;
+    let mut read = 0;
+    let mut grid = 0;
+    'groups: while let Some(group) = next_group(
+        part.sequences(),
+        snapshots.as_slice(),
+        read,
+        grid,
+    ) {
+        let stretch = &snapshots.as_slice()[read..group.end];
+        walk(part, group.grid, stretch, snapshots.seen(), &mut hits)?;
+        let sequence = part.sequences()[group.grid as usize];
+        file_rank(hits.as_slice(), sequence, rank, &mut longer)?;
+        read = group.end;
+        grid = group.grid + 1;
+    }
+    Ok(longer)
+}
+
+/// For each of these ranks the snapshots of the prefix with the rank appended. One walk serves all of them.
+pub fn advance_all(
+    alloc: Global,
+    part: &Part,
+    snapshots: &Snapshots,
+    next: &[NextRank],
+    room: &mut Room,
+) -> Result<Vec<Snapshots>, NoMemory>
+    requires ranks { All (λ n. (1 ≤ n.rank) × (n.rank ≤ part.now.bound.top)) next.now }
+    requires rising { AllPairs (λ low high. low.rank < high.rank) next.now }
+    requires room { length part.now.problem.ranking.order ≤ room.old }
+    ensures room { room.new ≡ room.old }
+    ensures all { IfOk result (λ longer. length longer.items ≡ length next.now) }
+    ensures each { IfOk result (λ longer. (ranks : List ℕ) → AreSnapshots part.now ranks snapshots.now
+        → (i : ℕ) (n : Next) (list : SnapshotList) → slice_get next.now i ≡ Some n
+        → slice_get longer.items i ≡ Some list → AreSnapshots part.now (ranks ++ n.rank ∷ []) list) }
+{
+    // Nothing follows a leaf, so no walk is made.
+    if next.is_empty() {
+        return Ok(Vec::new(alloc));
+    }
+    place_ranks(next, &mut room.places)?;
+    let mut longer = empty_lists(alloc, next, snapshots.seen(), part.need())?;
+    fill_lists(
+        part,
+        snapshots,
+        next,
+        &mut room.hits,
+        room.places.as_slice(),
+        &mut longer,
+    )?;
+    Ok(longer)
+}
+
+/// For each of these ranks no snapshots yet, with room for as many as are expected.
+fn empty_lists(
+    alloc: Global,
+    next: &[NextRank],
+    seen: bool,
+    need: Option<u32>,
+) -> Result<Vec<Snapshots>, NoMemory>
+    ensures { IfOk result (λ lists. lists.items
+        ≡ map (λ n. record { seen = sees_with seen need n.rank; snapshots = [] }) next.now) }
+{
+    let mut lists = Vec::with_capacity(alloc, next.len())?;
+    for n in next {
+        lists.push(Snapshots::new(alloc, sees(seen, need, n.rank), n.snapshots)?)?;
+    }
+    Ok(lists)
+}
+
+/// Fills the lists of these ranks.
+fn fill_lists(
+    part: &Part,
+    snapshots: &Snapshots,
+    next: &[NextRank],
+    hits: &mut Vec<Hit>,
+    places: &[u32],
+    longer: &mut Vec<Snapshots>,
+) -> Result<(), NoMemory>
+    requires ranks { All (λ n. (1 ≤ n.rank) × (n.rank ≤ part.now.bound.top)) next.now }
+    requires room { length part.now.problem.ranking.order < length places.now }
+    requires placed { ArePlaced places.now (map (λ n. n.rank) next.now) }
+    requires empty { longer.old.items
+        ≡ map (λ n. record { seen = sees_with snapshots.now.seen part.now.bound.need n.rank; snapshots = [] }) next.now }
+    ensures all { OnOk result (length longer.new.items ≡ length next.now) }
+    ensures each { OnOk result ((ranks : List ℕ) → AreSnapshots part.now ranks snapshots.now
+        → (i : ℕ) (n : Next) (list : SnapshotList) → slice_get next.now i ≡ Some n
+        → slice_get longer.new.items i ≡ Some list → AreSnapshots part.now (ranks ++ n.rank ∷ []) list) }
+{
+    let mut read = 0;
+    let mut grid = 0;
+    'groups: while let Some(group) = next_group(
+        part.sequences(),
+        snapshots.as_slice(),
+        read,
+        grid,
+    ) {
+        let stretch = &snapshots.as_slice()[read..group.end];
+        walk(part, group.grid, stretch, snapshots.seen(), hits)?;
+        let sequence = part.sequences()[group.grid as usize];
+        file_all(hits.as_slice(), sequence, next, places, longer)?;
+        read = group.end;
+        grid = group.grid + 1;
+    }
+    Ok(())
+}
+
+/// Whether the prefix with the rank appended holds what is needed.
+fn sees(seen: bool, need: Option<u32>, rank: u32) -> bool
+    ensures { result ≡ sees_with seen need rank }
+{
+    match need {
+        Some(need) => seen || need == rank,
+        None => true,
+    }
+}

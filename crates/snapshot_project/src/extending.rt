@@ -1,0 +1,95 @@
+//! What may follow a prefix.
+
+ghost use Rattle.std.specs.Prelude.{◌≡◌, ℕ, ◌-◌, ◌≤◌, ◌<◌, List, [], ◌∷◌, ◌++◌, length, AllPairs, Contains, IfOk, OnOk};
+ghost use Rattle.mine_model.specs.Support.{Counts};
+ghost use Rattle.snapshot_project.specs.declared.next_rank.NextRank.{NextRank as Next};
+ghost use Rattle.snapshot_project.specs.Snapshots.{AreSnapshots};
+ghost use Rattle.snapshot_project.specs.Extensions.{AreNextRanks, CanFollow};
+ghost use Rattle.snapshot_project.specs.Sums.{AreSums, AreEnough, weight_of};
+
+use super::counting::{Sum, add_hits};
+use super::grouping::next_group;
+use super::hit::Hit;
+use super::next_rank::NextRank;
+use super::part::Part;
+use super::room::Room;
+use super::snapshots::Snapshots;
+use super::walking::walk;
+use mine_model::NoMemory;
+use std::alloc::Global;
+
+/// The ranks that can follow in sequences that weigh at least `least`, rising.
+pub fn next_ranks(
+    alloc: Global,
+    part: &Part,
+    snapshots: &Snapshots,
+    least: u64,
+    room: &mut Room,
+) -> Result<Vec<NextRank>, NoMemory>
+    requires least { 1 ≤ least }
+    requires room { length part.now.problem.ranking.order ≤ room.old }
+    ensures room { room.new ≡ room.old }
+    ensures next { IfOk result (λ found. (ranks : List ℕ) → AreSnapshots part.now ranks snapshots.now
+        → AreNextRanks part.now ranks least found.items) }
+{
+    count(
+        part,
+        snapshots,
+        &mut room.hits,
+        &mut room.places,
+        &mut room.sums,
+    )?;
+    enough(alloc, room.sums.as_slice(), least)
+}
+
+/// Sums up by rank what the sequences weigh in which the rank can follow.
+fn count(
+    part: &Part,
+    snapshots: &Snapshots,
+    hits: &mut Vec<Hit>,
+    places: &mut Vec<u32>,
+    sums: &mut Vec<Sum>,
+) -> Result<(), NoMemory>
+    requires room { length part.now.problem.ranking.order < length places.old.items }
+    ensures room { length places.new.items ≡ length places.old.items }
+    ensures sums { OnOk result ((k : ℕ) × AreSums k places.new.items sums.new.items) }
+    ensures weights { OnOk result ((ranks : List ℕ) → AreSnapshots part.now ranks snapshots.now
+        → (rank : ℕ) → CanFollow part.now ranks rank (weight_of sums.new.items rank)) }
+{
+    sums.clear();
+    let mut read = 0;
+    let mut grid = 0;
+    'groups: while let Some(group) = next_group(
+        part.sequences(),
+        snapshots.as_slice(),
+        read,
+        grid,
+    ) {
+        let stretch = &snapshots.as_slice()[read..group.end];
+        walk(part, group.grid, stretch, snapshots.seen(), hits)?;
+        let weight = part.weight(group.grid);
+        add_hits(hits.as_slice(), group.grid, weight, places, sums)?;
+        read = group.end;
+        grid = group.grid + 1;
+    }
+    Ok(())
+}
+
+/// The ranks whose sums reach `least`, rising.
+fn enough(alloc: Global, sums: &[Sum], least: u64) -> Result<Vec<NextRank>, NoMemory>
+    requires placed { (grid : ℕ) × (places : List ℕ) × AreSums grid places sums.now }
+    ensures { IfOk result (λ found. AreEnough least sums.now found.items) }
+{
+    let mut found = Vec::new(alloc);
+    for sum in sums {
+        if sum.weight >= least {
+            found.push(NextRank {
+                rank: sum.rank,
+                weight: sum.weight,
+                snapshots: sum.met,
+            })?;
+        }
+    }
+    found.sort_unstable_by_key(|next| next.rank);
+    Ok(found)
+}

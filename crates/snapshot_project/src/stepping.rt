@@ -1,0 +1,147 @@
+//! One step of the live states of a prefix, over one item.
+
+ghost use Rattle.std.specs.Prelude.{[], ◌≡◌, ◌≢◌, ℕ, ◌+◌, ◌*◌, ◌≤◌, ◌<◌, ◌⊎◌, ◌↔◌, ◌++◌, length, map, IsTrue, Contains, AllPairs, Some, IfOk, OnOk, slice_get};
+ghost use Rattle.state_bits.specs.Members.{Has, HasBit};
+ghost use Rattle.mine_model.specs.declared.item.Item.{Item};
+ghost use Rattle.fst_simulate.specs.Grids.{Completes, Reads, items_at, rest_at};
+ghost use Rattle.fst_simulate.specs.Readings.{HasOutputs, outputs_at};
+ghost use Rattle.fst_simulate.specs.Successors.{AreSuccessors, LeadsFrom};
+ghost use Rattle.snapshot_project.specs.declared.hit.Hit.{Hit as Found};
+ghost use Rattle.snapshot_project.specs.Aims.{goes, sees_all};
+ghost use Rattle.snapshot_project.specs.Hits.{AreInOrder, AreRanksWithin, IsWritten, Passes, IsHitOf, AreWritable, words_of};
+
+use super::aim::Aim;
+use super::hit::Hit;
+use super::part::Part;
+use fst_compile::State;
+use fst_simulate::{Reading, neighbours};
+use mine_model::NoMemory;
+use state_bits::StateSet;
+
+/// Goes over the item at a position of a grid from the live states: those that are live behind it, and,
+/// appended, what may be written there.
+pub(crate) fn step<const W: usize>(
+    part: &Part,
+    successors: &[StateSet<W>],
+    grid: u32,
+    at: u32,
+    live: &StateSet<W>,
+    aim: Aim,
+    hits: &mut Vec<Hit>,
+) -> Result<StateSet<W>, NoMemory>
+    requires width { W ≤ 17 }
+    requires successors { AreSuccessors W part.now.problem.machine successors.now }
+    requires grid { grid < length part.now.sequences }
+    requires at { at < length (items_at part.now grid) }
+    requires states { (state : ℕ) → Has live.now state → state ≤ length part.now.problem.machine.labels }
+    requires need { aim.need ≡ part.now.bound.need }
+    ensures live { IfOk result (λ after. (t : Item) → slice_get (items_at part.now grid) at ≡ Some t
+        → (state : ℕ) → Has after state ↔ (LeadsFrom part.now.problem.machine live.now state
+        × Reads part.now.problem t state []
+        × Completes part.now.problem part.now.bound (rest_at part.now grid (at + 1)) state
+        (goes aim.seen aim.need))) }
+    ensures states { IfOk result (λ after. (state : ℕ) → Has after state
+        → state ≤ length part.now.problem.machine.labels) }
+    ensures hits { OnOk result ((t : Item) → slice_get (items_at part.now grid) at ≡ Some t
+        → (hit : Found) → Contains hits.new.items hit ↔ (Contains hits.old.items hit
+        ⊎ IsHitOf part.now.problem part.now.bound live.now t (rest_at part.now grid (at + 1)) aim.seen (at + 1)
+        hit)) }
+    ensures order { OnOk result (AreInOrder at hits.old.items → AreInOrder (at + 1) hits.new.items) }
+    ensures ranks { OnOk result (AreRanksWithin part.now.problem hits.old.items
+        → AreRanksWithin part.now.problem hits.new.items) }
+{
+    // The contract of `length` says that positions and states are small.
+    let _length = part.length(grid);
+    let reading = part.grids().reading(grid, at);
+    let targets = neighbours(successors, live);
+    write(&reading, &targets, aim, (at + 1) as u16, hits)?;
+    Ok(silent(&reading, &targets, aim.goes()))
+}
+
+/// Those of the states whose edges read the item and write nothing, and that complete behind it.
+fn silent<const W: usize>(reading: &Reading, targets: &StateSet<W>, goes: bool) -> StateSet<W>
+    requires width { W ≤ 17 }
+    ensures { (state : ℕ) → Has result state ↔ (Has targets.now state × HasBit reading.now.silent.now state
+        × HasBit (words_of reading.now goes) state) }
+{
+    let mut after = *targets;
+    after.intersect_with_words(reading.silent);
+    after.intersect_with_words(if goes { reading.seen } else { reading.unseen });
+    after
+}
+
+/// Appends what edges into these states may write, where a path completes behind it.
+fn write<const W: usize>(
+    reading: &Reading,
+    targets: &StateSet<W>,
+    aim: Aim,
+    position: u16,
+    hits: &mut Vec<Hit>,
+) -> Result<(), NoMemory>
+    requires width { W ≤ 17 }
+    requires targets { (state : ℕ) → Has targets.now state → AreWritable reading.now state }
+    ensures hits { OnOk result ((hit : Found) → Contains hits.new.items hit
+        ↔ (Contains hits.old.items hit ⊎ IsWritten reading.now targets.now aim position hit)) }
+    ensures order { OnOk result ((before : ℕ) → before < position → AreInOrder before hits.old.items
+        → AreInOrder position hits.new.items) }
+{
+    let mut writers = *targets;
+    writers.intersect_with_words(reading.writing);
+    writers.intersect_with_words(reading.seen);
+    let mut closed = writers;
+    if !aim.sees_all() {
+        closed.intersect_with_words(reading.unseen);
+    }
+    for state in writers.iter() {
+        let ranks = allowed(reading.outputs(State(state)), closed.has(state), aim.need);
+        push_hits(hits, ranks, position, state as u16)?;
+    }
+    Ok(())
+}
+
+/// All of the ranks, or only the one that is needed.
+fn allowed(ranks: &[u32], all: bool, need: Option<u32>) -> &[u32]
+    ensures ranks { (rank : ℕ) → Contains result.now rank
+        ↔ (Contains ranks.now rank × Passes all need rank) }
+    ensures once { AllPairs (λ one other. one ≢ other) ranks.now
+        → AllPairs (λ one other. one ≢ other) result.now }
+{
+    if all {
+        return ranks;
+    }
+    match need {
+        Some(need) => only(ranks, need),
+        None => &ranks[..0],
+    }
+}
+
+/// The rank alone, where it is one of these.
+fn only(ranks: &[u32], need: u32) -> &[u32]
+    ensures ranks { (rank : ℕ) → Contains result.now rank ↔ (Contains ranks.now rank × (need ≡ rank)) }
+    ensures once { length result.now ≤ 1 }
+{
+    for (i, rank) in ranks.iter().enumerate() {
+        if *rank == need {
+            return &ranks[i..i + 1];
+        }
+    }
+    &ranks[..0]
+}
+
+/// Appends a hit for each of the ranks.
+fn push_hits(hits: &mut Vec<Hit>, ranks: &[u32], position: u16, state: u16) -> Result<(), NoMemory>
+    ensures { OnOk result (hits.new.items ≡ hits.old.items ++ map (λ rank. record {
+      rank = rank;
+      position = position;
+      state = state;
+    }) ranks.now) }
+{
+    for rank in ranks {
+        hits.push(Hit {
+            rank: *rank,
+            position,
+            state,
+        })?;
+    }
+    Ok(())
+}
