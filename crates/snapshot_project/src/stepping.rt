@@ -99,7 +99,11 @@ fn write<const W: usize>(
     for state in writers.iter() {
         let unseen = closed.has(state);
         let ending = ended.has(state);
-        let ranks = allowed(reading.outputs(State(state)), aim.takes_any(unseen), aim.need);
+        let ranks = allowed(
+            reading.outputs(State(state)),
+            aim.takes_any(unseen),
+            aim.need,
+        );
         push_hits(hits, ranks, aim, position, state as u16, unseen, ending)?;
     }
     Ok(())
