@@ -5,7 +5,7 @@ use Rattle.mine_model.specs.declared.item.Item.{Item}
 use Rattle.fst_simulate.specs.declared.bound.Bound.{Bound}
 use Rattle.fst_simulate.specs.declared.reading.Reading.{Reading}
 use Rattle.fst_simulate.specs.Problems.{Problem}
-use Rattle.fst_simulate.specs.Grids.{Completes, Reads, WritesRank}
+use Rattle.fst_simulate.specs.Grids.{Completes, Ends, Reads, WritesRank}
 
 -- the ranks that are kept of the state lie among those of the reading
 pub record HasOutputs (reading : Reading) (k : ℕ) : Type 0 where
@@ -20,13 +20,15 @@ outputs_at reading k =
     slice_range reading.ranks.now (slice_index reading.ends.now (k - 1)) (slice_index reading.ends.now k)
 
 -- What edges into the state do at t: whether they read it and write nothing, or may write something that the
--- bound allows; whether the state completes over the rest; what they may write, each rank once.
+-- bound allows; whether the state completes, and whether it ends, over the rest; what they may write, each rank
+-- once.
 pub record IsReadAt (problem : Problem) (bound : Bound) (t : Item) (rest : List Item) (reading : Reading) (k : ℕ)
     : Type 0 where
   pub silent : HasBit reading.silent.now k ↔ Reads problem t k []
   pub writing : HasBit reading.writing.now k ↔ ((rank : ℕ) × WritesRank problem bound t k rank)
   pub seen : HasBit reading.seen.now k ↔ Completes problem bound rest k true
   pub unseen : HasBit reading.unseen.now k ↔ Completes problem bound rest k false
+  pub ending : HasBit reading.ending.now k ↔ Ends problem rest k
   pub kept : HasOutputs reading k
   pub outputs : (rank : ℕ) → Contains (outputs_at reading k) rank ↔ WritesRank problem bound t k rank
   pub once : AllPairs (λ one other. one ≢ other) (outputs_at reading k)

@@ -17,3 +17,4 @@ pub record AreClassWords (states : ℕ) (class : ClassSets) (words : Words) : Ty
 pub record AreTripleWords (states : ℕ) (triple : TripleSets) (words : Words) : Type 0 where
   pub seen : AreWordsOf states triple.seen words.seen.now
   pub unseen : AreWordsOf states triple.unseen words.unseen.now
+  pub ending : AreWordsOf states triple.ends words.ending.now

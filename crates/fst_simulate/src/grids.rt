@@ -187,6 +187,7 @@ impl<'a> Grids<'a> {
             writing: words.writing,
             seen: words.seen,
             unseen: words.unseen,
+            ending: words.ending,
             ends: ends_from(self.kinds.ends.as_slice(), kind.base),
             ranks: self.kinds.ranks.as_slice(),
         }

@@ -4,15 +4,16 @@ ghost use Rattle.fst_simulate.specs.Readings.{HasOutputs, outputs_at};
 use fst_compile::State;
 
 /// What reading the item at a position of a sequence may do, where the place was looked up once: the states
-/// whose edges read it and write nothing, those whose edges may write something, and those that complete
-/// behind it where what is needed was seen and where it was not, each as words of 64 states; and what may be
-/// written, as ranks, state by state.
+/// whose edges read it and write nothing, those whose edges may write something, those that complete behind it
+/// where what is needed was seen and where it was not, and those that end behind it, each as words of 64
+/// states; and what may be written, as ranks, state by state.
 #[derive(Clone, Copy, Debug)]
 pub struct Reading<'a> {
     pub silent: &'a [u64],
     pub writing: &'a [u64],
     pub seen: &'a [u64],
     pub unseen: &'a [u64],
+    pub ending: &'a [u64],
     pub ends: &'a [u32],
     pub ranks: &'a [u32],
 }

@@ -34,14 +34,15 @@ pub(crate) struct Triple<const W: usize> {
     pub(crate) ends: StateSet<W>,
 }
 
-/// The states that an item leads into without an output and with one, and those that complete behind it
-/// where what is needed was seen and where it was not, as words.
+/// The states that an item leads into without an output and with one, those that complete behind it where what
+/// is needed was seen and where it was not, and those that end there, as words.
 #[derive(Clone, Copy, Debug)]
 pub(crate) struct Words<'a> {
     pub(crate) silent: &'a [u64],
     pub(crate) writing: &'a [u64],
     pub(crate) seen: &'a [u64],
     pub(crate) unseen: &'a [u64],
+    pub(crate) ending: &'a [u64],
 }
 
 /// How many classes have their steps kept.
@@ -171,8 +172,8 @@ impl<const W: usize> Table<W> {
         self.classes.as_slice()[class as usize].silent.has(k)
     }
 
-    /// The states that an item of the class leads into, and those that complete behind it at a place of the
-    /// triple, as words.
+    /// The states that an item of the class leads into, and those that complete and that end behind it at a
+    /// place of the triple, as words.
     pub(crate) fn words(&self, class: u32, after: u32) -> Words<'_>
         requires width { W ≤ 17 }
         requires class { class < length self.now.classes }
@@ -189,6 +190,7 @@ impl<const W: usize> Table<W> {
             writing: class.writes.words(),
             seen: after.seen.words(),
             unseen: after.unseen.words(),
+            ending: after.ends.words(),
         }
     }
 

@@ -81,6 +81,7 @@ returns c t there k least most =
       writing = both_ways (of_class.writing k inside) (right.writes k (least, most));
       seen = both_ways (of_triple.seen k inside) (behind.seen k most);
       unseen = both_ways (of_triple.unseen k inside) (behind.unseen k most);
+      ending = both_ways (of_triple.ending k inside) (behind.ends k most);
       kept = record {
         start = least;
         inside = within (omega (arith, room, most));

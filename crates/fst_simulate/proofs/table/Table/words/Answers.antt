@@ -24,4 +24,5 @@ returns-clause-after g c triple found =
     rw same (record {
       seen = λ k inside. words_bit g.row.W c.index-as_slice-after.result.seen c.words-3.result.now (length c.args.self.now.predecessors) k c.words-3.ensures room inside;
       unseen = λ k inside. words_bit g.row.W c.index-as_slice-after.result.unseen c.words-4.result.now (length c.args.self.now.predecessors) k c.words-4.ensures room inside;
+      ending = λ k inside. words_bit g.row.W c.index-as_slice-after.result.ends c.words-5.result.now (length c.args.self.now.predecessors) k c.words-5.ensures room inside;
     })
