@@ -1,10 +1,10 @@
 -- The way of one prefix through the sequence.
-use Rattle.std.proofs.Common.{◌≡◌, ◌↔◌, ℕ, ◌+◌, ◌<◌, ◌≤◌, ◌⊎◌, inl, inr, Bool, true, false, IsTrue, List, [], ◌∷◌, ◌++◌, length, refl, sym, ap, ◌∙◌, subst, arith}
+use Rattle.std.proofs.Common.{◌≡◌, ◌↔◌, ℕ, ◌+◌, ◌<◌, ◌≤◌, ◌⊎◌, inl, inr, Bool, true, false, IsTrue, List, [], ◌∷◌, ◌++◌, length, sym, ap, ◌∙◌, subst, arith}
 use Rattle.std.specs.List.{Contains, AllPairs}
 use Rattle.std.proofs.lemmas.List.{append-nil, same_from_push}
 use Rattle.std.proofs.lemmas.Bool.{cases_lt}
 use Rattle.state_bits.specs.Members.{Has}
-use Rattle.mine_model.proofs.ListLemmas.{Contains-first, Contains-none}
+use Rattle.mine_model.proofs.ListLemmas.{Contains-first, Contains-none, last-cases as snoc-view}
 use Rattle.fst_compile.proofs.RowLemmas.{Has-none}
 use Rattle.candidate_gen.specs.declared.place.Place.{Place}
 use Rattle.candidate_gen.specs.Paths.{Space}
@@ -13,13 +13,6 @@ use Rattle.candidate_gen.specs.Steps.{IsAhead, AreStates, AddsPlaces, Absorbs, T
 use Rattle.candidate_gen.specs.Walk.{Takes}
 use Rattle.candidate_gen.proofs.PairLemmas.{pairs-front, pairs-across}
 use Rattle.candidate_gen.proofs.AbsorbLemmas.{front-of-front, last-cases, last-held, front-held}
-
-pub snoc-view : {X : Type 0} (xs : List X) → (xs ≡ []) ⊎ ((front : List X) × (last : X) × (xs ≡ front ++ last ∷ []))
-snoc-view [] = inl refl
-snoc-view (x ∷ xs) = elim (snoc-view xs) [
-  | inl none ↦ inr ([], x, ap (λ l. x ∷ l) none)
-  | inr (front, last, same) ↦ inr (x ∷ front, last, ap (λ l. x ∷ l) same)
-]
 
 module _ (depth rank : ℕ) (waiting : List Place) (sorted : AllPairs IsBelow waiting)
     (below : (place : Place) → Contains waiting place → (place.depth ≤ depth) × (place.depth ≡ depth → rank ≤ place.rank)) where

@@ -1,12 +1,12 @@
 -- What the passes of a worker made, block by block.
-use Rattle.std.proofs.Common.{◌≡◌, ℕ, ◌+◌, ◌%◌, ◌≢◌, List, [], ◌∷◌, ◌++◌, map, length, refl, sym, subst, ap, ◌∙◌, append_assoc, arith, All}
+use Rattle.std.proofs.Common.{◌≡◌, ℕ, ◌+◌, ◌%◌, List, [], ◌∷◌, ◌++◌, map, refl, sym, ap, ◌∙◌, append_assoc, All}
 use Rattle.std.proofs.lemmas.List.{map-append, append-nil}
 use Rattle.std.proofs.lemmas.List.Elements.{All-cons, All-head, All-tail, All-nil}
 use Rattle.turn_lock.specs.Passes.{made}
 use Rattle.count_shards.specs.Shard.{entry_of}
 use Rattle.count_shards.specs.Shards.{ShardPass}
 use Rattle.count_engine.specs.Shares.{share_of}
-use Rattle.count_engine.proofs.ShareLemmas.{share_with, share_without}
+use Rattle.count_engine.proofs.ShareLemmas.{share_with}
 
 -- the passes made these entries behind what they had made
 abbrev pub MadeMore : List (List ℕ) → List ShardPass → List ShardPass → Type 0

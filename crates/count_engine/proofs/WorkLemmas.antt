@@ -1,18 +1,18 @@
 -- What all workers together gave back.
-use Rattle.std.proofs.Common.{◌≡◌, ℕ, zero, suc, ◌+◌, ◌*◌, ◌%◌, ◌<◌, ◌≤◌, List, [], ◌∷◌, ◌++◌, map, length, take, drop, Option, Some, None, Result, Ok, Err, IfOk, slice_get, get_or, refl, sym, subst, ap, ◌∙◌, arith, All, sum_by}
-use Rattle.std.specs.List.{flat_map, range_with_len, filter_map, cons_option}
+use Rattle.std.proofs.Common.{◌≡◌, ℕ, suc, ◌+◌, ◌%◌, ◌<◌, ◌≤◌, List, [], ◌∷◌, ◌++◌, map, length, Option, Some, Result, Ok, Err, IfOk, slice_get, get_or, refl, sym, subst, ap, ◌∙◌, arith, All, sum_by}
+use Rattle.std.specs.List.{flat_map, range_with_len, cons_option}
 use Rattle.std.specs.declared.alloc.Global.{Global}
 use Rattle.std.specs.declared.vec.Vec.{Vec}
 use Rattle.std.proofs.lemmas.List.{map-append}
 use Rattle.std.proofs.lemmas.List.Sums.{sum_by-append, sum_by-cons}
-use Rattle.std.proofs.lemmas.List.Elements.{All-head, All-tail}
-use Rattle.std.proofs.lemmas.Option.{slice_get-get_or, slice_get_within, get_or_from_slice_get, same_Some}
+use Rattle.std.proofs.lemmas.List.Elements.{All-contains}
+use Rattle.std.proofs.lemmas.Option.{slice_get-get_or, slice_get_within, get_or_from_slice_get}
 use Rattle.mine_model.specs.declared.item.Item.{Item}
 use Rattle.mine_model.specs.declared.memory.NoMemory.{NoMemory}
 use Rattle.mine_model.specs.Answer.{Data}
 use Rattle.mine_model.specs.Counted.{HasPairs, told_of, IsTold}
-use Rattle.mine_model.specs.Labels.{SameLabels}
 use Rattle.mine_model.specs.Support.{Sequence}
+use Rattle.mine_model.proofs.ElementLemmas.{get-some, get-held}
 use Rattle.fst_simulate.specs.Problems.{Problem, data_of}
 use Rattle.turn_lock.specs.Passes.{made, pass_count}
 use Rattle.count_shards.specs.declared.shards.Shards.{Shards}
@@ -24,7 +24,7 @@ use Rattle.count_engine.specs.declared.hands.Done.{Done}
 use Rattle.count_engine.specs.Shares.{share_of, HasBlockPairs}
 use Rattle.count_engine.specs.Hands.{AreHandsOf, IsDone, AreListsOf, pairs_told}
 use Rattle.count_shards.proofs.BlockSums.{sums_more, sums_reordered, sums_laid}
-use Rattle.count_engine.proofs.ShareLemmas.{all_shares_of, shares_are_all, share_with, sums-append, sums-flat, told-left, told-right}
+use Rattle.count_engine.proofs.ShareLemmas.{all_shares_of, shares_are_all, share_with, sums-flat}
 
 Results : Type 0
 Results = List (Result Done NoMemory)
@@ -45,29 +45,13 @@ module _ (problem : Problem) (shards : Shards) (workers : ℕ) where
   column_made home from (list ∷ lists) within each =
       let (long, all) = each 0 list refl in
       let below : home < length list.items = omega (arith, long, within) in
-      let pass : ShardPass = at list.items home below in
-      let there : slice_get list.items home ≡ Some pass = at_is list.items home below in
+      let (pass, there) = get-some list.items home below in
       let same : made pass ≡ map entry_of (share_of from workers (block_count problem)) =
-      subst (λ w. made pass ≡ map entry_of (share_of w workers (block_count problem))) (omega arith) (holds (λ p. made p ≡ map entry_of (share_of (from + 0) workers (block_count problem))) list.items home pass there all) in
+      subst (λ w. made pass ≡ map entry_of (share_of w workers (block_count problem))) (omega arith) (All-contains (λ p. made p ≡ map entry_of (share_of (from + 0) workers (block_count problem))) list.items pass all (get-held list.items home pass there)) in
       ap (λ (o : Option ShardPass). flat_map made (cons_option o (column home lists))) there
       ∙ (λ i. same i ++ column_made home (from + 1) lists within (λ k l got.
       let next = each (suc k) l got in
       (next.0, subst (λ w. All (λ pass. made pass ≡ map entry_of (share_of w workers (block_count problem))) l.items) (omega arith) next.1)) i)
-    where
-      at : (xs : List ShardPass) (k : ℕ) → k < length xs → ShardPass
-      at [] k h = absurd (omega (arith, h))
-      at (x ∷ xs) zero h = x
-      at (x ∷ xs) (suc k) h = at xs k (omega (arith, h))
-
-      at_is : (xs : List ShardPass) (k : ℕ) (h : k < length xs) → slice_get xs k ≡ Some (at xs k h)
-      at_is [] k h = absurd (omega (arith, h))
-      at_is (x ∷ xs) zero h = refl
-      at_is (x ∷ xs) (suc k) h = at_is xs k (omega (arith, h))
-
-      holds : (P : ShardPass → Type 0) (xs : List ShardPass) (k : ℕ) (x : ShardPass) → slice_get xs k ≡ Some x → All P xs → P x
-      holds P [] k x got all = absurd (cc)
-      holds P (y ∷ xs) zero x got all = subst P (same_Some y x got) (All-head P y xs all)
-      holds P (y ∷ xs) (suc k) x got all = holds P xs k x got (All-tail P y xs all)
 
   entries_flat : (ws : List ℕ) (weight : List ℕ → ℕ) → sum_by weight (flat_map (λ w. map entry_of (share_of w workers (block_count problem))) ws)
       ≡ sum_by weight (map entry_of (flat_map (λ w. share_of w workers (block_count problem)) ws))

@@ -1,12 +1,12 @@
 -- The rows of one shard, and the answer that the rows of all shards are.
-use Rattle.std.proofs.Common.{◌≡◌, ◌≢◌, ℕ, ◌+◌, ◌<◌, ◌≤◌, ◌↔◌, List, [], ◌∷◌, length, get_or, refl, sym, subst, ap, ◌∙◌, inl, inr, arith}
+use Rattle.std.proofs.Common.{◌≡◌, ◌≢◌, ℕ, ◌+◌, ◌<◌, ◌≤◌, ◌↔◌, List, [], length, get_or, refl, sym, subst, ap, ◌∙◌, inl, inr, arith}
 use Rattle.std.specs.List.{All, AllByRecursion, Contains}
 use Rattle.std.proofs.lemmas.Bool.{cases_eq}
 use Rattle.std.proofs.lemmas.List.Elements.{Contains-append_left, Contains-append_right, Contains-append_cases, Contains-get_or}
 use Rattle.mine_model.specs.declared.item.Item.{Item}
 use Rattle.mine_model.specs.declared.row.Row.{Row}
 use Rattle.mine_model.specs.Numbered.{tree_of, AreFrequent}
-use Rattle.mine_model.specs.Support.{Sequence, Counts, HasSupport}
+use Rattle.mine_model.specs.Support.{Counts, HasSupport}
 use Rattle.mine_model.specs.Candidates.{IsFrequentItem, IsCandidate}
 use Rattle.mine_model.specs.Ranks.{AreRanked}
 use Rattle.mine_model.proofs.RankedLemmas.{ranked-same, ranked-all, ranked-bounds, same_ranks}

@@ -15,10 +15,11 @@ use Rattle.mine_model.specs.Refusal.{links_of, sequences_of}
 use Rattle.mine_model.proofs.ListLemmas.{Contains-first, Contains-other}
 use Rattle.mine_model.specs.declared.mined.Work.{Work}
 use Rattle.mine_model.specs.Counted.{HasPairs}
-use Rattle.mine_model.proofs.CountedLemmas.{pairs-forth}
+use Rattle.mine_model.specs.Growth.{IsSearchWork}
+use Rattle.mine_model.proofs.CountedLemmas.{pairs-forth, search-forth}
 use Rattle.mine_model.proofs.NamedAnswer.{named_data, answer-named}
 use Rattle.command_line.specs.declared.words.Engine.{Engine}
-use Rattle.command_line.specs.declared.words.Engine.TheVariants.{Count}
+use Rattle.command_line.specs.declared.words.Engine.TheVariants.{Count, Dfs}
 use Rattle.desq_run.specs.Ends.{Input, data_of, IsWorkOf}
 use Rattle.desq_run.specs.Inputs.{IsHierarchyOf, IsDatabaseOf, AreLinksWithin}
 use Rattle.desq_run.proofs.LinkLemmas.{names-rename}
@@ -62,10 +63,10 @@ pub work-answer : (input : Input) (tree : Tree Use) (known added : List (List �
     → IsDatabaseOf input.command.weighted input.sequences known (known ++ added) db
     → AllByRecursion (λ (s : Sequence Item). AllByRecursion (HasName (known ++ added)) s.items) db
     → tree_by (name_of (known ++ added)) e ≡ tree_by (λ (u : Use). u.name) tree
-    → AllByRecursion (HasName (known ++ added)) (named_in e)
+    → AllByRecursion (HasName (known ++ added)) (named_in e) → 1 ≤ input.command.threshold
     → IsWorkOf engine (record { links = h.links; sequences = db; expression = e; threshold = input.command.threshold }) work
     → IsWorkOf engine (data_of input tree) work
-work-answer input tree known added h db e Count work distinct read within is_db numbered same_tree named is =
+work-answer input tree known added h db e Count work distinct read within is_db numbered same_tree named some is =
     let names : List (List ℕ) = known ++ added in
     let d : Data Item = record { links = h.links; sequences = db; expression = e; threshold = input.command.threshold } in
     let pairs = pairs-forth (name_of names) (links_of input.hierarchy) d (HasName names) (names-rename input.hierarchy known added h distinct read within)
@@ -80,3 +81,10 @@ work-answer input tree known added h db e Count work distinct read within is_db 
         is.pairs.2,
       );
     }
+work-answer input tree known added h db e Dfs work distinct read within is_db numbered same_tree named some is =
+    let names : List (List ℕ) = known ++ added in
+    let d : Data Item = record { links = h.links; sequences = db; expression = e; threshold = input.command.threshold } in
+    let search = search-forth (name_of names) (links_of input.hierarchy) d (HasName names) (names-rename input.hierarchy known added h distinct read within)
+    named numbered some work is in
+    subst (λ (s : List (Sequence (List ℕ))). IsSearchWork (record { links = links_of input.hierarchy; sequences = s; expression = tree_by (λ (u : Use). u.name) tree; threshold = input.command.threshold }) work) is_db.sequences
+    (subst (λ (t : Tree (List ℕ)). IsSearchWork (record { links = links_of input.hierarchy; sequences = map (sequence_by (name_of names)) db; expression = t; threshold = input.command.threshold }) work) same_tree search)

@@ -82,6 +82,7 @@ module _ (words : List (List ℕ)) (holds : List ℕ → Option (List ℕ)) (c :
               (work-answer input tree known added before db are.expression c.engine work distinct
               (read_at words holds c has known before read input is) within
               (found_at words holds c has known before read (known ++ added) db found input is) numbered are.same are.named
+              (subst (λ (d : Command). 1 ≤ d.threshold) same some)
               (subst (λ (d : Command). IsWorkOf c.engine (record { links = before.links; sequences = db; expression = are.expression; threshold = d.threshold }) work) same are.work)),
         );
   }

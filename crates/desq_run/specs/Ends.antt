@@ -10,11 +10,12 @@ use Rattle.mine_model.specs.Grammar.{Use, ReadsAs}
 use Rattle.mine_model.specs.Answer.{Data, NamedRow, IsAnswer}
 use Rattle.mine_model.specs.AnswerText.{text_of}
 use Rattle.mine_model.specs.Counted.{IsCountingWork}
+use Rattle.mine_model.specs.Growth.{IsSearchWork}
 use Rattle.mine_model.specs.declared.mined.Work.{Work}
 use Rattle.mine_model.specs.First.{FirstOf}
 use Rattle.mine_model.specs.Refusal.{IsExpressionRefusal, IsHierarchyRefusal, IsSequencesRefusal, IsUnknown, names_of, links_of, items_of, sequences_of}
 use Rattle.command_line.specs.declared.words.Engine.{Engine}
-use Rattle.command_line.specs.declared.words.Engine.TheVariants.{Count}
+use Rattle.command_line.specs.declared.words.Engine.TheVariants.{Count, Dfs}
 use Rattle.command_line.specs.Words.{Command, IsCommand, IsUsage}
 
 -- a command, and what its files hold
@@ -71,6 +72,7 @@ IsAnswerText input text = (tree : Tree Use) × ReadsAs input.command.expression 
 -- the work is that of a run of the engine over the data
 abbrev pub IsWorkOf : {A : Type 0} → Engine → Data A → Work → Type 0
 IsWorkOf Count d work = IsCountingWork d work
+IsWorkOf Dfs d work = IsSearchWork d work
 
 -- the work is that of the command on its files
 abbrev pub IsWork : Input → Work → Type 0

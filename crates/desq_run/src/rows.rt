@@ -24,6 +24,7 @@ use item_names::Names;
 use mine_model::{Db, Expr, Fault, Gate, Hierarchy, Mined, NoMemory};
 use patex_parser::{Parsed, parse, resolve};
 use pattern_writer::order;
+use search_engine::simulate;
 use std::alloc::Global;
 use std::sync::Wait;
 use std::thread::Threads;
@@ -55,6 +56,14 @@ fn mined_by<R: Threads + Wait + Sync, G: Gate>(
 {
     match command.engine {
         Engine::Count => mine(rt, alloc, job, command.workers, gate),
+        // The words give a seed with this engine. The answer is the same for each.
+        Engine::Dfs => simulate(
+            alloc,
+            job,
+            false,
+            command.workers,
+            command.seed.unwrap_or(0),
+        ),
     }
 }
 

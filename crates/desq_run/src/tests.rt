@@ -11,6 +11,7 @@ use text_ports::{MemFile, MemFiles, MemSink};
 mod limits;
 mod outside_faults;
 mod rows;
+mod search;
 mod workers;
 
 /// What a run left behind.

@@ -177,7 +177,7 @@ module _ (problem : Problem) where
         let some : pattern ≢ [] = items_of_some order pattern output ranked (some-rank output both.0) in
         let is_pattern : IsPatternOf links (tree_of problem.machine.expression) items pattern = (some, (whole.paths links items pattern).0 path) in
         let within : IsWithinPivot order pivot pattern = (within-Decides order whole.ranks.once pivot pattern output ranked).0 tests.1 in
-        (front, first, (back, subst (IsPatternOf links (tree_of problem.machine.expression) items) joined is_pattern, subst (IsWithinPivot order pivot) joined within))
+        (front, first, (back, subst (IsPatternOf links (tree_of problem.machine.expression) items) {y = front ++ back} joined is_pattern, subst (IsWithinPivot order pivot) {y = front ++ back} joined within))
 
     pub grows-back : (pivot : ℕ) (prefix : List Item) (ranks : List ℕ) (items : List Item) → AreRanked problem.ranking.order prefix ranks
         → HasPatternBehind (data_of problem) (IsWithinPivot problem.ranking.order pivot) prefix items → grows problem pivot ranks items ≡ true

@@ -2,3 +2,4 @@
 pub mod Nodes
 -- what the proofs keep
 pub mod Projections
+pub mod Tree

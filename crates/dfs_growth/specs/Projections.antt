@@ -1,5 +1,5 @@
 -- What a node keeps of its prefix: a part and the snapshots in it, the projected database of the DESQ article.
-use Rattle.std.specs.Prelude.{◌≡◌, ℕ, List, [], length}
+use Rattle.std.specs.Prelude.{◌≡◌, ℕ, [], length}
 use Rattle.std.specs.Arc.{arc_value}
 use Rattle.fst_simulate.specs.declared.part_seed.PartSeed.{PartSeed}
 use Rattle.fst_simulate.specs.Problems.{Problem}

@@ -1,6 +1,6 @@
 //! What a node grows into.
 
-ghost use Rattle.std.specs.Prelude.{◌≡◌, ℕ, ◌≤◌, ◌<◌, Some, map, length, slice_get, All, AllPairs, IfOk};
+ghost use Rattle.std.specs.Prelude.{◌≡◌, ℕ, ◌≤◌, ◌<◌, Some, [], ◌∷◌, ◌++◌, map, length, slice_get, All, AllPairs, IfOk};
 ghost use Rattle.std.specs.Arc.{arc_value};
 ghost use Rattle.mine_model.specs.SearchTree.{IsRowOf, AreKids};
 ghost use Rattle.fst_simulate.specs.Problems.{data_of};
@@ -26,14 +26,15 @@ pub fn expand<'a>(
 ) -> Result<Grown<Node<'a>>, NoMemory>
     requires room { length node.problem.ranking.order ≤ room.old }
     ensures room { room.new ≡ room.old }
-    ensures label { IfOk result (λ grown. grown.label ≡ label_at node) }
+    ensures label { IfOk result (λ grown. grown.label ≡ label_at node.entry) }
     ensures row { IfOk result (λ grown.
-        IsRowOf (data_of node.problem) node.problem.ranking.order node.pivot node.ranks grown.row) }
+        IsRowOf (data_of node.entry.problem) node.entry.problem.ranking.order node.entry.pivot node.entry.ranks
+        grown.row) }
     ensures kids { IfOk result (λ grown.
-        AreKids (data_of node.problem) node.problem.ranking.order node.pivot node.ranks
+        AreKids (data_of node.entry.problem) node.entry.problem.ranking.order node.entry.pivot node.entry.ranks
         (map label_at grown.kids.items)) }
     ensures ground { IfOk result (λ grown.
-        All (λ (kid : Prefix). kid.problem ≡ node.problem) grown.kids.items) }
+        All (λ (kid : Prefix). kid.problem ≡ node.entry.problem) grown.kids.items) }
 {
     let Node { job, label, state } = node;
     let (part, snapshots) = projection(alloc, job, label.as_slice(), state)?;
@@ -67,7 +68,7 @@ fn projection<'a>(
     }
 }
 
-// The row of the label, where its prefix is frequent.
+// The row of the label, where its prefix is frequent. The empty prefix has no support.
 fn row_of(
     alloc: Global,
     job: &Job,
@@ -80,15 +81,11 @@ fn row_of(
     ensures { IfOk result (λ row. let prefix = prefix_at job.now label.now in
         IsRowOf (data_of job.now) job.now.ranking.order prefix.pivot prefix.ranks row) }
 {
-    let ranks = &label[1..];
-    if ranks.is_empty() {
-        return Ok(None);
-    }
     let support = support(part, snapshots);
     if support < job.support() {
         return Ok(None);
     }
-    let pattern = pattern_of(alloc, job.ranks(), ranks)?;
+    let pattern = pattern_of(alloc, job.ranks(), &label[1..])?;
     Ok(Some(Row { pattern, support }))
 }
 

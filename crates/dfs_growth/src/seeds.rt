@@ -1,6 +1,6 @@
 //! The roots of the search tree.
 
-ghost use Rattle.std.specs.Prelude.{◌≡◌, ℕ, ◌≤◌, ◌<◌, ◌↔◌, None, [], ◌∷◌, map, length, sum_by, All, AllPairs, IsTrue, IfOk};
+ghost use Rattle.std.specs.Prelude.{◌≡◌, ℕ, ◌≤◌, ◌<◌, ◌↔◌, false, None, [], ◌∷◌, map, length, sum_by, All, AllPairs, Contains, IsTrue, IfOk};
 ghost use Rattle.std.specs.List.{AllByRecursion};
 ghost use Rattle.mine_model.specs.Database.{sequence_at};
 ghost use Rattle.mine_model.specs.SearchTree.{AreRootsOf};
@@ -24,16 +24,28 @@ pub fn whole(alloc: Global, job: &Job) -> Result<PartSeed, NoMemory>
 {
     let top = job.ranks().count();
     let mut grids = Grids::new(alloc, job, Bound { top, need: None })?;
-    let mut sequences = Vec::new(alloc);
-    for number in 0..job.db().sequences() {
-        if has_pattern(&mut grids, number)? {
-            sequences.push(number)?;
-        }
-    }
+    let sequences = with_patterns(alloc, &mut grids, job.db().sequences())?;
     Ok(PartSeed {
         pivot: None,
         sequences,
     })
+}
+
+// The numbers of the sequences that have a pattern within the bound of the grids.
+fn with_patterns(alloc: Global, grids: &mut Grids, count: u32) -> Result<Vec<u32>, NoMemory>
+    requires none { grids.old.sequences ≡ [] }
+    requires count { count ≡ length grids.old.problem.sequences }
+    ensures rising { IfOk result (λ numbers. AllPairs (λ low high. low < high) numbers.items) }
+    ensures exact { IfOk result (λ numbers. (i : ℕ) → Contains numbers.items i ↔ ((i < count)
+        × Completes grids.old.problem grids.old.bound (items_of grids.old.problem i) 0 false)) }
+{
+    let mut numbers = Vec::new(alloc);
+    for number in 0..count {
+        if has_pattern(grids, number)? {
+            numbers.push(number)?;
+        }
+    }
+    Ok(numbers)
 }
 
 // Whether the sequence has a pattern within the bound of the grids. What they found out stays, the grid of the
@@ -78,7 +90,9 @@ fn weight(job: &Job, numbers: &[u32]) -> u64
     requires within { AllByRecursion (λ i. i < length job.now.sequences) numbers.now }
     ensures { result ≡ sum_by (λ i. (sequence_at job.now.sequences i).weight) numbers.now }
 {
+    // There are so few sequences that no sum of their weights is too great.
     let db = job.db();
+    let _count = db.sequences();
     let mut sum = 0;
     for number in numbers {
         sum += db.weight(*number);

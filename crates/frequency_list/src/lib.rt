@@ -12,12 +12,11 @@ mod tally;
 
 use item_names::Names;
 use mine_model::{Db, Hierarchy, NoMemory, Ranks};
+pub use patterns::pattern_of;
 use pieces::frequencies;
 use ranking::ranked;
 use std::alloc::Global;
 use std::thread::Threads;
-
-pub use patterns::pattern_of;
 
 /// The frequency of each item of the hierarchy, and the ranks of those whose frequency reaches the support:
 /// by falling frequency, and those of one frequency by their names in byte order, a proper prefix first.

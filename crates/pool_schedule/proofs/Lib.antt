@@ -10,4 +10,5 @@ pub mod CountLemmas
 pub mod StepLemmas
 pub mod StartLemmas
 pub mod RunLemmas
+pub mod CodingLemmas
 pub mod TrialLemmas

@@ -64,7 +64,7 @@ module _ {N : Type 0} (label : N → List ℕ) where
 
   -- the state once this worker stands in the place of w
   abbrev pub with_worker : Machine N → ℕ → Worker N → State
-  with_worker before w y = record { workers = map (load label) (set before.workers.items w y); posted = before.posted.labels.items }
+  with_worker before w y = record { workers = map (load label) (set before.workers.items w y); posted = before.posted.labels }
 
   pub puts-seen : (w : ℕ) (x y : Worker N) (before : Machine N) → slice_get before.workers.items w ≡ Some x → IsBusy x → PutsNode x y
       → Puts w (seen label before) (with_worker before w y)
@@ -120,7 +120,7 @@ module _ {N : Type 0} (label : N → List ℕ) where
             (loaded before.workers.items (set before.workers.items from s.robbed) from s.robbed
             (record { deque = map label s.robbed.deque.items; hand = map label s.victim.hand.items; pending = option_map (λ (pending : Pending). pending.label) s.victim.pending }) refl
             (same-load _ _ refl (ap (map label) s.kept.0) (ap (option_map (λ (pending : Pending). pending.label)) s.kept.1)));
-        posted = ap (λ posted. posted.labels.items) s.posted;
+        posted = ap (λ posted. posted.labels) s.posted;
       }
 
   pub grows-seen : (kids : List ℕ → List (List ℕ)) (row : List ℕ → Option _) (IsOwn : N → Type 0) (w : ℕ) (x y : Worker N) (before : Machine N)

@@ -89,9 +89,9 @@ module _ {N : Type 0} (row : List ℕ → Option Row) where
       let fits : FitsRow row (Some s.pending) = subst (FitsRow row) s.is (all-at RowFits before.workers.items w s.worker s.at has.pending) in
       let is : s.pending.row ≡ row s.pending.label = fits in
       record {
-        posted = s.rows ∙ ap (λ l. l ++ option_to_list s.pending.row) has.posted ∙ ap (λ o. filter_map row before.posted.labels.items ++ option_to_list o) is
-            ∙ ap (λ l. filter_map row before.posted.labels.items ++ l) (sym (one-row (row s.pending.label)))
-            ∙ sym (filter_map-append row before.posted.labels.items (s.pending.label ∷ []))
+        posted = s.rows ∙ ap (λ l. l ++ option_to_list s.pending.row) has.posted ∙ ap (λ o. filter_map row before.posted.labels ++ option_to_list o) is
+            ∙ ap (λ l. filter_map row before.posted.labels ++ l) (sym (one-row (row s.pending.label)))
+            ∙ sym (filter_map-append row before.posted.labels (s.pending.label ∷ []))
             ∙ ap (filter_map row) (sym s.labels);
         pending = All-same RowFits after.workers.items (set before.workers.items w (record s.worker { pending = None })) s.workers
             (All-set RowFits before.workers.items w (record s.worker { pending = None }) tt has.pending);
@@ -102,7 +102,7 @@ module _ {N : Type 0} (row : List ℕ → Option Row) where
 
   pub steals-rows : (w from : ℕ) (before after : Machine N) → StealsNode w from before after → HasRows row before → HasRows row after
   steals-rows w from before after s has = record {
-    posted = ap (λ posted. posted.rows.items) s.posted ∙ has.posted ∙ ap (λ posted. filter_map row posted.labels.items) (sym s.posted);
+    posted = ap (λ posted. posted.rows.items) s.posted ∙ has.posted ∙ ap (λ posted. filter_map row posted.labels) (sym s.posted);
     pending = All-same RowFits after.workers.items (set (set before.workers.items from s.robbed) w s.thief) s.workers
         (All-set RowFits (set before.workers.items from s.robbed) w s.thief (fits-at before.workers.items w s.worker s.thief.pending s.at s.same.1 has.pending)
         (All-set RowFits before.workers.items from s.robbed (fits-at before.workers.items from s.victim s.robbed.pending s.at_victim s.kept.1 has.pending) has.pending));

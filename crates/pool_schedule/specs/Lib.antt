@@ -3,4 +3,5 @@ pub mod Steps
 pub mod Schedule
 pub mod Worker
 pub mod Machine
+pub mod FrontCoding
 pub mod Trial

@@ -26,7 +26,7 @@ module _ {N : Type 0} where
   -- the machine, where each node has this label
   abbrev pub seen : (N → List ℕ) → Machine N → State
   seen label machine =
-      record { workers = map (load label) machine.workers.items; posted = machine.posted.labels.items }
+      record { workers = map (load label) machine.workers.items; posted = machine.posted.labels }
 
   -- all nodes that the workers have are own ones
   abbrev pub AllOwn : (N → Type 0) → List (Worker N) → Type 0
@@ -44,7 +44,7 @@ module _ {N : Type 0} where
 
   -- the rows are those of the posted labels, and each pending label has its row
   pub record HasRows (row : List ℕ → Option Row) (machine : Machine N) : Type 0 where
-    pub posted : machine.posted.rows.items ≡ filter_map row machine.posted.labels.items
+    pub posted : machine.posted.rows.items ≡ filter_map row machine.posted.labels
     pub pending : PendingRows row machine.workers.items
 
   -- what the proofs keep
@@ -70,7 +70,7 @@ module _ {N : Type 0} where
     pub at : slice_get before.workers.items w ≡ Some worker
     pub is : worker.pending ≡ Some pending
     pub workers : after.workers.items ≡ set before.workers.items w (record worker { pending = None })
-    pub labels : after.posted.labels.items ≡ before.posted.labels.items ++ pending.label ∷ []
+    pub labels : after.posted.labels ≡ before.posted.labels ++ pending.label ∷ []
     pub rows : after.posted.rows.items ≡ before.posted.rows.items ++ option_to_list pending.row
 
   -- the first node of the one deque has come to the other hand

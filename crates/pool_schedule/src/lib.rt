@@ -7,6 +7,7 @@
 mod choice;
 mod event;
 mod grow;
+mod labels;
 mod laws;
 mod machine;
 mod run;
@@ -17,6 +18,7 @@ mod worker;
 
 pub use event::Event;
 pub use grow::Grow;
+pub use labels::Labels;
 pub use laws::{
     choices_settle_the_schedule, events_keep_the_balance, quiet_machine_is_idle,
     quiet_machine_posted_the_tree,

@@ -4,14 +4,15 @@ ghost use Rattle.pool_schedule.specs.Worker.{HasNothing};
 
 use crate::event::Event;
 use crate::grow::Grow;
+use crate::labels::Labels;
 use crate::worker::{Stage, Worker};
-use mine_model::{Label, NoMemory, Row};
+use mine_model::{NoMemory, Row};
 use std::alloc::Global;
 
 /// What was posted: the labels of the grown nodes, and the rows of those that have one, in one order.
 #[derive(Drop)]
 pub struct Posted {
-    pub labels: Vec<Label>,
+    pub labels: Labels,
     pub rows: Vec<Row>,
 }
 
@@ -58,7 +59,7 @@ impl<N: Drop> Machine<N> {
             all.push(Worker::new(alloc, Vec::new(alloc)))?;
         }
         let posted = Posted {
-            labels: Vec::new(alloc),
+            labels: Labels::new(alloc),
             rows: Vec::new(alloc),
         };
         Ok(Machine {

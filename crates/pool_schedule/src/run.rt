@@ -35,10 +35,10 @@ pub fn run_schedule<G: Grow>(
     requires few { workers ≤ 64 }
     requires finite { Covers (G.roots_of g.now) (G.kids_of g.now) tree }
     ensures labels { IfOk result (λ posted.
-        ArePosted (G.roots_of g.now) (G.kids_of g.now) workers choices.now posted.labels.items) }
-    ensures cover { IfOk result (λ posted. Covers (G.roots_of g.now) (G.kids_of g.now) posted.labels.items) }
+        ArePosted (G.roots_of g.now) (G.kids_of g.now) workers choices.now posted.labels) }
+    ensures cover { IfOk result (λ posted. Covers (G.roots_of g.now) (G.kids_of g.now) posted.labels) }
     ensures rows { IfOk result (λ posted.
-        posted.rows.items ≡ filter_map (G.row_of g.now) posted.labels.items) }
+        posted.rows.items ≡ filter_map (G.row_of g.now) posted.labels) }
 {
     let mut room = g.room(alloc)?;
     let mut machine = Machine::new(alloc, g, workers)?;

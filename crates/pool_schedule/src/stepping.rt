@@ -8,6 +8,7 @@ ghost use Rattle.pool_schedule.specs.declared.event.Event.TheVariants.{Post, Ste
 use crate::event::Event;
 use crate::grow::Grow;
 use crate::machine::Machine;
+use crate::worker::Pending;
 use mine_model::NoMemory;
 use std::alloc::Global;
 
@@ -17,8 +18,9 @@ fn post<N: Drop>(machine: &mut Machine<N>, w: u32) -> Result<(), NoMemory>
     ensures { OnOk result (PostsNode w machine.old machine.new) }
 {
     if let Some(pending) = machine.workers[w as usize].pending.take() {
-        machine.posted.labels.push(pending.label)?;
-        if let Some(row) = pending.row {
+        let Pending { label, row } = pending;
+        machine.posted.labels.push(label.numbers())?;
+        if let Some(row) = row {
             machine.posted.rows.push(row)?;
         }
     }

@@ -5,7 +5,7 @@ ghost use Rattle.pool_schedule.specs.Trial.{large_ranks as the_large_ranks};
 ghost use Rattle.mine_model.specs.Cover.{Covers, down_to};
 ghost use Rattle.mine_model.proofs.GrowthLemmas.{kids_of as kids_by};
 
-use crate::{Event, Grow, Machine, Posted, run_schedule, step};
+use crate::{Event, Grow, Labels, Machine, Posted, run_schedule, step};
 use mine_model::{Grown, Item, Label, NoMemory, Pattern, Row};
 use std::alloc::Global;
 use std::test::Fail;
@@ -231,12 +231,16 @@ fn small_posted(alloc: Global, workers: u32, choices: &[u64]) -> Result<Posted, 
     run_schedule(alloc, &Small, workers, choices)
 }
 
-fn has_labels(labels: &[Label], numbers: &[&[u32]]) -> bool {
-    labels.len() == numbers.len()
-        && labels
-            .iter()
-            .zip(numbers)
-            .all(|(label, numbers)| label.numbers() == *numbers)
+fn has_labels(alloc: Global, labels: &Labels, numbers: &[&[u32]]) -> Result<bool, NoMemory> {
+    if labels.len() != numbers.len() {
+        return Ok(false);
+    }
+    for number in 0..labels.len() {
+        if labels.label(alloc, number)?.numbers() != numbers[number] {
+            return Ok(false);
+        }
+    }
+    Ok(true)
 }
 
 fn has_rows(rows: &[Row], patterns: &[&[Item]]) -> bool {
@@ -250,7 +254,7 @@ fn has_rows(rows: &[Row], patterns: &[&[Item]]) -> bool {
 #[test]
 fn one_worker_posts_in_depth(rt: HostRuntime) -> Result<(), Fail> {
     let posted = small_posted(rt.alloc(), 3, &[])?;
-    assert!(rt; has_labels(posted.labels.as_slice(), &IN_DEPTH));
+    assert!(rt; has_labels(rt.alloc(), &posted.labels, &IN_DEPTH)?);
     let rows: [&[Item]; 3] = [
         &[Item(0), Item(3), Item(3), Item(1)],
         &[Item(0), Item(3), Item(2), Item(1)],
@@ -258,10 +262,10 @@ fn one_worker_posts_in_depth(rt: HostRuntime) -> Result<(), Fail> {
     ];
     assert!(rt; has_rows(posted.rows.as_slice(), &rows));
     let posted = small_posted(rt.alloc(), 64, &[])?;
-    assert!(rt; has_labels(posted.labels.as_slice(), &IN_DEPTH));
+    assert!(rt; has_labels(rt.alloc(), &posted.labels, &IN_DEPTH)?);
     // Choices that are left over are ignored.
     let posted = small_posted(rt.alloc(), 1, &[0; 1_000])?;
-    assert!(rt; has_labels(posted.labels.as_slice(), &IN_DEPTH));
+    assert!(rt; has_labels(rt.alloc(), &posted.labels, &IN_DEPTH)?);
     Ok(())
 }
 
@@ -269,7 +273,7 @@ fn one_worker_posts_in_depth(rt: HostRuntime) -> Result<(), Fail> {
 fn a_thief_posts_in_depth(rt: HostRuntime) -> Result<(), Fail> {
     let alloc = rt.alloc();
     let posted = small_posted(alloc, 3, &[1])?;
-    assert!(rt; has_labels(posted.labels.as_slice(), &IN_DEPTH));
+    assert!(rt; has_labels(rt.alloc(), &posted.labels, &IN_DEPTH)?);
     let mut machine = Machine::new(alloc, &Small, 3)?;
     assert_eq!(rt; machine.chosen(1), Some(Event::Steal { w: 1, from: 0 }));
     assert!(rt;
@@ -354,11 +358,11 @@ fn choices(alloc: Global, seed: u64) -> Result<Vec<u64>, NoMemory> {
 const LABELS: usize = 341;
 
 /// Whether these are all labels of the large tree, each once.
-fn are_all(alloc: Global, labels: &[Label]) -> Result<bool, NoMemory> {
+fn are_all(alloc: Global, labels: &Labels) -> Result<bool, NoMemory> {
     let mut numbers = Vec::new(alloc);
-    for label in labels {
+    for number in 0..labels.len() {
         numbers.push(
-            label.numbers().iter().fold(
+            labels.label(alloc, number)?.numbers().iter().fold(
                 1u32,
                 |value, rank| value.wrapping_mul(5).wrapping_add(*rank),
             ),
@@ -381,7 +385,7 @@ fn posts_each_once(alloc: Global, workers: u32, choices: &[u64]) -> Result<bool,
 {
     large_is_finite();
     let posted = run_schedule(alloc, &Large, workers, choices)?;
-    are_all(alloc, posted.labels.as_slice())
+    are_all(alloc, &posted.labels)
 }
 
 #[test]

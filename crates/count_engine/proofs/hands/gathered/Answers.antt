@@ -1,4 +1,4 @@
-use Rattle.std.proofs.Common.{◌≡◌, ◌++◌, length, append_assoc, ap, sym, ◌∙◌, arith}
+use Rattle.std.proofs.Common.{◌++◌, length, append_assoc, ap, sym, ◌∙◌, arith}
 use Rattle.count_engine.proofs.HandLemmas.{lists_more, told_more}
 use Rattle.count_engine.proofs.hands.gathered.Goals as goal
 

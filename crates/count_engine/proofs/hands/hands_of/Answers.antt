@@ -1,4 +1,4 @@
-use Rattle.std.proofs.Common.{◌≡◌, ◌++◌, length, append_assoc, ap, sym, ◌∙◌, arith}
+use Rattle.std.proofs.Common.{◌++◌, length, append_assoc, ap, sym, ◌∙◌, arith}
 use Rattle.count_engine.proofs.HandLemmas.{hands_more}
 use Rattle.count_engine.proofs.hands.hands_of.Goals as goal
 

@@ -1,4 +1,4 @@
-use Rattle.std.proofs.Common.{◌≡◌, ◌≤◌, ◌++◌, List, length, map, take, drop, All, ap, sym, subst, ◌∙◌, arith}
+use Rattle.std.proofs.Common.{◌≡◌, ◌++◌, List, length, map, take, drop, All, sym, subst, arith}
 use Rattle.mine_model.proofs.ListLemmas.{written_back}
 use Rattle.turn_lock.specs.Passes.{made}
 use Rattle.count_shards.specs.Blocks.{block_count}

@@ -1,10 +1,10 @@
-use Rattle.std.proofs.Common.{◌≡◌, ◌++◌, ◌∷◌, [], ℕ, map, refl, sym, subst, ◌∙◌, arith}
+use Rattle.std.proofs.Common.{◌≡◌, ◌∷◌, [], ℕ, map, refl, sym, subst, ◌∙◌, arith}
 use Rattle.mine_model.specs.Counted.{HasPairs, IsTold}
 use Rattle.fst_simulate.specs.Problems.{Problem, data_of}
 use Rattle.count_shards.specs.Blocks.{sequences_in}
 use Rattle.count_shards.specs.Shard.{entry_of}
 use Rattle.count_engine.specs.Shares.{share_of, HasBlockPairs}
-use Rattle.count_engine.proofs.ShareLemmas.{share_with, share_without}
+use Rattle.count_engine.proofs.ShareLemmas.{share_without}
 use Rattle.count_engine.proofs.MadeLemmas.{MadeMore, made_none, made_with}
 use Rattle.count_engine.proofs.WorkLemmas.{pairs_with}
 use Rattle.count_engine.proofs.working.work.Goals as goal

@@ -51,13 +51,13 @@ returns-in-Post-clause-rows g c =
 pub returns-in-Grow-clause-done : goal.returns-in-Grow-clause-done
 returns-in-Grow-clause-done g c =
     on_ok_weaker c.grow.result (grow-done (g.G.Grow.label_of c.args.g.now) (g.G.Grow.kids_of c.args.g.now) (g.G.Grow.row_of c.args.g.now) (g.G.Grow.IsOwn c.args.g.now)
-    c.args.machine.now c.args.event c.in-Grow.w c.index_mut.result.now c.grow.new.self c.in-Grow.is c.requires.enabled c.index_mut.ensures.value) c.grow.ensures
+    c.args.machine.now c.args.event c.in-Grow.w c.index_mut.result.now c.grow.new.self c.in-Grow.is c.requires.enabled c.index_mut.ensures.value) c.grow.ensures.grown
 
 pub returns-in-Grow-clause-own : goal.returns-in-Grow-clause-own
 returns-in-Grow-clause-own g c =
     let there = growing-at c.args.machine.now.workers.items c.args.event c.in-Grow.w c.in-Grow.is c.requires.enabled in
     on_ok_weaker c.grow.result (λ p. grows-own (g.G.Grow.IsOwn c.args.g.now) (g.G.Grow.label_of c.args.g.now) (g.G.Grow.kids_of c.args.g.now) (g.G.Grow.row_of c.args.g.now)
-    c.args.machine.now.workers.items c.in-Grow.w c.index_mut.result.now c.grow.new.self (at-now c.args.machine.now.workers.items c.in-Grow.w there.0 c.index_mut.result.now there.1 c.index_mut.ensures.value) p c.requires.own) c.grow.ensures
+    c.args.machine.now.workers.items c.in-Grow.w c.index_mut.result.now c.grow.new.self (at-now c.args.machine.now.workers.items c.in-Grow.w there.0 c.index_mut.result.now there.1 c.index_mut.ensures.value) p c.requires.own) c.grow.ensures.grown
 
 pub returns-in-Put-clause-done : goal.returns-in-Put-clause-done
 returns-in-Put-clause-done g c =

@@ -1,34 +1,36 @@
-use Rattle.std.proofs.Common.{◌≡◌, Some, None, set, sym, ap, ◌∙◌, ◌++◌}
+use Rattle.std.proofs.Common.{◌≡◌, Some, None, set, sym, ap, ◌∙◌, ◌++◌, ◌∷◌, [], ℕ, List, subst}
 use Rattle.std.proofs.lemmas.List.{append-nil}
 use Rattle.std.specs.Option.{option_to_list}
 use Rattle.std.proofs.lemmas.Option.{get_or_from_slice_get}
+use Rattle.pool_schedule.specs.Machine.{PostsNode}
+use Rattle.pool_schedule.specs.declared.machine.Machine.{Machine}
 use Rattle.pool_schedule.specs.declared.worker.Worker.{Worker}
 use Rattle.pool_schedule.proofs.StepLemmas.{at-now}
 use Rattle.pool_schedule.proofs.stepping.post.Goals as goal
+use Rattle.pool_schedule.proofs.stepping.post.Goals.{in-Some-row+in_ok-push-2, in_default-row}
 
-pub returns-in_ok-push-2 : goal.returns-in_ok-push-2
-returns-in_ok-push-2 g c =
-    let pushed = rw c.in-Some-row.row-is at (c.in_ok-push-2.ensures.items) in
-    record {
-      worker = c.index_mut.result.now;
-      pending = c.in-Some.pending;
-      at = at-now c.args.machine.now.workers.items c.args.w c.requires.0 c.index_mut.result.now c.requires.1 c.index_mut.ensures.value;
-      is = sym c.take.ensures.value ∙ c.in-Some.is;
-      workers = ap (λ p. set c.args.machine.now.workers.items c.args.w (record { deque = c.index_mut.result.now.deque; hand = c.index_mut.result.now.hand; pending = p })) c.take.ensures.after;
-      labels = c.in_ok-push.ensures.items;
-      rows = pushed ∙ ap (λ r. c.args.machine.now.posted.rows.items ++ option_to_list r) (sym c.in-Some-row.is);
-    }
-
-pub returns-in_default-row : goal.returns-in_default-row
-returns-in_default-row g c = record {
-  worker = c.index_mut.result.now;
-  pending = c.in-Some.pending;
-  at = at-now c.args.machine.now.workers.items c.args.w c.requires.0 c.index_mut.result.now c.requires.1 c.index_mut.ensures.value;
-  is = sym c.take.ensures.value ∙ c.in-Some.is;
-  workers = ap (λ p. set c.args.machine.now.workers.items c.args.w (record { deque = c.index_mut.result.now.deque; hand = c.index_mut.result.now.hand; pending = p })) c.take.ensures.after;
-  labels = c.in_ok-push.ensures.items;
-  rows = sym (append-nil c.args.machine.now.posted.rows.items) ∙ ap (λ r. c.args.machine.now.posted.rows.items ++ option_to_list r) (sym c.in_default-row.is);
-}
+pub returns-after-row-2 : goal.returns-after-row-2
+returns-after-row-2 g c =
+    elim c.match-row-2.branch [
+      | in-Some-row+in_ok-push-2 w ↦ subst (λ (m : Machine g.row.N.Denot). PostsNode c.args.w c.args.machine.now m) (sym w.machine-is) (record {
+        worker = c.index_mut.result.now;
+        pending = c.in-Some.pending;
+        at = at-now c.args.machine.now.workers.items c.args.w c.requires.0 c.index_mut.result.now c.requires.1 c.index_mut.ensures.value;
+        is = sym c.take.ensures.value ∙ c.in-Some.is;
+        workers = ap (λ p. set c.args.machine.now.workers.items c.args.w (record { deque = c.index_mut.result.now.deque; hand = c.index_mut.result.now.hand; pending = p })) c.take.ensures.after;
+        labels = c.in_ok-push.ensures.pushed ∙ ap (λ (l : List ℕ). c.args.machine.now.posted.labels ++ l ∷ []) c.numbers.ensures;
+        rows = w.in_ok-push-2.ensures.items ∙ ap (λ r. c.args.machine.now.posted.rows.items ++ option_to_list r) (sym w.in-Some-row.is);
+      })
+      | in_default-row w ↦ subst (λ (m : Machine g.row.N.Denot). PostsNode c.args.w c.args.machine.now m) (sym w.machine-is) (record {
+        worker = c.index_mut.result.now;
+        pending = c.in-Some.pending;
+        at = at-now c.args.machine.now.workers.items c.args.w c.requires.0 c.index_mut.result.now c.requires.1 c.index_mut.ensures.value;
+        is = sym c.take.ensures.value ∙ c.in-Some.is;
+        workers = ap (λ p. set c.args.machine.now.workers.items c.args.w (record { deque = c.index_mut.result.now.deque; hand = c.index_mut.result.now.hand; pending = p })) c.take.ensures.after;
+        labels = c.in_ok-push.ensures.pushed ∙ ap (λ (l : List ℕ). c.args.machine.now.posted.labels ++ l ∷ []) c.numbers.ensures;
+        rows = sym (append-nil c.args.machine.now.posted.rows.items) ∙ ap (λ r. c.args.machine.now.posted.rows.items ++ option_to_list r) (sym w.in_default-row.is);
+      })
+    ]
 
 pub returns-in_default : goal.returns-in_default
 returns-in_default g c =

@@ -30,6 +30,6 @@ invariant_of-result g c =
 pub returns-clause-balance : goal.returns-clause-balance
 returns-clause-balance g c =
     let end : c.loop.counter ≡ c.args.workers = omega (arith, c.loop.auto.counter-end c.requires.some, c.loop-test.false) in
-    let is = ready-start (g.G.Grow.label_of c.args.g.now) (g.G.Grow.roots_of c.args.g.now) c.loop.counter c.args.workers c.loop.all.items c.new-2.result.items c.loop.invariant.ready end c.new-2.ensures.items in
+    let is = ready-start (g.G.Grow.label_of c.args.g.now) (g.G.Grow.roots_of c.args.g.now) c.loop.counter c.args.workers c.loop.all.items c.new-2.result c.loop.invariant.ready end c.new-2.ensures in
     subst (λ (s : State). IsBalanced (g.G.Grow.roots_of c.args.g.now) (g.G.Grow.kids_of c.args.g.now) s) (sym is)
     (start-balance (g.G.Grow.roots_of c.args.g.now) (g.G.Grow.kids_of c.args.g.now) c.args.workers)

@@ -1,0 +1,114 @@
+-- The kids of a label are the ranks that can follow in sequences that weigh enough.
+use Rattle.std.proofs.Common.{◌≡◌, ◌≢◌, ℕ, ◌≤◌, ◌<◌, List, [], ◌∷◌, ◌++◌, map, get_or, sym, subst, arith}
+use Rattle.std.specs.List.{All, AllPairs, Contains}
+use Rattle.std.proofs.lemmas.List.{get_or_default}
+use Rattle.std.proofs.lemmas.List.Elements.{Contains-get_or, Contains-append_left}
+use Rattle.std.proofs.lemmas.List.Kept.{AllPairs-cons}
+use Rattle.std.proofs.lemmas.Simd.{map-map}
+use Rattle.mine_model.specs.declared.item.Item.{Item}
+use Rattle.mine_model.specs.Support.{Counts}
+use Rattle.mine_model.specs.Growth.{WeighAtLeast}
+use Rattle.mine_model.specs.Ranks.{HasRank, AreRanked}
+use Rattle.mine_model.specs.SearchTree.{IsRankedUpTo, label_of, IsAliveLabel, AreKids}
+use Rattle.mine_model.proofs.ListLemmas.{AllByRecursion-contained, Contains-by, Contains-from, Contains-first, Contains-other, AllPairs-head, AllPairs-tail}
+use Rattle.mine_model.proofs.RankedLemmas.{same_ranks}
+use Rattle.mine_model.proofs.FrequencyLemmas.{Counts-by}
+use Rattle.mine_model.proofs.AliveLemmas.{WeighAtLeast-counted, WeighAtLeast-weaker, WeighAtLeast-some}
+use Rattle.fst_simulate.specs.declared.part_seed.PartSeed.{PartSeed}
+use Rattle.fst_simulate.specs.Problems.{Problem, data_of}
+use Rattle.fst_simulate.specs.Grids.{GridList}
+use Rattle.fst_simulate.specs.Parts.{pivot_of, IsComplete}
+use Rattle.snapshot_project.specs.declared.next_rank.NextRank.{NextRank}
+use Rattle.snapshot_project.specs.Extensions.{sequences_of, GrowsBehind, CanFollow, AreNextRanks}
+use Rattle.dfs_growth.specs.Projections.{part_of, IsPartBy}
+use Rattle.dfs_growth.proofs.PartLemmas.{for_part, Behind, part-counts, part-weighs, behind-any, grows-behind}
+
+abbrev rank_of : NextRank → ℕ
+rank_of next = next.rank
+
+module _ (problem : Problem) (seed : PartSeed) (complete : IsComplete problem seed) (least : 1 ≤ problem.threshold) where
+  -- a rank that can follow in sequences that weigh enough is that of an alive label
+  follows-alive : (ranks : List ℕ) (rank weight : ℕ) → CanFollow (part_of problem seed) ranks rank weight → problem.threshold ≤ weight
+      → IsAliveLabel (data_of problem) problem.ranking.order (pivot_of seed.pivot) (ranks ++ rank ∷ [])
+  follows-alive ranks rank weight counted enough =
+      let part = part_of problem seed in
+      let Grows : List Item → Type 0 = GrowsBehind part (ranks ++ rank ∷ []) in
+      let weigh : WeighAtLeast Grows (sequences_of part) 1 = (WeighAtLeast-counted Grows (sequences_of part) weight 1 counted).1 (omega arith) in
+      let (some, held, (prefix, ranked, behind)) = WeighAtLeast-some Grows (sequences_of part) 1 (omega arith) weigh in
+      let Has : List Item → Type 0 = Behind problem seed complete prefix in
+      let here : Counts Has (sequences_of part) weight = Counts-by Grows Has (grows-behind problem seed complete prefix (ranks ++ rank ∷ []) ranked) (sequences_of part) weight counted in
+      let all : Counts Has problem.sequences weight = (part-counts problem seed complete Has (behind-any problem seed complete prefix) weight).0 here in
+      record { prefix = prefix; ranked = ranked; alive = (WeighAtLeast-counted Has problem.sequences weight problem.threshold all).1 enough }
+
+  -- the rank of an alive label can follow
+  alive-follows : (ranks : List ℕ) → IsAliveLabel (data_of problem) problem.ranking.order (pivot_of seed.pivot) ranks
+      → WeighAtLeast (GrowsBehind (part_of problem seed) ranks) (sequences_of (part_of problem seed)) problem.threshold
+  alive-follows ranks alive =
+      let part = part_of problem seed in
+      let Has : List Item → Type 0 = Behind problem seed complete alive.prefix in
+      WeighAtLeast-weaker Has (GrowsBehind part ranks) (λ items. (grows-behind problem seed complete alive.prefix ranks alive.ranked items).1) (sequences_of part) problem.threshold
+      (part-weighs problem seed complete Has (behind-any problem seed complete alive.prefix) problem.threshold alive.alive)
+
+-- the last rank is that of one of the items
+ranked-last : (order items : List Item) (ranks : List ℕ) (rank : ℕ) → AreRanked order items (ranks ++ rank ∷ []) → (v : Item) × Contains items v × HasRank order v rank
+ranked-last order [] [] rank ranked = absurd ranked
+ranked-last order [] (r ∷ ranks) rank ranked = absurd ranked
+ranked-last order (v ∷ items) [] rank ranked = (v, Contains-first v items, ranked.0)
+ranked-last order (v ∷ items) (r ∷ ranks) rank ranked =
+    let (w, held, has) = ranked-last order items ranks rank ranked.1 in (w, Contains-other v items w held, has)
+
+-- a rank that can follow is one that the bound allows
+follows-bounded : (part : GridList) (ranks : List ℕ) (rank : ℕ) (items : List Item) → AllPairs (λ v w. v ≢ w) part.problem.ranking.order
+    → GrowsBehind part (ranks ++ rank ∷ []) items → (1 ≤ rank) × (rank ≤ part.bound.top)
+follows-bounded part ranks rank items once (prefix, ranked, (more, pattern, within)) =
+    let order = part.problem.ranking.order in
+    let (v, held, has) = ranked-last order prefix ranks rank ranked in
+    let (other, also, most) = AllByRecursion-contained (IsRankedUpTo order part.bound.top) (prefix ++ more) v within.ranked (Contains-append_left prefix more v held) in
+    let same : rank ∷ [] ≡ other ∷ [] = same_ranks order once (v ∷ []) (rank ∷ []) (other ∷ []) (has, tt) (also, tt) in
+    let equal : rank ≡ other = cc in
+    (has.least, omega (arith, most, equal))
+
+pub next-bounded : (part : GridList) (ranks : List ℕ) (least : ℕ) (found : List NextRank) → AllPairs (λ v w. v ≢ w) part.problem.ranking.order → 1 ≤ least
+    → AreNextRanks part ranks least found → All (λ (n : NextRank). (1 ≤ n.rank) × (n.rank ≤ part.bound.top)) found
+next-bounded part ranks least found once some next = λ k d below.
+    let n : NextRank = get_or found k d in
+    let right = next.right n (Contains-get_or found k d below) in
+    let Grows : List Item → Type 0 = GrowsBehind part (ranks ++ n.rank ∷ []) in
+    let weigh : WeighAtLeast Grows (sequences_of part) 1 = (WeighAtLeast-counted Grows (sequences_of part) n.weight 1 right.1).1 (omega (arith, right.0, some)) in
+    let (s, held, grows) = WeighAtLeast-some Grows (sequences_of part) 1 (omega arith) weigh in
+    follows-bounded part ranks n.rank s.items once grows
+
+-- pairs of images
+pairs-map : {X Y : Type 0} (f : X → Y) (R : Y → Y → Type 0) (xs : List X) → AllPairs (λ x y. R (f x) (f y)) xs → AllPairs R (map f xs)
+pairs-map f R [] pairs = λ i j d less inside. absurd (omega (arith, inside))
+pairs-map f R (x ∷ xs) pairs =
+    AllPairs-cons R (f x) (map f xs)
+    (λ k d below.
+    let (y, held, is) = Contains-from f xs (get_or (map f xs) k d) (k, below, get_or_default (map f xs) k (get_or (map f xs) k d) d below) in
+    subst (R (f x)) (sym is) (AllPairs-head (λ x y. R (f x) (f y)) x xs pairs y held))
+    (pairs-map f R xs (AllPairs-tail (λ x y. R (f x) (f y)) x xs pairs))
+
+rising-ranks : (found : List NextRank) → AllPairs (λ low high. low.rank < high.rank) found → AllPairs (λ low high. low < high) (map rank_of found)
+rising-ranks found rising = pairs-map rank_of (λ low high. low < high) found rising
+
+pub kids-are : (problem : Problem) (pivot : ℕ) (part : GridList) → IsPartBy problem pivot part → 1 ≤ problem.threshold → (ranks : List ℕ) (found : List NextRank)
+    → AreNextRanks part ranks problem.threshold found
+    → AreKids (data_of problem) problem.ranking.order pivot ranks (map (λ (n : NextRank). label_of pivot (ranks ++ n.rank ∷ [])) found)
+kids-are problem pivot part by_seed least ranks found =
+    for_part problem pivot part by_seed
+    (λ p q. AreNextRanks q ranks problem.threshold found → AreKids (data_of problem) problem.ranking.order p ranks (map (λ (n : NextRank). label_of p (ranks ++ n.rank ∷ [])) found))
+    (λ seed complete next. record {
+      next = map rank_of found;
+      rising = rising-ranks found next.rising;
+      exact = λ rank. (
+        (λ held.
+            let (n, among, same) = Contains-from rank_of found rank held in
+            let right = next.right n among in
+            subst (λ r. IsAliveLabel (data_of problem) problem.ranking.order (pivot_of seed.pivot) (ranks ++ r ∷ [])) (sym same)
+            (follows-alive problem seed complete least ranks n.rank n.weight right.1 right.0)),
+        (λ alive.
+            let (n, among, same) = next.all rank (alive-follows problem seed complete least (ranks ++ rank ∷ []) alive) in
+            subst (Contains (map rank_of found)) same (Contains-by rank_of found n among)),
+      );
+      longer = sym (map-map (λ rank. label_of (pivot_of seed.pivot) (ranks ++ rank ∷ [])) rank_of found);
+    })

@@ -1,0 +1,79 @@
+-- What is counted in the part of a complete seed is what is counted in all sequences.
+use Rattle.std.proofs.Common.{◌≡◌, ◌↔◌, ℕ, zero, suc, ◌≤◌, ◌<◌, Option, Some, None, IfSome, List, [], ◌++◌, length, sym, subst, arith}
+use Rattle.std.specs.List.{Contains}
+use Rattle.mine_model.specs.declared.item.Item.{Item}
+use Rattle.mine_model.specs.Generation.{IsPatternOf}
+use Rattle.mine_model.specs.Numbered.{tree_of}
+use Rattle.mine_model.specs.Ranks.{AreRanked}
+use Rattle.mine_model.specs.Support.{Counts}
+use Rattle.mine_model.specs.Growth.{WeighAtLeast, HasPatternBehind}
+use Rattle.mine_model.specs.SearchTree.{IsWithin, IsWithinPivot}
+use Rattle.mine_model.proofs.RankedLemmas.{ranked-same}
+use Rattle.mine_model.proofs.AliveLemmas.{Counts-part, WeighAtLeast-part}
+use Rattle.fst_simulate.specs.declared.part_seed.PartSeed.{PartSeed}
+use Rattle.fst_simulate.specs.Problems.{Problem, data_of, items_of}
+use Rattle.fst_simulate.specs.Grids.{GridList}
+use Rattle.fst_simulate.specs.Parts.{pivot_of, IsComplete}
+use Rattle.snapshot_project.specs.Snapshots.{bound_of}
+use Rattle.snapshot_project.specs.Extensions.{sequences_of, GrowsBehind, GeneratesWithin}
+use Rattle.dfs_growth.specs.Projections.{part_of, IsPartBy}
+
+-- the bound of a pivot's part is that of the pivot
+pub within-pivot : (order : List Item) (pivot : Option ℕ) → IfSome pivot (λ rank. 1 ≤ rank) → (items : List Item)
+    → IsWithin order (bound_of (length order) pivot).top (bound_of (length order) pivot).need items ↔ IsWithinPivot order (pivot_of pivot) items
+within-pivot order None least items = ((λ h. h), (λ h. h))
+within-pivot order (Some zero) least items = absurd (omega (arith, least))
+within-pivot order (Some (suc before)) least items = ((λ h. h), (λ h. h))
+
+-- what holds of the parts of complete seeds holds of this one
+pub for_part : (problem : Problem) (pivot : ℕ) (part : GridList) → IsPartBy problem pivot part → (P : ℕ → GridList → Type 0)
+    → ((seed : PartSeed) → IsComplete problem seed → P (pivot_of seed.pivot) (part_of problem seed)) → P pivot part
+for_part problem pivot part is P each =
+    subst (λ q. P q part) is.pivot_is (subst (P (pivot_of is.seed.pivot)) (sym is.part_is) (each is.seed is.complete))
+
+module _ (problem : Problem) (seed : PartSeed) (complete : IsComplete problem seed) where
+  abbrev pub Within : List Item → Type 0
+  Within = IsWithinPivot problem.ranking.order (pivot_of seed.pivot)
+
+  abbrev pub Behind : List Item → List Item → Type 0
+  Behind prefix items = HasPatternBehind (data_of problem) Within prefix items
+
+  within : (i : ℕ) → Contains seed.sequences.items i → i < length problem.sequences
+  within i held = ((complete.exact i).0 held).0
+
+  -- a sequence with a pattern within the bound is one of the part
+  held : (Has : List Item → Type 0) → ((items : List Item) → Has items → Behind [] items)
+      → (i : ℕ) → i < length problem.sequences → Has (items_of problem i) → Contains seed.sequences.items i
+  held Has follows i below has = (complete.exact i).1 (below, follows (items_of problem i) has)
+
+  -- a property that only sequences with such a pattern have is counted in the part as in all sequences
+  pub part-counts : (Has : List Item → Type 0) → ((items : List Item) → Has items → Behind [] items)
+      → (n : ℕ) → Counts Has (sequences_of (part_of problem seed)) n ↔ Counts Has problem.sequences n
+  part-counts Has follows n = Counts-part Has problem.sequences seed.sequences.items complete.rising within (held Has follows) n
+
+  pub part-weighs : (Has : List Item → Type 0) → ((items : List Item) → Has items → Behind [] items)
+      → (m : ℕ) → WeighAtLeast Has problem.sequences m → WeighAtLeast Has (sequences_of (part_of problem seed)) m
+  part-weighs Has follows m = WeighAtLeast-part Has problem.sequences seed.sequences.items complete.rising within (held Has follows) m
+
+  -- a pattern that begins with the prefix is a pattern
+  pub behind-any : (prefix items : List Item) → Behind prefix items → Behind [] items
+  behind-any prefix items (more, pattern, inside) = (prefix ++ more, pattern, inside)
+
+  -- where items grow behind ranks, a pattern begins with the items that have these ranks
+  pub grows-behind : (prefix : List Item) (ranks : List ℕ) → AreRanked problem.ranking.order prefix ranks
+      → (items : List Item) → GrowsBehind (part_of problem seed) ranks items ↔ Behind prefix items
+  grows-behind prefix ranks ranked items = (
+    (λ (other, also, behind).
+        let same : other ≡ prefix = ranked-same problem.ranking.order other prefix ranks also ranked in
+        let (more, pattern, inside) = subst (λ p. HasPatternBehind (data_of problem) (IsWithin problem.ranking.order (part_of problem seed).bound.top (part_of problem seed).bound.need) p items) same behind in
+        (more, pattern, (within-pivot problem.ranking.order seed.pivot complete.least (prefix ++ more)).0 inside)),
+    (λ (more, pattern, inside). (prefix, ranked, (more, pattern, (within-pivot problem.ranking.order seed.pivot complete.least (prefix ++ more)).1 inside))),
+  )
+
+  -- items generate the prefix with these ranks where it is a pattern of theirs
+  pub generates-within : (pattern : List Item) (ranks : List ℕ) → AreRanked problem.ranking.order pattern ranks → Within pattern
+      → (items : List Item) → GeneratesWithin (part_of problem seed) ranks items ↔ IsPatternOf problem.hierarchy.links (tree_of problem.machine.expression) items pattern
+  generates-within pattern ranks ranked inside items = (
+    (λ (other, also, is, bounded). subst (IsPatternOf problem.hierarchy.links (tree_of problem.machine.expression) items) (ranked-same problem.ranking.order other pattern ranks also ranked) is),
+    (λ is. (pattern, ranked, is, (within-pivot problem.ranking.order seed.pivot complete.least pattern).1 inside)),
+  )

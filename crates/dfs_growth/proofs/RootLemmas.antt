@@ -1,0 +1,182 @@
+-- The roots of seeds, and the seed without a pivot.
+use Rattle.std.proofs.Common.{◌≡◌, ◌≢◌, ◌↔◌, ℕ, ◌+◌, ◌≤◌, ◌<◌, inl, inr, false, Option, None, IfSome, List, [], ◌∷◌, ◌++◌, map, length, get_or, refl, sym, ap, ◌∙◌, subst, arith, sum_by}
+use Rattle.std.specs.List.{All, AllByRecursion, AllPairs, Contains}
+use Rattle.std.proofs.lemmas.Bool.{false≢true, eqb-true, cases_eq}
+use Rattle.std.proofs.lemmas.List.{map-append}
+use Rattle.std.proofs.lemmas.List.Elements.{All-contains, Contains-get_or, Contains-append_left, Contains-append_right, Contains-push, Contains-push_cases, recursion_from_All}
+use Rattle.std.proofs.lemmas.List.Quantifiers.{all_pairs_push}
+use Rattle.std.proofs.lemmas.Bool.Decides.{Decides-eqb}
+use Rattle.std.proofs.lemmas.Map.Steps.{length-le_from_distinct_below}
+use Rattle.std.proofs.lemmas.Map.Made.{IsDistinct-from_AllPairs}
+use Rattle.std.proofs.lemmas.Map.Views.{Contains-from_any}
+use Rattle.std.proofs.lemmas.List.Sums.{sum_by-cons}
+use Rattle.mine_model.specs.declared.item.Item.{Item}
+use Rattle.mine_model.specs.Answer.{Data}
+use Rattle.mine_model.specs.Database.{sequence_at}
+use Rattle.mine_model.specs.Support.{Sequence, Counts}
+use Rattle.mine_model.specs.Growth.{HasPatternBehind, IsAlive}
+use Rattle.mine_model.specs.SearchTree.{IsWithinPivot, label_of, IsAliveLabel, AreRootsOf}
+use Rattle.mine_model.proofs.ListLemmas.{AllByRecursion-contained, Contains-first, Contains-other, Contains-none}
+use Rattle.mine_model.proofs.RankedLemmas.{ranked-same}
+use Rattle.mine_model.proofs.AliveLemmas.{IsAlive-counted}
+use Rattle.fst_simulate.specs.declared.part_seed.PartSeed.{PartSeed}
+use Rattle.fst_simulate.specs.Problems.{Problem, IsWhole, data_of, items_of}
+use Rattle.fst_simulate.specs.Grids.{Completes}
+use Rattle.fst_simulate.specs.Parts.{pivot_of, IsComplete}
+use Rattle.snapshot_project.specs.Extensions.{sequences_of}
+use Rattle.dfs_growth.specs.Nodes.{Prefix, label_at, prefix_at}
+use Rattle.dfs_growth.specs.Projections.{part_of}
+use Rattle.dfs_growth.proofs.PartLemmas.{Behind, part-counts}
+
+-- Roots
+
+module _ (d : Data Item) (order : List Item) (pivot : ℕ) where
+  -- one more root
+  pub roots-more : (pivots : List ℕ) (roots : List (List ℕ)) → IsAliveLabel d order pivot [] → AreRootsOf d order pivots roots
+      → AreRootsOf d order (pivots ++ pivot ∷ []) (roots ++ label_of pivot [] ∷ [])
+  roots-more [] roots alive none = inl (alive, ([], ap (λ (r : List (List ℕ)). r ++ label_of pivot [] ∷ []) none, refl))
+  roots-more (p ∷ pivots) roots alive (inl (here, (others, same, rest))) =
+      inl (here, (others ++ label_of pivot [] ∷ [], ap (λ (r : List (List ℕ)). r ++ label_of pivot [] ∷ []) same, roots-more pivots others alive rest))
+  roots-more (p ∷ pivots) roots alive (inr (dead, rest)) = inr (dead, roots-more pivots roots alive rest)
+
+  -- one more pivot that has no root
+  pub roots-same : (pivots : List ℕ) (roots : List (List ℕ)) → (IsAliveLabel d order pivot [] → ⊥) → AreRootsOf d order pivots roots
+      → AreRootsOf d order (pivots ++ pivot ∷ []) roots
+  roots-same [] roots dead none = inr (dead, none)
+  roots-same (p ∷ pivots) roots dead (inl (here, (others, same, rest))) = inl (here, (others, same, roots-same pivots others dead rest))
+  roots-same (p ∷ pivots) roots dead (inr (gone, rest)) = inr (gone, roots-same pivots roots dead rest)
+
+-- where all sequences have the property, the sum of their weights is counted
+counts-all : (Has : List Item → Type 0) (f : ℕ → Sequence Item) (numbers : List ℕ) → ((i : ℕ) → Contains numbers i → Has (f i).items)
+    → Counts Has (map f numbers) (sum_by (λ i. (f i).weight) numbers)
+counts-all Has f [] all = refl
+counts-all Has f (i ∷ numbers) all =
+    inl (all i (Contains-first i numbers), (sum_by (λ i. (f i).weight) numbers, sum_by-cons (λ i. (f i).weight) i numbers, counts-all Has f numbers (λ k held. all k (Contains-other i numbers k held))))
+
+module _ (problem : Problem) (seed : PartSeed) (complete : IsComplete problem seed) where
+  -- the root of a seed is alive where its sequences weigh enough
+  pub root-weighs : IsAliveLabel (data_of problem) problem.ranking.order (pivot_of seed.pivot) []
+      ↔ problem.threshold ≤ sum_by (λ i. (sequence_at problem.sequences i).weight) seed.sequences.items
+  root-weighs =
+      let Has : List Item → Type 0 = Behind problem seed complete [] in
+      let weight = sum_by (λ i. (sequence_at problem.sequences i).weight) seed.sequences.items in
+      let here : Counts Has (sequences_of (part_of problem seed)) weight = counts-all Has (λ i. sequence_at problem.sequences i) seed.sequences.items (λ i held. ((complete.exact i).0 held).1) in
+      let all : Counts Has problem.sequences weight = (part-counts problem seed complete Has (λ items has. has) weight).0 here in
+      let either = IsAlive-counted (data_of problem) (IsWithinPivot problem.ranking.order (pivot_of seed.pivot)) [] weight all in (
+        (λ alive. either.0 (subst (IsAlive (data_of problem) (IsWithinPivot problem.ranking.order (pivot_of seed.pivot))) (ranked-same problem.ranking.order alive.prefix [] [] alive.ranked tt) alive.alive)),
+        (λ enough. record { prefix = []; ranked = tt; alive = either.1 enough }),
+      )
+
+module _ (problem : Problem) where
+  abbrev weight_of : PartSeed → ℕ
+  weight_of seed = sum_by (λ i. (sequence_at problem.sequences i).weight) seed.sequences.items
+
+  abbrev pivot_in : PartSeed → ℕ
+  pivot_in seed = pivot_of seed.pivot
+
+  abbrev Roots : List PartSeed → List Prefix → Type 0
+  Roots seeds nodes = AreRootsOf (data_of problem) problem.ranking.order (map pivot_in seeds) (map label_at nodes)
+
+  -- the root of one more seed, whose sequences weigh enough
+  pub roots-push : (seeds : List PartSeed) (nodes : List Prefix) (seed : PartSeed) (node : Prefix) → IsComplete problem seed → problem.threshold ≤ weight_of seed
+      → node ≡ prefix_at problem (pivot_of seed.pivot ∷ []) → Roots seeds nodes → Roots (seeds ++ seed ∷ []) (nodes ++ node ∷ [])
+  roots-push seeds nodes seed node complete enough is roots =
+      let label : label_at node ≡ label_of (pivot_of seed.pivot) [] = ap label_at is in
+      rw (map-append pivot_in seeds (seed ∷ []), map-append label_at nodes (node ∷ []), label)
+      (roots-more (data_of problem) problem.ranking.order (pivot_of seed.pivot) (map pivot_in seeds) (map label_at nodes) ((root-weighs problem seed complete).1 enough) roots)
+
+  -- one more seed, whose sequences do not weigh enough
+  pub roots-pass : (seeds : List PartSeed) (nodes : List Prefix) (seed : PartSeed) → IsComplete problem seed → weight_of seed < problem.threshold
+      → Roots seeds nodes → Roots (seeds ++ seed ∷ []) nodes
+  roots-pass seeds nodes seed complete few roots =
+      rw (map-append pivot_in seeds (seed ∷ []))
+      (roots-same (data_of problem) problem.ranking.order (pivot_of seed.pivot) (map pivot_in seeds) (map label_at nodes)
+      (λ alive. let enough = (root-weighs problem seed complete).0 alive in omega (arith, enough, few)) roots)
+
+-- the next of all elements has what all have
+pub next-has : {X : Type 0} (P : X → Type 0) (met rest more all : List X) (x : X) → met ++ rest ≡ all → rest ≡ x ∷ more → All P all → P x
+next-has P met rest more all x seen first each =
+    let whole : met ++ (x ∷ more) ≡ all = ap (λ r. met ++ r) (sym first) ∙ seen in
+    All-contains P all x each (subst (λ l. Contains l x) whole (Contains-append_right met (x ∷ more) x (Contains-first x more)))
+
+-- Numbers
+
+-- the numbers of a complete seed are those of sequences
+pub seed-within : (problem : Problem) (seed : PartSeed) → IsComplete problem seed → AllByRecursion (λ i. i < length problem.sequences) seed.sequences.items
+seed-within problem seed complete =
+    recursion_from_All (λ i. i < length problem.sequences) seed.sequences.items
+    (λ k d below. ((complete.exact (get_or seed.sequences.items k d)).0 (Contains-get_or seed.sequences.items k d below)).0)
+
+module _ (Has : ℕ → Type 0) (numbers : List ℕ) (count : ℕ) (exact : (i : ℕ) → Contains numbers i ↔ ((i < count) × Has i)) where
+  -- the numbers below one more that have the property
+  pub exact-push : Has count → (i : ℕ) → Contains (numbers ++ count ∷ []) i ↔ ((i < count + 1) × Has i)
+  exact-push has i = (
+    (λ held. elim (Contains-push_cases numbers count i held) [
+      | inl before ↦ let (below, is) = (exact i).0 before in (omega (arith, below), is)
+      | inr same ↦ (omega (arith, same), subst Has same has)
+    ]),
+    (λ (below, is). elim (cases_eq i count) [
+      | inl same ↦ subst (Contains (numbers ++ count ∷ [])) (sym same) (Contains-push numbers count)
+      | inr other ↦ Contains-append_left numbers (count ∷ []) i ((exact i).1 (omega (arith, below, other), is))
+    ]),
+  )
+
+  pub exact-pass : (Has count → ⊥) → (i : ℕ) → Contains numbers i ↔ ((i < count + 1) × Has i)
+  exact-pass hasnt i = (
+    (λ held. let (below, is) = (exact i).0 held in (omega (arith, below), is)),
+    (λ (below, is). elim (cases_eq i count) [
+      | inl same ↦ absurd (hasnt (subst Has same is))
+      | inr other ↦ (exact i).1 (omega (arith, below, other), is)
+    ]),
+  )
+
+  pub rising-push : AllPairs (λ low high. low < high) numbers → AllPairs (λ low high. low < high) (numbers ++ count ∷ [])
+  rising-push rising =
+      all_pairs_push (λ low high. low < high) numbers count rising
+      (λ k d below. ((exact (get_or numbers k d)).0 (Contains-get_or numbers k d below)).0)
+
+-- rising numbers below n are at most n
+pub length-le_from_rising : (numbers : List ℕ) (n : ℕ) → AllPairs (λ low high. low < high) numbers → AllByRecursion (λ i. i < n) numbers → length numbers ≤ n
+length-le_from_rising numbers n rising within =
+    let apart : AllPairs (λ i j. i ≢ j) numbers = λ i j d less inside same. (let lower = rising i j d less inside in omega (arith, lower, same)) in
+    length-le_from_distinct_below numbers n (IsDistinct-from_AllPairs Decides-eqb numbers apart)
+    (λ q found. AllByRecursion-contained (λ i. i < n) numbers q within (Contains-from_any (λ x y. eqb-true x y) q numbers found))
+
+-- Seeds
+
+module _ (problem : Problem) (whole : IsWhole problem) where
+  -- a path from the start that writes frequent items alone, and at least one, is a pattern
+  pub completes-behind : (items : List Item) → Completes problem (record { top = length problem.ranking.order; need = None }) items 0 false
+      ↔ HasPatternBehind (data_of problem) (IsWithinPivot problem.ranking.order 0) [] items
+  completes-behind items = (
+    (λ (output, path, allowed, written). elim written [
+      | inl seen ↦ absurd (false≢true seen)
+      | inr (v, held, any) ↦
+          (output, ((λ none. Contains-none v (subst (λ (l : List Item). Contains l v) none held)), (whole.paths problem.hierarchy.links items output).0 path), record { ranked = allowed; needed = tt })
+    ]),
+    (λ (output, (some, generated), within).
+        (output, (whole.paths problem.hierarchy.links items output).1 generated, within.ranked, inr (first output some))),
+  )
+    where
+      first : (output : List Item) → output ≢ [] → (v : Item) × Contains output v × Unit {0}
+      first [] some = absurd (some refl)
+      first (v ∷ output) some = (v, Contains-first v output, tt)
+
+  -- the seed of all sequences with such a path
+  pub whole-complete : (seed : PartSeed) (count top : ℕ) → count ≡ length problem.sequences → top ≡ length problem.ranking.order
+      → seed.pivot ≡ None → AllPairs (λ low high. low < high) seed.sequences.items
+      → ((i : ℕ) → Contains seed.sequences.items i ↔ ((i < count) × Completes problem (record { top = top; need = None }) (items_of problem i) 0 false))
+      → IsComplete problem seed
+  whole-complete seed count top all order none rising exact = record {
+    least = subst (λ p. IfSome p (λ rank. 1 ≤ rank)) (sym none) tt;
+    most = subst (λ p. IfSome p (λ rank. rank ≤ length problem.ranking.order)) (sym none) tt;
+    rising = rising;
+    exact = λ i.
+        let found = exact i in
+        let Path : ℕ → Type 0 = λ n. Completes problem (record { top = n; need = None }) (items_of problem i) 0 false in
+        subst (λ (p : Option ℕ). Contains seed.sequences.items i ↔ ((i < length problem.sequences)
+        × HasPatternBehind (data_of problem) (IsWithinPivot problem.ranking.order (pivot_of p)) [] (items_of problem i))) (sym none) (
+          (λ held. let (below, path) = found.0 held in (omega (arith, below, all), (completes-behind (items_of problem i)).0 (subst Path order path))),
+          (λ (below, behind). found.1 (omega (arith, below, all), subst Path (sym order) ((completes-behind (items_of problem i)).1 behind))),
+        );
+  }

@@ -1,0 +1,47 @@
+use Rattle.std.proofs.Common.{◌≡◌, ◌≤◌, ◌<◌, ◌++◌, List, length, sum_by, append_assoc, ap, sym, ◌∙◌, arith}
+use Rattle.std.proofs.lemmas.List.Elements.{All-push}
+use Rattle.mine_model.specs.Database.{sequence_at}
+use Rattle.fst_simulate.specs.declared.part_seed.PartSeed.{PartSeed}
+use Rattle.fst_simulate.specs.Parts.{IsComplete}
+use Rattle.dfs_growth.specs.Nodes.{Prefix}
+use Rattle.dfs_growth.proofs.RootLemmas.{roots-push, roots-pass, next-has, seed-within}
+use Rattle.dfs_growth.proofs.seeds.roots.Goals as goal
+
+pub weight-requires-clause-within : goal.weight-requires-clause-within
+weight-requires-clause-within c =
+    let complete : IsComplete c.args.job.now c.in-Some.seed =
+    next-has (IsComplete c.args.job.now) c.seeds.yielded _ _ c.args.seeds.items c.in-Some.seed c.seeds.invariant.seen c.in-Some.ensures.steps.0 c.requires.complete in
+    rw c.as_slice.ensures.value (seed-within c.args.job.now c.in-Some.seed complete)
+
+pub seeds-preserved-in_ok-push : goal.seeds-preserved-in_ok-push
+seeds-preserved-in_ok-push c =
+    let job = c.args.job.now in
+    let steps = c.in-Some.ensures.steps in
+    let is = c.seeds.invariant in
+    let seed = c.in-Some.seed in
+    let complete : IsComplete job seed = next-has (IsComplete job) c.seeds.yielded _ _ c.args.seeds.items seed is.seen steps.0 c.requires.complete in
+    let weight = c.weight.ensures ∙ ap (sum_by (λ i. (sequence_at job.sequences i).weight)) c.as_slice.ensures.value in
+    let enough : job.threshold ≤ sum_by (λ i. (sequence_at job.sequences i).weight) seed.sequences.items = omega (arith, weight, c.if-weight-support.true, c.support-support.ensures.threshold) in
+    let node = c.in_ok-root.ensures in
+    record {
+      seen = rw append_assoc (ap (λ (xs : List PartSeed). c.seeds.yielded ++ xs) (sym steps.0) ∙ is.seen);
+      count = omega (arith, steps.1, is.count, ap length steps.0);
+      problem = rw c.in_ok-push.ensures.items (All-push (λ (node : Prefix). node.problem ≡ job) c.seeds.nodes.items c.in_ok-root.field-0 is.problem (ap (λ (p : Prefix). p.problem) node));
+      roots = rw c.in_ok-push.ensures.items (roots-push job c.seeds.yielded c.seeds.nodes.items seed c.in_ok-root.field-0 complete enough node is.roots);
+    }
+
+pub seeds-preserved : goal.seeds-preserved
+seeds-preserved c =
+    let job = c.args.job.now in
+    let steps = c.in-Some.ensures.steps in
+    let is = c.seeds.invariant in
+    let seed = c.in-Some.seed in
+    let complete : IsComplete job seed = next-has (IsComplete job) c.seeds.yielded _ _ c.args.seeds.items seed is.seen steps.0 c.requires.complete in
+    let weight = c.weight.ensures ∙ ap (sum_by (λ i. (sequence_at job.sequences i).weight)) c.as_slice.ensures.value in
+    let few : sum_by (λ i. (sequence_at job.sequences i).weight) seed.sequences.items < job.threshold = omega (arith, weight, c.if-weight-support.false, c.support-support.ensures.threshold) in
+    record {
+      seen = rw append_assoc (ap (λ (xs : List PartSeed). c.seeds.yielded ++ xs) (sym steps.0) ∙ is.seen);
+      count = omega (arith, steps.1, is.count, ap length steps.0);
+      problem = is.problem;
+      roots = roots-pass job c.seeds.yielded c.seeds.nodes.items seed complete few is.roots;
+    }

@@ -1,0 +1,10 @@
+//! The board of a search: the labels that its workers post, each with its row.
+#![tactic(auto)]
+
+mod board;
+mod post;
+#[cfg(test)]
+mod tests;
+
+pub use board::Board;
+pub use post::Post;

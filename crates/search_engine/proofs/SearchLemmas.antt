@@ -1,0 +1,102 @@
+-- What a search grows is its tree, and the rows over a cover of the tree are the answer.
+use Rattle.std.proofs.Common.{◌≡◌, ◌↔◌, ℕ, suc, ◌<◌, ◌≤◌, Option, IfSome, List, [], ◌∷◌, length, All, sym, ap₂, subst, arith}
+use Rattle.std.specs.List.{AllByRecursion, AllPairs, Contains, filter_map}
+use Rattle.mine_model.specs.declared.item.Item.{Item}
+use Rattle.mine_model.specs.declared.mined.Work.{Work}
+use Rattle.mine_model.specs.declared.row.Row.{Row}
+use Rattle.mine_model.specs.Candidates.{IsFrequentItem}
+use Rattle.mine_model.specs.Cover.{Covers, down_to}
+use Rattle.mine_model.specs.Growth.{HasPatternBehind, IsSearchWork}
+use Rattle.mine_model.specs.Numbered.{tree_of as expression_of, AreFrequent}
+use Rattle.mine_model.specs.SearchTree.{IsWithinPivot, IsRowOf, AreKids, AreRootsOf, IsSearchTree}
+use Rattle.mine_model.specs.Support.{HasFrequency}
+use Rattle.mine_model.proofs.FrequencyLemmas.{frequent-items, frequencies-known, HasFrequency-within}
+use Rattle.mine_model.proofs.ListLemmas.{AllByRecursion-weaker}
+use Rattle.mine_model.proofs.SearchAnswerLemmas.{search-rows, search-work}
+use Rattle.mine_model.proofs.SearchTreeLemmas.{AreKids-same, IsRowOf-same, AreRootsOf-same, search-covers, longest, longest-all}
+use Rattle.fst_simulate.specs.declared.part_seed.PartSeed.{PartSeed}
+use Rattle.fst_simulate.specs.Parts.{pivot_of, IsComplete}
+use Rattle.fst_simulate.specs.Problems.{Problem, IsWhole, data_of, items_of}
+use Rattle.dfs_growth.specs.Nodes.{Prefix, label_at}
+use Rattle.dfs_growth.specs.Tree.{search_tree, roots_by, kids_by, row_by}
+use Rattle.dfs_growth.proofs.TreeLemmas.{search_tree-is}
+use Rattle.search_engine.specs.Searches.{Search, tree_of}
+
+-- a seed with the pivot takes the sequence
+abbrev Takes : Problem → Option ℕ → ℕ → Type 0
+Takes problem pivot i =
+    (i < length problem.sequences) × HasPatternBehind (data_of problem) (IsWithinPivot problem.ranking.order (pivot_of pivot)) [] (items_of problem i)
+
+-- a seed with the same pivot and the same sequences is as complete
+pub complete-same : (problem : Problem) (seed copy : PartSeed) → copy.pivot ≡ seed.pivot → copy.sequences.items ≡ seed.sequences.items → IsComplete problem seed → IsComplete problem copy
+complete-same problem seed copy pivot sequences is = record {
+  least = subst (λ p. IfSome p (λ rank. 1 ≤ rank)) (sym pivot) is.least;
+  most = subst (λ p. IfSome p (λ rank. rank ≤ length problem.ranking.order)) (sym pivot) is.most;
+  rising = subst (AllPairs (λ low high. low < high)) (sym sequences) is.rising;
+  exact = subst (λ l. (i : ℕ) → Contains l i ↔ Takes problem copy.pivot i) (sym sequences)
+      (subst (λ p. (i : ℕ) → Contains seed.sequences.items i ↔ Takes problem p i) (sym pivot) is.exact);
+}
+
+module _ (problem : Problem) (whole : IsWhole problem) where
+  -- what a node grows into is what the tree has there
+  pub row-walked : (prefix : Prefix) → prefix.problem ≡ problem → (row : Option Row)
+      → IsRowOf (data_of prefix.problem) prefix.problem.ranking.order prefix.pivot prefix.ranks row → row ≡ row_by problem (label_at prefix)
+  row-walked prefix own row is =
+      IsRowOf-same (data_of problem) problem.ranking.order prefix.pivot prefix.ranks row (row_by problem (label_at prefix))
+      (subst (λ (p : Problem). IsRowOf (data_of p) p.ranking.order prefix.pivot prefix.ranks row) own is)
+      ((search_tree-is problem whole []).row prefix.pivot prefix.ranks)
+
+  pub kids-walked : (prefix : Prefix) → prefix.problem ≡ problem → (kids : List (List ℕ))
+      → AreKids (data_of prefix.problem) prefix.problem.ranking.order prefix.pivot prefix.ranks kids → kids ≡ kids_by problem (label_at prefix)
+  kids-walked prefix own kids are =
+      AreKids-same (data_of problem) problem.ranking.order prefix.pivot prefix.ranks kids (kids_by problem (label_at prefix))
+      (subst (λ (p : Problem). AreKids (data_of p) p.ranking.order prefix.pivot prefix.ranks kids) own are)
+      ((search_tree-is problem whole []).kids prefix.pivot prefix.ranks)
+
+  pub roots-walked : (pivots : List ℕ) (roots : List (List ℕ)) → AreRootsOf (data_of problem) problem.ranking.order pivots roots → roots ≡ roots_by problem pivots
+  roots-walked pivots roots are =
+      AreRootsOf-same (data_of problem) problem.ranking.order pivots roots (roots_by problem pivots) are (search_tree-is problem whole pivots).roots
+
+  -- the tree is finite
+  pub search-finite : (pivots : List ℕ) → Covers (roots_by problem pivots) (kids_by problem) (down_to (roots_by problem pivots) (kids_by problem) (suc (suc (longest problem.sequences))))
+  search-finite pivots =
+      search-covers (data_of problem) problem.ranking.order pivots (search_tree problem pivots) (search_tree-is problem whole pivots) whole.least
+      (longest problem.sequences) (longest-all problem.sequences)
+
+-- the tree of a search of the problem is finite
+pub walks-finite : (problem : Problem) → IsWhole problem → (search : Search) → search.problem ≡ problem
+    → Covers (tree_of search).roots (tree_of search).kids (down_to (tree_of search).roots (tree_of search).kids (suc (suc (longest search.problem.sequences))))
+walks-finite problem whole search same = search-finite search.problem (subst IsWhole (sym same) whole) search.pivots
+
+-- a search of the problem without pivots
+module _ (problem : Problem) (whole : IsWhole problem) (search : Search) (same : search.problem ≡ problem) (one : search.pivots ≡ 0 ∷ []) where
+  pub walks-tree : IsSearchTree (data_of problem) problem.ranking.order (0 ∷ []) (tree_of search)
+  walks-tree = subst (IsSearchTree (data_of problem) problem.ranking.order (0 ∷ [])) (sym (ap₂ search_tree same one)) (search_tree-is problem whole (0 ∷ []))
+
+  -- over a cover of its tree
+  module _ (labels : List (List ℕ)) (covers : Covers (tree_of search).roots (tree_of search).kids labels) where
+    pub walks-work : (nodes parts : ℕ) → nodes ≡ length labels → parts ≡ length (tree_of search).roots
+        → IsSearchWork (data_of problem) (record { nodes = nodes; parts = parts; candidates = 0 })
+    walks-work nodes parts is_nodes is_parts =
+        let made : ℕ → ℕ → Work = λ n p. record { nodes = n; parts = p; candidates = 0 } in
+        subst (IsSearchWork (data_of problem)) (ap₂ made (sym is_nodes) (sym is_parts))
+        (search-work (data_of problem) problem.ranking whole.ranks (tree_of search) walks-tree labels covers whole.least)
+
+    module _ (ends : All (λ link. (link.child.0 < problem.hierarchy.items) × (link.parent.0 < problem.hierarchy.items)) problem.hierarchy.links)
+        (rows : List Row) (are : rows ≡ filter_map (tree_of search).row labels) where
+      known : (w : Item) → (m : ℕ) × HasFrequency problem.hierarchy.links problem.sequences w m
+      known = frequencies-known problem.hierarchy.links problem.hierarchy.items ends problem.sequences problem.ranking.frequencies whole.items whole.ranked whole.ranks.exact
+
+      pub walks-frequent : AreFrequent (data_of problem) rows
+      walks-frequent =
+          subst (AreFrequent (data_of problem)) (sym are)
+          (search-rows (data_of problem) problem.ranking whole.ranks (tree_of search) walks-tree labels covers known)
+
+      pub walks-within : (row : Row) → Contains rows row → AllByRecursion (λ (t : Item). t.0 < problem.hierarchy.items) row.pattern
+      walks-within row held =
+          let is = (walks-frequent.frequent row).0 held in
+          AllByRecursion-weaker (IsFrequentItem problem.hierarchy.links problem.sequences problem.threshold) (λ (t : Item). t.0 < problem.hierarchy.items)
+          (λ v frequent. HasFrequency-within problem.hierarchy.links problem.hierarchy.items ends problem.sequences v frequent.frequency whole.items frequent.exact
+          (omega (arith, whole.least, frequent.enough)))
+          row.pattern
+          (frequent-items problem.hierarchy.links problem.sequences known problem.threshold (expression_of problem.machine.expression) row.pattern row.support is.exact is.enough)

@@ -1,0 +1,124 @@
+//! The search by prefixes of a job.
+ghost use Rattle.std.specs.Prelude.{◌≡◌, ℕ, [], ◌∷◌, map, All, IfOk};
+ghost use Rattle.fst_simulate.specs.declared.part_seed.PartSeed.{PartSeed as Seed};
+ghost use Rattle.fst_simulate.specs.Problems.{Problem, IsWhole};
+ghost use Rattle.fst_simulate.specs.Parts.{pivot_of, IsComplete};
+
+use dfs_growth::{Node, expand, roots, whole};
+use fst_simulate::{Job, PartSeed};
+use mine_model::{Grown, NoMemory};
+use pool_schedule::Grow;
+use snapshot_project::Room;
+use std::alloc::Global;
+use std::marker::Model;
+
+/// A job with the seeds of the roots of its search tree.
+#[derive(Drop)]
+pub(crate) struct Search<'a> {
+    job: &'a Job,
+    seeds: Vec<PartSeed>,
+}
+
+impl<'a> Model for Search<'a> {
+    ghost use Rattle.std.specs.Prelude.{map};
+    ghost use Rattle.fst_simulate.specs.declared.part_seed.PartSeed.{PartSeed as Seed};
+    ghost use Rattle.fst_simulate.specs.Parts.{pivot_of};
+    ghost use Rattle.search_engine.specs.Searches.{Search, IsSeeded};
+
+    ghost Value = { Search };
+
+    ghost use Rattle.mine_model.specs.contracts.expression.Expr as e;
+    ghost use Rattle.std.specs.Coded.{codes};
+
+    ghost coded = { Prim.hlevel (codes, e.the_row.coded) };
+
+    ghost view = { λ s. record {
+      problem = s.job.now;
+      pivots = map (λ (seed : Seed). pivot_of seed.pivot) s.seeds.items;
+    } };
+
+    ghost invariant = { λ s. IsSeeded s.job.now s.seeds.items };
+}
+
+/// The seeds, copied.
+fn copied(alloc: Global, seeds: &[PartSeed]) -> Result<Vec<PartSeed>, NoMemory>
+    ensures pivots { IfOk result (λ copies. map (λ (seed : Seed). pivot_of seed.pivot) copies.items
+        ≡ map (λ (seed : Seed). pivot_of seed.pivot) seeds.now) }
+    ensures complete { (problem : Problem) → All (IsComplete problem) seeds.now
+        → IfOk result (λ copies. All (IsComplete problem) copies.items) }
+{
+    let mut copies = Vec::with_capacity(alloc, seeds.len())?;
+    for seed in seeds {
+        copies.push(PartSeed {
+            pivot: seed.pivot,
+            sequences: Vec::from_slice(alloc, seed.sequences.as_slice())?,
+        })?;
+    }
+    Ok(copies)
+}
+
+impl<'a> Search<'a> {
+    /// The search without pivots: it has one seed, of all sequences that have a pattern of frequent items.
+    pub(crate) fn new(alloc: Global, job: &'a Job) -> Result<Search<'a>, NoMemory>
+        ensures problem { IfOk result (λ search. search.problem ≡ job.now) }
+        ensures pivots { IfOk result (λ search. search.pivots ≡ 0 ∷ []) }
+    {
+        // Each accessor of the job says that it is whole.
+        let _support = job.support();
+        let mut seeds = Vec::new(alloc);
+        seeds.push(whole(alloc, job)?)?;
+        Ok(Search { job, seeds })
+    }
+
+    /// The job.
+    fn job(&self) -> &'a Job
+        ensures problem { result.now ≡ self.now.problem }
+        ensures whole { IsWhole self.now.problem }
+    {
+        self.job
+    }
+}
+
+impl<'a> Grow for Search<'a> {
+    type Node = Node<'a>;
+
+    type Room = Room;
+
+    ghost use Rattle.std.specs.Prelude.{◌≡◌, ◌≤◌, length};
+    ghost use Rattle.dfs_growth.specs.Nodes.{label_at};
+    ghost use Rattle.search_engine.specs.Searches.{tree_of};
+
+    ghost label_of = { λ _ node. label_at node };
+
+    ghost roots_of = { λ search. (tree_of search).roots };
+
+    ghost kids_of = { λ search. (tree_of search).kids };
+
+    ghost row_of = { λ search. (tree_of search).row };
+
+    ghost IsOwn = { λ search node. node.problem ≡ search.problem };
+
+    ghost IsRoomy = { λ search room. length search.problem.ranking.order ≤ room };
+
+    fn room(&self, alloc: Global) -> Result<Room, NoMemory> {
+        Room::new(alloc, self.job())
+    }
+
+    fn roots(&self, alloc: Global) -> Result<Vec<Node<'a>>, NoMemory> {
+        let seeds = copied(alloc, self.seeds.as_slice())?;
+        let nodes = roots(alloc, self.job, seeds)?;
+        Ok(nodes)
+    }
+
+    fn grow(
+        &self,
+        alloc: Global,
+        node: Node<'a>,
+        room: &mut Room,
+    ) -> Result<Grown<Node<'a>>, NoMemory> {
+        // The node is grown by its own job, which is that of the search.
+        let _job = self.job();
+        let grown = expand(alloc, node, room)?;
+        Ok(grown)
+    }
+}
