@@ -137,7 +137,8 @@ impl<'a> Part<'a> {
     /// The weight of the sequence of a grid.
     pub(crate) fn weight(&self, grid: u32) -> u64
         requires { grid < length self.now.sequences }
-        ensures weight { result ≡ (sequence_at self.now.problem.sequences (slice_index self.now.sequences grid)).weight }
+        ensures weight { result
+            ≡ (sequence_at self.now.problem.sequences (slice_index self.now.sequences grid)).weight }
         ensures most { result ≤ most_weight }
     {
         let number = self.grids.sequences()[grid as usize];

@@ -1,7 +1,7 @@
-use Rattle.std.proofs.Common.{◌≡◌, [], map, take}
-use Rattle.snapshot_project.specs.declared.next_rank.NextRank.{NextRank}
-use Rattle.snapshot_project.specs.Aims.{sees}
+use Rattle.std.proofs.Common.{◌≡◌, map, take}
+use Rattle.snapshot_project.specs.Files.{empty_for}
 use Rattle.snapshot_project.proofs.advancing.empty_lists.Given as goal
 
+-- the lists so far are empty
 abbrev pub invariant-loop-n : goal.invariant-loop-n
-invariant-loop-n l = l.lists.items ≡ map (λ (n : NextRank). record { seen = sees l.seen l.need n.rank; snapshots = [] }) (take l.n-index l.next)
+invariant-loop-n l = l.lists.items ≡ map (empty_for l.seen l.need) (take l.n-index l.next)
