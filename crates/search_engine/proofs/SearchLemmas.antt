@@ -1,5 +1,5 @@
 -- What a search grows is its tree, and the rows over a cover of the tree are the answer.
-use Rattle.std.proofs.Common.{◌≡◌, ◌↔◌, ℕ, suc, ◌<◌, ◌≤◌, Option, IfSome, List, [], ◌∷◌, map, length, All, sym, ap, ap₂, ◌∙◌, subst, arith}
+use Rattle.std.proofs.Common.{◌≡◌, ◌↔◌, ℕ, suc, ◌<◌, ◌≤◌, Option, IfSome, List, [], ◌∷◌, length, All, sym, ap₂, subst, arith}
 use Rattle.std.specs.List.{AllByRecursion, AllPairs, Contains, filter_map}
 use Rattle.mine_model.specs.declared.item.Item.{Item}
 use Rattle.mine_model.specs.declared.mined.Work.{Work}

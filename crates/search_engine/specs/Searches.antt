@@ -1,5 +1,5 @@
 -- A search by prefixes, and the tree that it walks.
-use Rattle.std.specs.Prelude.{◌≡◌, ℕ, ◌<◌, List, length, All}
+use Rattle.std.specs.Prelude.{ℕ, List, All}
 use Rattle.mine_model.specs.SearchTree.{SearchTree}
 use Rattle.fst_simulate.specs.declared.part_seed.PartSeed.{PartSeed}
 use Rattle.fst_simulate.specs.Problems.{Problem, IsWhole}

@@ -1,12 +1,12 @@
 -- Snapshots that are found sequence by sequence.
-use Rattle.std.proofs.Common.{◌≡◌, ◌≢◌, ◌↔◌, ℕ, ◌+◌, ◌≤◌, ◌<◌, ◌⊎◌, inl, inr, false, true, Bool, IsTrue, ◌&&◌, Some, List, [], ◌∷◌, ◌++◌, map, length, get_or, eqb, refl, sym, ap, ◌∙◌, subst, arith}
+use Rattle.std.proofs.Common.{◌≡◌, ◌↔◌, ℕ, ◌+◌, ◌≤◌, ◌<◌, inl, inr, true, Bool, IsTrue, ◌&&◌, Some, List, [], ◌++◌, map, length, get_or, eqb, refl, sym, ap, ◌∙◌, subst, arith}
 use Rattle.std.specs.List.{AllPairs, Contains, filter, slice_get}
 use Rattle.std.proofs.lemmas.Bool.{cases_lt, and_parts}
 use Rattle.std.proofs.lemmas.Bool.Decides.{Decides-eqb}
 use Rattle.std.proofs.lemmas.List.{length-map}
 use Rattle.std.proofs.lemmas.List.Elements.{Contains-append_left, Contains-append_right, Contains-append_cases}
 use Rattle.std.proofs.lemmas.List.Kept.{AllPairs-filter}
-use Rattle.std.proofs.lemmas.Option.{get_or_from_slice_get, slice_get_within, slice_get-get_or, same_Some}
+use Rattle.std.proofs.lemmas.Option.{get_or_from_slice_get, slice_get-get_or, same_Some}
 use Rattle.mine_model.proofs.ElementLemmas.{get-held}
 use Rattle.mine_model.proofs.ListLemmas.{AllPairs-append, Contains-none, Contains-from, Contains-by, Contains-filter, filter-Contains}
 use Rattle.fst_simulate.specs.Grids.{GridList}

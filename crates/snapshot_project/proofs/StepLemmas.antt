@@ -1,7 +1,7 @@
 -- What the words of a reading say of the live states.
 use Rattle.std.proofs.Common.{◌≡◌, ◌↔◌, ℕ, ◌<◌, ◌≤◌, ◌/◌, ◌%◌, ◌⊎◌, inl, inr, Bool, true, false, true≢false, ◌==◌, IsTrue, Some, List, [], length, refl, sym, ◌∙◌, subst}
 use Rattle.std.specs.Int.{bit_at}
-use Rattle.std.specs.List.{Contains, slice_index}
+use Rattle.std.specs.List.{slice_index}
 use Rattle.std.proofs.lemmas.Bool.{cases_Bool, or_left, or_right}
 use Rattle.std.proofs.lemmas.Bool.Decides.{Decides-eqb}
 use Rattle.state_bits.specs.Members.{Has, HasBit}

@@ -7,7 +7,6 @@ use Rattle.state_bits.specs.Members.{Has}
 use Rattle.fst_compile.proofs.RowLemmas.{Has-none}
 use Rattle.mine_model.specs.declared.item.Item.{Item}
 use Rattle.mine_model.proofs.ElementLemmas.{get-held}
-use Rattle.mine_model.proofs.ListLemmas.{Contains-none}
 use Rattle.fst_simulate.specs.declared.bound.Bound.{Bound}
 use Rattle.fst_simulate.specs.Problems.{Problem, IsWhole}
 use Rattle.fst_simulate.specs.Grids.{Completes, Reads}
@@ -15,8 +14,6 @@ use Rattle.fst_simulate.specs.Successors.{LeadsFrom}
 use Rattle.snapshot_project.specs.declared.snapshot.Snapshot.{Snapshot}
 use Rattle.snapshot_project.specs.declared.hit.Hit.{Hit}
 use Rattle.snapshot_project.specs.Aims.{goes}
-use Rattle.snapshot_project.specs.Snapshots.{HasSnapshot}
-use Rattle.snapshot_project.specs.Live.{WritesNext}
 use Rattle.snapshot_project.specs.Hits.{AreInOrder, AreHits, AreHitsBefore, IsHitOf, WritesFrom, HasHitAt}
 use Rattle.snapshot_project.specs.Joins.{StandAt, Joins}
 use Rattle.snapshot_project.specs.Walks.{AreGroupOf, StandsIn, IsNextAt, IsUseful, Arrives, IsOnWay}

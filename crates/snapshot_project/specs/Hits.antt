@@ -99,8 +99,8 @@ IsHitAt problem bound items prefix seen at hit =
     × IsMarked problem bound (drop (at + 1) items) seen hit
 
 -- exactly what may be written behind the prefix before the end
-pub record AreHitsBefore (problem : Problem) (bound : Bound) (items prefix : List Item) (seen : Bool) (end : ℕ)
-    (hits : List Hit)
+pub record AreHitsBefore (problem : Problem) (bound : Bound) (items prefix : List Item) (seen : Bool)
+    (end : ℕ) (hits : List Hit)
     : Type 0 where
   pub right : (hit : Hit) → Contains hits hit
       → (at : ℕ) × (at < end) × IsHitAt problem bound items prefix seen at hit

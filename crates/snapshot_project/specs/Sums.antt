@@ -81,7 +81,8 @@ pub record AreAdded (hits : List Hit) (weight : ℕ) (before after : List Sum) :
 -- the same of hits that were gone over, with the sequence of the grid
 pub record HaveAdded (hits : List Hit) (grid weight : ℕ) (before now : List Sum) : Type 0 where
   pub weights : (rank : ℕ) → (HasHit hits rank
-      × ((sum : Sum) × (sum_of now rank ≡ Some sum) × (sum.last ≡ grid) × (sum.weight ≡ weight_of before rank + weight)))
+      × ((sum : Sum) × (sum_of now rank ≡ Some sum) × (sum.last ≡ grid)
+      × (sum.weight ≡ weight_of before rank + weight)))
       ⊎ ((HasHit hits rank → ⊥) × (sum_of now rank ≡ sum_of before rank))
   pub supports : (rank : ℕ) → (HasEnd hits rank × (ended_of now rank ≡ grid + 1)
       × (support_of now rank ≡ support_of before rank + weight))

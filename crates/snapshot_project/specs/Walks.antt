@@ -33,10 +33,11 @@ pub record AreGroupOf (problem : Problem) (bound : Bound) (items prefix : List I
 pub record IsNextAt (group : List Snapshot) (taken position end live at : ℕ) : Type 0 where
   pub within : at < end
   pub stays : (live ≡ 0) ⊎ (at ≡ position)
-  pub jumps : live ≡ 0 → (snapshot : Snapshot) × (slice_get group taken ≡ Some snapshot) × (snapshot.position ≡ at)
+  pub jumps : live ≡ 0 → (snapshot : Snapshot) × (slice_get group taken ≡ Some snapshot)
+      × (snapshot.position ≡ at)
 
--- an edge that writes nothing leads to the state at the position from one before it, where a snapshot stands or
--- such an edge leads to; and a path goes on as it has to
+-- An edge that writes nothing leads to the state at the position from one before it, where a snapshot stands
+-- or to which such an edge leads; and a path goes on as it has to.
 abbrev pub Arrives : Problem → Bound → List Item → List Snapshot → Bool → ℕ → ℕ → Type 0
 Arrives problem bound items group goes zero state = ⊥
 Arrives problem bound items group goes (suc before) state =
@@ -46,7 +47,8 @@ Arrives problem bound items group goes (suc before) state =
     × Leads problem.machine from state × Reads problem t state []
     × Completes problem bound (drop (before + 1) items) state goes
 
--- a snapshot stands at the position in the state, or such an edge leads to it; and a path goes on as it has to
+-- a snapshot stands at the position in the state, or such an edge leads to it; and a path goes on as it has
+-- to
 abbrev pub IsUseful : Problem → Bound → List Item → List Snapshot → Bool → ℕ → ℕ → Type 0
 IsUseful problem bound items group goes position state =
     (Arrives problem bound items group goes position state ⊎ StandsIn group position state)

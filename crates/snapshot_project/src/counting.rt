@@ -8,8 +8,8 @@ ghost use Rattle.snapshot_project.specs.Sums.{AreSums, AreAdded, IsAdded, Adds, 
 use super::hit::Hit;
 use mine_model::NoMemory;
 
-/// What a rank weighs in the sequences up to the grid of the last one that it was met in; what it weighs in the
-/// sequences before a grid in which a hit of it ends; and how many of its hits write on.
+/// What a rank weighs in the sequences up to the grid of the last one that it was met in; what it weighs in
+/// the sequences before a grid in which a hit of it ends; and how many of its hits write on.
 #[derive(Clone, Copy, Debug)]
 pub(crate) struct Sum {
     pub(crate) rank: u32,

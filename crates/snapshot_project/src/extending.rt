@@ -18,8 +18,8 @@ use super::walking::walk;
 use mine_model::NoMemory;
 use std::alloc::Global;
 
-/// The ranks that can follow in sequences that weigh at least `least`, rising, with the supports of the prefix
-/// with each of them.
+/// The ranks that can follow in sequences that weigh at least `least`, rising, with the supports of the
+/// prefix with each of them.
 pub fn next_ranks(
     alloc: Global,
     part: &Part,

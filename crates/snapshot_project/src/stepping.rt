@@ -44,8 +44,8 @@ pub(crate) fn step<const W: usize>(
         → state ≤ length part.now.problem.machine.labels) }
     ensures hits { OnOk result ((t : Item) → slice_get (items_at part.now grid) at ≡ Some t
         → (hit : Found) → Contains hits.new.items hit ↔ (Contains hits.old.items hit
-        ⊎ IsHitOf part.now.problem part.now.bound live.now t (rest_at part.now grid (at + 1)) aim.seen (at + 1)
-        hit)) }
+        ⊎ IsHitOf part.now.problem part.now.bound live.now t (rest_at part.now grid (at + 1)) aim.seen
+        (at + 1) hit)) }
     ensures all { OnOk result ((t : Item) → slice_get (items_at part.now grid) at ≡ Some t
         → (rank state : ℕ) → WritesFrom part.now.problem part.now.bound live.now t
         (rest_at part.now grid (at + 1)) aim.seen rank state

@@ -205,8 +205,8 @@ fn follow(alloc: Global, part: &Part, ranks: &[u32], top: u32) -> Result<Snapsho
     Ok(snapshots)
 }
 
-/// The support of the prefix; each rank that can follow, with its weight and the support of the prefix with it;
-/// how many ranks can follow the prefixes that are longer by the ranks 1 and 2.
+/// The support of the prefix; each rank that can follow, with its weight and the support of the prefix with
+/// it; how many ranks can follow the prefixes that are longer by the ranks 1 and 2.
 fn text_of(
     alloc: Global,
     part: &Part,

@@ -20,8 +20,8 @@ use fst_simulate::Successors;
 use mine_model::NoMemory;
 use state_bits::StateSet;
 
-/// Finds what may be written behind the prefix of these snapshots, all of one sequence, the one of the grid, and
-/// among them all from which more can be written.
+/// Finds what may be written behind the prefix of these snapshots, all of one sequence, the one of the grid,
+/// and among them all from which more can be written.
 pub(crate) fn walk(
     part: &Part,
     grid: u32,

@@ -1,4 +1,4 @@
-use Rattle.std.proofs.Common.{map, ◌||◌, ◌≡◌, ◌↔◌, ◌⊎◌, ◌*◌, ◌^◌, ◌<◌, ℕ, IsTrue, inl, inr, sym, ◌∙◌, subst, rules, true≢false}
+use Rattle.std.proofs.Common.{map, ◌||◌, ◌↔◌, ◌*◌, ◌^◌, ◌<◌, ℕ, IsTrue, rules}
 use Rattle.std.specs.List.{Contains}
 use Rattle.std.proofs.lemmas.List.Kept.{AllPairs-from_increasing}
 use Rattle.std.proofs.lemmas.List.Elements.{All-contains}

@@ -1,4 +1,4 @@
-use Rattle.std.proofs.Common.{◌≡◌, ℕ, List, map, All, sym, ap, ◌∙◌, subst}
+use Rattle.std.proofs.Common.{map, All, sym, ap, ◌∙◌, subst}
 use Rattle.mine_model.specs.SearchTree.{AreRootsOf}
 use Rattle.fst_simulate.specs.declared.part_seed.PartSeed.{PartSeed}
 use Rattle.fst_simulate.specs.Parts.{pivot_of, IsComplete}
