@@ -1,22 +1,29 @@
 -- Boards with one label more, and the rows of the labels of a search tree.
-use Rattle.std.proofs.Common.{◌≡◌, ℕ, Option, Some, None, List, [], ◌∷◌, ◌++◌, length, refl, sym, ap, ◌∙◌, arith, append_assoc}
-use Rattle.std.specs.List.{zip, filter_map}
+use Rattle.std.proofs.Common.{◌≡◌, ℕ, Option, Some, None, List, [], ◌∷◌, ◌++◌, length, refl, sym, ap, ◌∙◌, append_assoc}
+use Rattle.std.specs.List.{filter_map}
 use Rattle.std.specs.Option.{option_to_list}
-use Rattle.std.proofs.lemmas.List.{append-nil, map_push}
+use Rattle.std.proofs.lemmas.List.{append-nil, length-map, map_push}
+use Rattle.std.specs.declared.snapshot.Snapshot.{Snapshot}
 use Rattle.mine_model.specs.declared.row.Row.{Row}
 use Rattle.mine_model.specs.SearchTree.{SearchTree, IsSearchTree}
 use Rattle.mine_model.proofs.SearchTreeLemmas.{IsRowOf-same}
 use Rattle.fst_simulate.specs.Problems.{Problem, data_of}
 use Rattle.turn_lock.specs.History.{Made}
+use Rattle.result_board.specs.declared.board.Entry.{Entry}
+use Rattle.result_board.specs.Entries.{history_of}
 use Rattle.result_board.specs.Board.{HasRow, AreRowsOf, labels_of, IsBoard}
 
--- each number beside its label, and one of both more
-pub zip-push : (numbers : List ℕ) (labels : List (List ℕ)) (number : ℕ) (label : List ℕ) → length labels ≡ length numbers
-    → zip (numbers ++ number ∷ []) (labels ++ label ∷ []) ≡ zip numbers labels ++ (number, label) ∷ []
-zip-push [] [] number label same = refl
-zip-push [] (l ∷ labels) number label same = absurd (omega arith)
-zip-push (n ∷ numbers) [] number label same = absurd (omega arith)
-zip-push (n ∷ numbers) (l ∷ labels) number label same = ap (λ posted. (n, l) ∷ posted) (zip-push numbers labels number label (omega arith))
+-- as many labels as entries
+pub history-length : (entries : List Entry) → length (history_of entries) ≡ length entries
+history-length entries = length-map {B = Made} entries (λ (entry : Entry). (entry.number, entry.label.value))
+
+-- one entry more
+pub history_more : (entries next : List Entry) (number : ℕ) (label : List ℕ) (snapshot : Snapshot (List ℕ))
+    → next ≡ entries ++ (record { number = number; label = snapshot }) ∷ [] → snapshot.value ≡ label
+    → history_of next ≡ history_of entries ++ (number, label) ∷ []
+history_more entries next number label snapshot e is =
+    ap history_of e ∙ map_push (λ (entry : Entry). (entry.number, entry.label.value)) entries (record { number = number; label = snapshot })
+    ∙ ap (λ l. history_of entries ++ (number, l) ∷ []) is
 
 -- one label more, with its row
 pub rows_more : (problem : Problem) (labels : List (List ℕ)) (rows : List Row) (label : List ℕ) (row : Option Row)

@@ -7,26 +7,28 @@ ghost use Rattle.fst_simulate.specs.Problems.{data_of};
 ghost use Rattle.result_board.specs.Board.{HasRow, AreRowsOf, labels_of};
 
 use fst_simulate::Job;
-use mine_model::{NoMemory, Row};
-use pool_schedule::Labels;
+use mine_model::{Label, NoMemory, Row};
 use std::alloc::Global;
 use std::marker::Model;
 use std::snapshot::Snapshot;
 use turn_lock::Kept;
 
+/// A label that was posted, which clauses alone read, and the number of the pass that posted it.
+#[derive(Drop)]
+struct Entry {
+    number: u32,
+    label: Snapshot<Label>,
+}
+
 /// The labels that were posted, and which pass posted which, with the rows of those that have one.
 #[derive(Drop)]
 pub struct Board {
     job: Snapshot<Job>,
-    /// The numbers of the passes, one for each label.
-    numbers: Vec<u32>,
-    labels: Labels,
+    entries: Vec<Entry>,
     rows: Vec<Row>,
 }
 
 impl Model for Board {
-    ghost use Rattle.std.specs.Prelude.{◌≡◌, length};
-    ghost use Rattle.std.specs.List.{zip};
     ghost use Rattle.result_board.specs.Board.{BoardRows, IsBoard};
 
     ghost Value = { BoardRows };
@@ -36,15 +38,17 @@ impl Model for Board {
 
     ghost coded = { Prim.hlevel (codes, e.the_row.coded) };
 
+    ghost use Rattle.result_board.specs.Entries.{history_of};
+
     ghost view = { λ b. record {
       problem = b.job.value;
-      posted = zip b.numbers.items b.labels;
+      posted = history_of b.entries.items;
       rows = b.rows.items;
     } };
 
-    ghost invariant = { λ b. (length b.labels ≡ length b.numbers.items) × IsBoard (record {
+    ghost invariant = { λ b. IsBoard (record {
       problem = b.job.value;
-      posted = zip b.numbers.items b.labels;
+      posted = history_of b.entries.items;
       rows = b.rows.items;
     }) };
 }
@@ -64,8 +68,7 @@ impl Board {
     {
         Board {
             job: Snapshot::of(job),
-            numbers: Vec::new(alloc),
-            labels: Labels::new(alloc),
+            entries: Vec::new(alloc),
             rows: Vec::new(alloc),
         }
     }
@@ -75,7 +78,7 @@ impl Board {
     pub(crate) fn post(
         &mut self,
         number: u32,
-        label: &[u32],
+        label: &Label,
         row: &mut Option<Row>,
     ) -> Result<(), NoMemory>
         requires { HasRow self.old.problem label.now row.old }
@@ -84,10 +87,12 @@ impl Board {
         ensures same { OnErr result (self.new ≡ self.old) }
         ensures kept { OnErr result (row.new ≡ row.old) }
     {
-        self.numbers.reserve(1)?;
+        self.entries.reserve(1)?;
         self.rows.reserve(1)?;
-        self.labels.push(label)?;
-        self.numbers.push_reserved(number);
+        self.entries.push_reserved(Entry {
+            number,
+            label: Snapshot::of(label),
+        });
         push_row(&mut self.rows, row.take());
         Ok(())
     }
@@ -102,11 +107,10 @@ impl Board {
     {
         let Board {
             job: _,
-            numbers: _,
-            labels,
+            entries,
             rows,
         } = self;
-        (rows, labels.len() as u64)
+        (rows, entries.len() as u64)
     }
 }
 

@@ -39,6 +39,6 @@ impl Change<Board> for Post {
     ghost refused = { λ before after. after ≡ before };
 
     fn apply(&mut self, number: u32, board: &mut Board) -> Result<(), NoMemory> {
-        board.post(number, self.label.numbers(), &mut self.row)
+        board.post(number, &self.label, &mut self.row)
     }
 }

@@ -1,6 +1,6 @@
--- What may follow a prefix, by its snapshots.
-use Rattle.std.proofs.Common.{◌≡◌, ◌↔◌, ℕ, zero, suc, ◌+◌, ◌≤◌, ◌<◌, List, [], ◌∷◌, ◌++◌, drop, refl, ap, ◌∙◌, subst, arith, append_assoc}
-use Rattle.std.specs.List.{AllByRecursion, Contains}
+-- What may follow a prefix, by its live states.
+use Rattle.std.proofs.Common.{◌≡◌, ◌↔◌, ℕ, zero, suc, ◌+◌, ◌≤◌, List, [], ◌∷◌, ◌++◌, drop, refl, ap, ◌∙◌, subst, arith, append_assoc}
+use Rattle.std.specs.List.{AllByRecursion}
 use Rattle.mine_model.specs.declared.item.Item.{Item}
 use Rattle.mine_model.specs.Generation.{IsPatternOf}
 use Rattle.mine_model.specs.Growth.{HasPatternBehind}
@@ -10,14 +10,14 @@ use Rattle.mine_model.specs.SearchTree.{IsWithin}
 use Rattle.mine_model.proofs.ListLemmas.{front_of_both, back_of_both, of_both}
 use Rattle.mine_model.proofs.RankedLemmas.{item_rank, ranked-same, ranked-push, ranked-split}
 use Rattle.fst_simulate.specs.declared.bound.Bound.{Bound}
-use Rattle.fst_simulate.specs.Problems.{IsWhole, items_of, data_of}
+use Rattle.fst_simulate.specs.Problems.{IsWhole, data_of}
 use Rattle.fst_simulate.specs.Grids.{GridList, IsAllowed, HoldsNeeded, Ends}
-use Rattle.snapshot_project.specs.declared.snapshot.Snapshot.{Snapshot}
-use Rattle.snapshot_project.specs.Snapshots.{HasSnapshot, IsSnapshotOf, SnapshotList, AreSnapshots}
+use Rattle.snapshot_project.specs.Snapshots.{HasSnapshot}
 use Rattle.snapshot_project.specs.Extensions.{GrowsBehind, GeneratesWithin}
-use Rattle.snapshot_project.specs.Live.{WritesNext}
+use Rattle.snapshot_project.specs.Live.{WritesNext, EndsNext}
+use Rattle.snapshot_project.proofs.NeedLemmas.{needed-longer}
 use Rattle.snapshot_project.proofs.SnapshotLemmas.{snapshot-law, snapshot-ends}
-use Rattle.snapshot_project.proofs.LiveLemmas.{live-begins, longer-first, longer-next}
+use Rattle.snapshot_project.proofs.LiveLemmas.{longer-first, longer-next}
 
 -- the items of ranks up to the top are allowed
 pub ranked-allowed : (ranking : Ranking) (bound : Bound) (items : List Item) (ranks : List ℕ) → AreRanked ranking.order items ranks
@@ -31,6 +31,11 @@ ranked-one : (order items : List Item) (rank : ℕ) → AreRanked order items (r
 ranked-one order [] rank ranked = absurd ranked
 ranked-one order (w ∷ []) rank ranked = (w, refl, ranked.0)
 ranked-one order (w ∷ v ∷ items) rank ranked = absurd ranked.1
+
+-- the empty prefix is no pattern
+pub generates-none : (part : GridList) (items : List Item) → GeneratesWithin part [] items → ⊥
+generates-none part items ([], ranked, (some, generates), within) = some refl
+generates-none part items (v ∷ pattern, ranked, generates, within) = ranked
 
 module _ (part : GridList) (whole : IsWhole part.problem) where
   -- what grows with more grows with less
@@ -128,37 +133,53 @@ module _ (part : GridList) (whole : IsWhole part.problem) where
           ↔ ((position : ℕ) × (state : ℕ) × WritesNext part.problem part.bound items prefix rank position state)
       grows-next = (next-from, (λ (position, state, writes). next-to position state writes))
 
-  -- the sequences of the part that grow are those that have snapshots in the list
-  pub grows-listed : (ranks : List ℕ) (list : SnapshotList) → AreSnapshots part ranks list → (i : ℕ) → Contains part.sequences i
-      → GrowsBehind part ranks (items_of part.problem i) ↔ ((snapshot : Snapshot) × Contains list.snapshots snapshot × (snapshot.sequence ≡ i))
-  grows-listed ranks list are i inside =
-      let law = grows-snapshot are.prefix ranks are.ranked are.top (items_of part.problem i) in (
-        (λ grows.
-            let (position, state, has) = law.0 grows in
-            let here : Snapshot = record { sequence = i; position = position; state = state } in
-            (here, (are.exact here).1 (inside, has), refl)),
-        (λ (snapshot, held, same).
-            let (within, has) = (are.exact snapshot).0 held in
-            law.1 (
-              snapshot.position,
-              snapshot.state,
-              subst (λ (k : ℕ). HasSnapshot part.problem part.bound (items_of part.problem k) are.prefix snapshot.position snapshot.state) same has,
-            )),
-      )
+      ends-by : (w : Item) → HasRank part.problem.ranking.order w rank → rank ≤ part.bound.top → (position state : ℕ)
+          → HasSnapshot part.problem part.bound items (prefix ++ w ∷ []) position state → HoldsNeeded part.problem.ranking part.bound.need (prefix ++ w ∷ [])
+          → Ends part.problem (drop position items) state
+          → (position : ℕ) × (state : ℕ) × EndsNext part.problem part.bound items prefix rank position state
+      ends-by w has few zero state snapshot holds ends = absurd (longer-first part.problem whole part.bound items prefix w state snapshot)
+      ends-by w has few (suc position) state snapshot holds ends =
+          let next : suc position ≡ position + 1 = omega arith in (
+            position,
+            state,
+            (
+              (longer-next part.problem whole part.bound items prefix w rank has few position state).0
+                  (subst (λ (k : ℕ). HasSnapshot part.problem part.bound items (prefix ++ w ∷ []) k state) next snapshot),
+              (needed-longer part.problem whole part.bound.need prefix w rank has).0 holds,
+              subst (λ (k : ℕ). Ends part.problem (drop k items) state) next ends,
+            ),
+          )
 
-  -- a snapshot of a longer prefix stands behind one of the prefix, in the same sequence
-  pub longer-behind : (prefix : List Item) (w : Item) (rank : ℕ) → HasRank part.problem.ranking.order w rank → rank ≤ part.bound.top → (longer : Snapshot)
-      → IsSnapshotOf part (prefix ++ w ∷ []) longer
-      → (snapshot : Snapshot) × IsSnapshotOf part prefix snapshot × (snapshot.sequence ≡ longer.sequence) × (snapshot.position < longer.position)
-  longer-behind prefix w rank has few longer (inside, snapshot) = by longer.position snapshot
-    where
-      by : (position : ℕ) → HasSnapshot part.problem part.bound (items_of part.problem longer.sequence) (prefix ++ w ∷ []) position longer.state
-          → (snapshot : Snapshot) × IsSnapshotOf part prefix snapshot × (snapshot.sequence ≡ longer.sequence) × (snapshot.position < position)
-      by zero at = absurd (longer-first part.problem whole part.bound (items_of part.problem longer.sequence) prefix w longer.state at)
-      by (suc position) at =
-          let next : suc position ≡ position + 1 = omega arith in
-          let (t, from, here, live, leads, writes, completes) =
-          (longer-next part.problem whole part.bound (items_of part.problem longer.sequence) prefix w rank has few position longer.state).0
-          (subst (λ (k : ℕ). HasSnapshot part.problem part.bound (items_of part.problem longer.sequence) (prefix ++ w ∷ []) k longer.state) next at) in
-          let (start, state, before, begun) = live-begins part.problem whole part.bound (items_of part.problem longer.sequence) prefix position from live in
-          (record { sequence = longer.sequence; position = start; state = state }, (inside, begun), refl, omega arith)
+      ends-from : GeneratesWithin part (ranks ++ rank ∷ []) items
+          → (position : ℕ) × (state : ℕ) × EndsNext part.problem part.bound items prefix rank position state
+      ends-from (pattern, longer_ranked, generates, within) =
+          let (front, back, cut, first, second) = ranked-split part.problem.ranking.order pattern ranks (rank ∷ []) longer_ranked in
+          let (w, one, has) = ranked-one part.problem.ranking.order back rank second in
+          let same : pattern ≡ prefix ++ w ∷ [] =
+          cut ∙ ap (λ (l : List Item). l ++ back) (ranked-same part.problem.ranking.order front prefix ranks first ranked) ∙ ap (λ (l : List Item). prefix ++ l) one in
+          let inside : IsWithin part.problem.ranking.order part.bound.top part.bound.need (prefix ++ w ∷ []) =
+          subst (IsWithin part.problem.ranking.order part.bound.top part.bound.need) same within in
+          let few : rank ≤ part.bound.top = rank-few w rank has (back_of_both (IsAllowed part.problem.ranking part.bound) prefix (w ∷ []) inside.ranked).0 in
+          let is : IsPatternOf part.problem.hierarchy.links (tree_of part.problem.machine.expression) items (prefix ++ w ∷ []) =
+          subst (IsPatternOf part.problem.hierarchy.links (tree_of part.problem.machine.expression) items) same generates in
+          let (position, state, snapshot, holds, ends) = (snapshot-ends part.problem part.bound whole items (prefix ++ w ∷ []) inside.ranked).1 (is, inside) in
+          ends-by w has few position state snapshot holds ends
+
+      ends-to : (position state : ℕ) → EndsNext part.problem part.bound items prefix rank position state → GeneratesWithin part (ranks ++ rank ∷ []) items
+      ends-to position state (writes, holds, ends) =
+          let (t, from, here, live, leads, (w, has, few, reads), completes) = writes in
+          let snapshot = (longer-next part.problem whole part.bound items prefix w rank has few position state).1 writes in
+          let all = of_both (IsAllowed part.problem.ranking part.bound) prefix (w ∷ []) allowed ((rank, has, few), tt) in
+          let (pattern, within) = (snapshot-ends part.problem part.bound whole items (prefix ++ w ∷ []) all).0 (
+            position + 1,
+            state,
+            snapshot,
+            (needed-longer part.problem whole part.bound.need prefix w rank has).1 holds,
+            ends,
+          ) in
+          (prefix ++ w ∷ [], ranked-push part.problem.ranking.order prefix ranks w rank ranked has, pattern, within)
+
+      -- the prefix with the rank is itself a pattern where what is needed is seen with it and such an edge leads to an end
+      pub generates-next : GeneratesWithin part (ranks ++ rank ∷ []) items
+          ↔ ((position : ℕ) × (state : ℕ) × EndsNext part.problem part.bound items prefix rank position state)
+      generates-next = (ends-from, (λ (position, state, ends). ends-to position state ends))

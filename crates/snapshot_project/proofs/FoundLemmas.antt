@@ -1,8 +1,8 @@
 -- Snapshots that are found sequence by sequence.
-use Rattle.std.proofs.Common.{◌≡◌, ◌↔◌, ℕ, ◌+◌, ◌≤◌, ◌<◌, inl, inr, true, Some, List, [], ◌++◌, map, length, get_or, eqb, refl, sym, ap, ◌∙◌, subst, arith}
+use Rattle.std.proofs.Common.{◌≡◌, ◌↔◌, ℕ, ◌+◌, ◌≤◌, ◌<◌, inl, inr, true, Bool, IsTrue, ◌&&◌, Some, List, [], ◌++◌, map, length, get_or, eqb, refl, sym, ap, ◌∙◌, subst, arith}
 use Rattle.std.specs.List.{AllPairs, Contains, filter, slice_get}
-use Rattle.std.proofs.lemmas.Bool.{cases_lt}
-use Rattle.std.proofs.lemmas.Bool.Decides.{nat_tests}
+use Rattle.std.proofs.lemmas.Bool.{cases_lt, and_parts}
+use Rattle.std.proofs.lemmas.Bool.Decides.{Decides-eqb}
 use Rattle.std.proofs.lemmas.List.{length-map}
 use Rattle.std.proofs.lemmas.List.Elements.{Contains-append_left, Contains-append_right, Contains-append_cases}
 use Rattle.std.proofs.lemmas.List.Kept.{AllPairs-filter}
@@ -92,36 +92,41 @@ pairs-map {X} {Y} R S f xs follows pairs i j d less inside =
     subst (λ (b : Y). S (get_or (map f xs) i d) b) is_z (subst (λ (a : Y). S a (f z)) is_x mapped)
 
 module _ (number rank : ℕ) (hits : List Hit) where
-  rank-of : (hit : Hit) → Contains (filter (λ h. eqb h.rank rank) hits) hit → hit.rank ≡ rank
-  rank-of hit held =
-      let test : eqb hit.rank rank ≡ true = (Contains-filter (λ h. eqb h.rank rank) hits hit held).1 in
-      grind (arith, nat_tests)
+  abbrev chosen : Hit → Bool
+  chosen h = eqb h.rank rank && h.writes_on
+
+  chosen-of : (hit : Hit) → Contains (filter chosen hits) hit → Contains hits hit × (hit.rank ≡ rank) × IsTrue hit.writes_on
+  chosen-of hit held =
+      let (among, test) = Contains-filter chosen hits hit held in
+      let (is, on) = and_parts (eqb hit.rank rank) hit.writes_on test in
+      (among, (Decides-eqb hit.rank rank).0 is, on)
 
   -- hits in order are filed in order
   pub filed-rising : (position : ℕ) → AreInOrder position hits → AllPairs ComesBefore (filed number rank hits)
   filed-rising position order =
-      pairs-map (λ first second. first.rank ≡ second.rank → StandsBefore first second) ComesBefore (snapshot_in number) (filter (λ h. eqb h.rank rank) hits)
-      (λ first second early late stands. inr (refl, stands (rank-of first early ∙ sym (rank-of second late))))
-      (AllPairs-filter (λ first second. first.rank ≡ second.rank → StandsBefore first second) (λ h. eqb h.rank rank) hits order.rising)
+      pairs-map (λ first second. first.rank ≡ second.rank → StandsBefore first second) ComesBefore (snapshot_in number) (filter chosen hits)
+      (λ first second early late stands.
+      let (first_held, first_is, first_on) = chosen-of first early in
+      let (second_held, second_is, second_on) = chosen-of second late in
+      inr (refl, stands (first_is ∙ sym second_is)))
+      (AllPairs-filter (λ first second. first.rank ≡ second.rank → StandsBefore first second) chosen hits order.rising)
 
-  -- what is filed is a hit of the rank
+  -- what is filed is a hit of the rank that writes on
   pub filed-held : (snapshot : Snapshot) → Contains (filed number rank hits) snapshot
-      ↔ ((snapshot.sequence ≡ number) × Contains hits (record { rank = rank; position = snapshot.position; state = snapshot.state }))
+      ↔ ((snapshot.sequence ≡ number) × ((hit : Hit) × Contains hits hit × (hit.rank ≡ rank) × IsTrue hit.writes_on × (hit.position ≡ snapshot.position) × (hit.state ≡ snapshot.state)))
   filed-held snapshot = (
     (λ held.
-        let (hit, inside, is) = Contains-from (snapshot_in number) (filter (λ h. eqb h.rank rank) hits) snapshot held in
-        let same : hit.rank ≡ rank = rank-of hit inside in
-        let here : Hit = record { rank = rank; position = snapshot.position; state = snapshot.state } in
-        let at : snapshot.position ≡ hit.position = ap (λ (s : Snapshot). s.position) is in
-        let state : snapshot.state ≡ hit.state = ap (λ (s : Snapshot). s.state) is in
-        let one : hit ≡ here =
-        ap (λ (r : ℕ). record { rank = r; position = hit.position; state = hit.state }) same ∙ ap (λ (p : ℕ). record { rank = rank; position = p; state = hit.state }) (sym at)
-        ∙ ap (λ (q : ℕ). record { rank = rank; position = snapshot.position; state = q }) (sym state) in
-        (ap (λ (s : Snapshot). s.sequence) is, subst (Contains hits) one (Contains-filter (λ h. eqb h.rank rank) hits hit inside).0)),
-    (λ (same, held).
-        let here : Hit = record { rank = rank; position = snapshot.position; state = snapshot.state } in
-        let test : eqb rank rank ≡ true = grind (arith, nat_tests) in
-        let one : snapshot_in number here ≡ snapshot = ap (λ (i : ℕ). record snapshot { sequence = i }) (sym same) in
+        let (hit, inside, is) = Contains-from (snapshot_in number) (filter chosen hits) snapshot held in
+        let (among, same, on) = chosen-of hit inside in (
+          ap (λ (s : Snapshot). s.sequence) is,
+          (hit, among, same, on, sym (ap (λ (s : Snapshot). s.position) is), sym (ap (λ (s : Snapshot). s.state) is)),
+        )),
+    (λ (same, (hit, held, rank_is, on, position_is, state_is)).
+        let test : chosen hit ≡ true = ap (λ (b : Bool). b && hit.writes_on) ((Decides-eqb hit.rank rank).1 rank_is) ∙ on in
+        let one : snapshot_in number hit ≡ snapshot =
+        ap (λ (i : ℕ). record { sequence = i; position = hit.position; state = hit.state }) (sym same)
+        ∙ ap (λ (p : ℕ). record { sequence = snapshot.sequence; position = p; state = hit.state }) position_is
+        ∙ ap (λ (q : ℕ). record { sequence = snapshot.sequence; position = snapshot.position; state = q }) state_is in
         subst (Contains (filed number rank hits)) one
-        (Contains-by (snapshot_in number) (filter (λ h. eqb h.rank rank) hits) here (filter-Contains (λ h. eqb h.rank rank) hits here held test))),
+        (Contains-by (snapshot_in number) (filter chosen hits) hit (filter-Contains chosen hits hit held test))),
   )

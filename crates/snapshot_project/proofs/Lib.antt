@@ -5,11 +5,12 @@ pub mod LiveLemmas
 pub mod ExtensionLemmas
 pub mod SumLemmas
 pub mod GroupLemmas
+pub mod OpenLemmas
 pub mod WalkLemmas
 pub mod ListedLemmas
+pub mod ReadLemmas
 pub mod FileLemmas
 pub mod PartLemmas
-pub mod ReadLemmas
 pub mod FoundLemmas
 pub mod StartLemmas
 pub mod TallyLemmas
@@ -18,7 +19,6 @@ pub mod HitLemmas
 pub mod WayLemmas
 pub mod StepLemmas
 pub mod SearchLemmas
-pub mod EndLemmas
 pub mod CountLemmas
 pub mod EnoughLemmas
 pub mod NextLemmas

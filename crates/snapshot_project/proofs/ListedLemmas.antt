@@ -1,31 +1,38 @@
--- Lists of all snapshots of a prefix.
-use Rattle.std.proofs.Common.{◌≡◌, ◌↔◌, ℕ, zero, suc, ◌+◌, ◌≤◌, ◌<◌, ◌⊎◌, inl, inr, IsTrue, false, Some, List, [], ◌∷◌, ◌++◌, length, drop, refl, sym, ap, ◌∙◌, subst, arith}
-use Rattle.std.specs.List.{AllPairs, Contains, slice_get}
+-- Lists of snapshots of a prefix, with all from which more can be written.
+use Rattle.std.proofs.Common.{◌≡◌, ◌↔◌, ℕ, zero, suc, ◌+◌, ◌≤◌, ◌<◌, inl, inr, IsTrue, false, Some, List, [], ◌∷◌, ◌++◌, length, map, drop, refl, sym, ap, ◌∙◌, subst, arith}
+use Rattle.std.specs.List.{AllPairs, AllByRecursion, Contains, slice_get}
 use Rattle.std.proofs.lemmas.Bool.{cases_lt}
-use Rattle.std.proofs.lemmas.Option.{slice_get-get_or}
+use Rattle.std.proofs.lemmas.Option.{slice_get-get_or, slice_get_within}
 use Rattle.mine_model.specs.declared.item.Item.{Item}
+use Rattle.mine_model.specs.Database.{sequence_at}
+use Rattle.mine_model.specs.Support.{Sequence}
 use Rattle.mine_model.specs.Ranks.{HasRank}
 use Rattle.mine_model.proofs.ElementLemmas.{get-some, get-held}
-use Rattle.mine_model.proofs.ListLemmas.{of_both}
+use Rattle.mine_model.proofs.FrequencyLemmas.{Counts-none}
+use Rattle.mine_model.proofs.ListLemmas.{of_both, Contains-none}
 use Rattle.mine_model.proofs.RankedLemmas.{ranked-push}
 use Rattle.fst_simulate.specs.Problems.{IsWhole, items_of}
-use Rattle.fst_simulate.specs.Grids.{GridList, Completes, Ends}
-use Rattle.fst_simulate.specs.Kinds.{IsNeededRank}
+use Rattle.fst_simulate.specs.Grids.{GridList, HoldsNeeded, Completes, Ends}
 use Rattle.snapshot_project.specs.declared.snapshot.Snapshot.{Snapshot}
-use Rattle.snapshot_project.specs.Snapshots.{HasSnapshot, ComesBefore, SnapshotList, AreSnapshots}
-use Rattle.snapshot_project.specs.Extensions.{GrowsBehind, GeneratesWithin}
-use Rattle.snapshot_project.specs.Live.{WritesNext, AreSnapshotsOf, IsGroup}
+use Rattle.snapshot_project.specs.declared.hit.Hit.{Hit}
+use Rattle.snapshot_project.specs.Aims.{sees, goes}
+use Rattle.snapshot_project.specs.Hits.{AreHits, HasHit, HasEnd}
+use Rattle.snapshot_project.specs.Snapshots.{HasSnapshot, WritesOn, ComesBefore, SnapshotList, AreSnapshots}
+use Rattle.snapshot_project.specs.Extensions.{sequences_of, GrowsBehind, GeneratesWithin, IsSupportOf}
+use Rattle.snapshot_project.specs.Live.{WritesNext, OpensNext, AreSnapshotsOf, IsGroup}
 use Rattle.snapshot_project.proofs.NeedLemmas.{needed-none, needed-longer}
 use Rattle.snapshot_project.proofs.SnapshotLemmas.{snapshot-start}
 use Rattle.snapshot_project.proofs.LiveLemmas.{longer-first, longer-next}
-use Rattle.snapshot_project.proofs.ExtensionLemmas.{grows-shorter, grows-listed, generates-snapshot}
+use Rattle.snapshot_project.proofs.OpenLemmas.{open-goes, writes-begins}
+use Rattle.snapshot_project.proofs.ExtensionLemmas.{grows-next, generates-next, generates-none}
+use Rattle.snapshot_project.proofs.WalkLemmas.{sees-tells}
 
 -- the list without what is said of ranks
 pub snapshots-of : (part : GridList) (ranks : List ℕ) (list : SnapshotList) (are : AreSnapshots part ranks list) → AreSnapshotsOf part are.prefix list.snapshots
-snapshots-of part ranks list are = record { rising = are.rising; exact = are.exact }
+snapshots-of part ranks list are = record { rising = are.rising; right = are.right; all = are.all }
 
 module _ (part : GridList) (prefix : List Item) (snapshots : List Snapshot) (are : AreSnapshotsOf part prefix snapshots) where
-  -- a sequence between two places of the list has no snapshot
+  -- a sequence between two places of the list has no snapshot in it
   pub none-between : (cut sequence : ℕ)
       → ((k : ℕ) (snapshot : Snapshot) → k < cut → slice_get snapshots k ≡ Some snapshot → snapshot.sequence < sequence)
       → ((k : ℕ) (snapshot : Snapshot) → cut ≤ k → slice_get snapshots k ≡ Some snapshot → sequence < snapshot.sequence)
@@ -45,110 +52,223 @@ module _ (part : GridList) (prefix : List Item) (snapshots : List Snapshot) (are
         let within : end ≤ length snapshots = group.within in
         let (first, at) = get-some snapshots from (omega arith) in
         let same : first.sequence ≡ sequence = (group.exact from first at).1 (omega arith, some) in
-        let (known, has) = (are.exact first).0 (get-held snapshots from first at) in
+        let (known, has) = are.right first (get-held snapshots from first at) in
         subst (Contains part.sequences) same known
 
-    -- a group has all snapshots of its sequence
-    pub group-has : (position state : ℕ) → HasSnapshot part.problem part.bound (items_of part.problem sequence) prefix position state
-        ↔ ((k : ℕ) × (from ≤ k) × (k < end) × (slice_get snapshots k ≡ Some (record { sequence = sequence; position = position; state = state })))
-    group-has position state =
-        let here : Snapshot = record { sequence = sequence; position = position; state = state } in (
-          (λ has.
-              let (k, inside, is) = (are.exact here).1 (group-known, has) in
-              let at : slice_get snapshots k ≡ Some here = slice_get-get_or snapshots k here inside ∙ ap Some is in
-              let (least, most) = (group.exact k here at).0 refl in
-              (k, least, most, at)),
-          (λ (k, least, most, at). let (known, has) = (are.exact here).0 (get-held snapshots k here at) in has),
-        )
+    -- a group has snapshots of its sequence
+    pub group-right : (position state k : ℕ) → slice_get snapshots k ≡ Some (record { sequence = sequence; position = position; state = state })
+        → HasSnapshot part.problem part.bound (items_of part.problem sequence) prefix position state
+    group-right position state k at =
+        let here : Snapshot = record { sequence = sequence; position = position; state = state } in
+        let (known, has) = are.right here (get-held snapshots k here at) in has
+
+    -- and all of them from which more can be written
+    pub group-all : (position state : ℕ) → HasSnapshot part.problem part.bound (items_of part.problem sequence) prefix position state
+        → WritesOn part.problem part.bound prefix (drop position (items_of part.problem sequence)) state
+        → (k : ℕ) × (from ≤ k) × (k < end) × (slice_get snapshots k ≡ Some (record { sequence = sequence; position = position; state = state }))
+    group-all position state has on =
+        let here : Snapshot = record { sequence = sequence; position = position; state = state } in
+        let (k, inside, is) = are.all here (group-known, has) on in
+        let at : slice_get snapshots k ≡ Some here = slice_get-get_or snapshots k here inside ∙ ap Some is in
+        let (least, most) = (group.exact k here at).0 refl in
+        (k, least, most, at)
 
 module _ (part : GridList) (whole : IsWhole part.problem) where
-  -- a sequence without snapshots does not grow
-  pub grows-not : (ranks more : List ℕ) (list : SnapshotList) → AreSnapshots part ranks list → (i : ℕ) → Contains part.sequences i
-      → ((snapshot : Snapshot) → Contains list.snapshots snapshot → snapshot.sequence ≡ i → ⊥)
-      → GrowsBehind part (ranks ++ more) (items_of part.problem i) → ⊥
-  grows-not ranks more list are i inside none grows =
-      let (snapshot, held, same) =
-      (grows-listed part whole ranks list are i inside).0 (grows-shorter part whole ranks more (items_of part.problem i) grows) in
-      none snapshot held same
+  -- ---- sequences that are not in the list
 
-  -- a sequence generates the prefix itself exactly where that holds what is needed and one of its snapshots ends
-  pub generates-listed : (ranks : List ℕ) (list : SnapshotList) → AreSnapshots part ranks list → (i : ℕ) → Contains part.sequences i
-      → GeneratesWithin part ranks (items_of part.problem i)
-      ↔ (IsTrue list.seen × ((snapshot : Snapshot) × Contains list.snapshots snapshot × (snapshot.sequence ≡ i)
-      × Ends part.problem (drop snapshot.position (items_of part.problem i)) snapshot.state))
-  generates-listed ranks list are i inside =
-      let law = generates-snapshot part whole are.prefix ranks are.ranked are.top (items_of part.problem i) in (
-        (λ generates.
-            let (position, state, has, holds, ends) = law.0 generates in
-            let here : Snapshot = record { sequence = i; position = position; state = state } in
-            (are.seen.1 holds, (here, (are.exact here).1 (inside, has), refl, ends))),
-        (λ (seen, (snapshot, held, same, ends)).
-            let (within, has) = (are.exact snapshot).0 held in
-            law.1 (
-              snapshot.position,
-              snapshot.state,
-              subst (λ (k : ℕ). HasSnapshot part.problem part.bound (items_of part.problem k) are.prefix snapshot.position snapshot.state) same has,
-              are.seen.0 seen,
-              ends,
-            )),
-      )
+  module _ (ranks : List ℕ) (list : SnapshotList) (are : AreSnapshots part ranks list) (i : ℕ) (inside : Contains part.sequences i) where
+    -- what is written in a sequence is written behind a snapshot in the list
+    pub writes-listed : (rank position state : ℕ) → WritesNext part.problem part.bound (items_of part.problem i) are.prefix rank position state
+        → (snapshot : Snapshot) × Contains list.snapshots snapshot × (snapshot.sequence ≡ i)
+    writes-listed rank position state writes =
+        let (start, from, early, snapshot, on) = writes-begins part.problem whole part.bound (items_of part.problem i) are.prefix rank position state writes in
+        let here : Snapshot = record { sequence = i; position = start; state = from } in
+        (here, are.all here (inside, snapshot) on, refl)
 
-  -- the snapshots of the empty prefix
-  pub snapshots-start : (list : SnapshotList) → list.seen ≡ false → AllPairs ComesBefore list.snapshots
+    module _ (rank : ℕ) (none : (snapshot : Snapshot) → Contains list.snapshots snapshot → snapshot.sequence ≡ i → ⊥) where
+      -- a sequence without snapshots in the list does not grow by a rank
+      pub grows-not : GrowsBehind part (ranks ++ rank ∷ []) (items_of part.problem i) → ⊥
+      grows-not grows =
+          let (position, state, writes) = (grows-next part whole are.prefix ranks are.ranked are.top (items_of part.problem i) rank).0 grows in
+          let (snapshot, held, same) = writes-listed rank position state writes in
+          none snapshot held same
+
+      -- and the prefix with it is no pattern of the sequence
+      pub generates-not : GeneratesWithin part (ranks ++ rank ∷ []) (items_of part.problem i) → ⊥
+      generates-not generates =
+          let (position, state, (writes, holds, ends)) = (generates-next part whole are.prefix ranks are.ranked are.top (items_of part.problem i) rank).0 generates in
+          let (snapshot, held, same) = writes-listed rank position state writes in
+          none snapshot held same
+
+  -- ---- hits
+
+  module _ (ranks : List ℕ) (list : SnapshotList) (are : AreSnapshots part ranks list) (items : List Item) (hits : List Hit)
+      (found : AreHits part.problem part.bound items are.prefix list.seen hits) where
+    -- a sequence grows by a rank exactly where a hit has it
+    pub grows-hit : (rank : ℕ) → GrowsBehind part (ranks ++ rank ∷ []) items ↔ HasHit hits rank
+    grows-hit rank =
+        let law = grows-next part whole are.prefix ranks are.ranked are.top items rank in (
+          (λ grows.
+              let (position, state, writes) = law.0 grows in
+              let (t, from, here, live, leads, written, completes) = writes in
+              let (hit, held, rank_is, position_is, state_is) = found.all rank position state (slice_get_within items position t here) writes in
+              (hit, held, rank_is)),
+          (λ (hit, held, same).
+              let (at, less, (is, writes, marks)) = found.right hit held in
+              law.1 (at, hit.state, subst (λ (r : ℕ). WritesNext part.problem part.bound items are.prefix r at hit.state) same writes)),
+        )
+
+    -- the prefix with a rank is a pattern of the sequence exactly where a hit of the rank ends
+    pub generates-hit : (rank : ℕ) → GeneratesWithin part (ranks ++ rank ∷ []) items ↔ HasEnd hits rank
+    generates-hit rank =
+        let law = generates-next part whole are.prefix ranks are.ranked are.top items rank in
+        let tells = sees-tells (HoldsNeeded part.problem.ranking part.bound.need are.prefix) part.bound.need list.seen rank are.seen in (
+          (λ generates.
+              let (position, state, (writes, holds, ends)) = law.0 generates in
+              let (t, from, here, live, leads, written, completes) = writes in
+              let (hit, held, rank_is, position_is, state_is) = found.all rank position state (slice_get_within items position t here) writes in
+              let (at, less, (is, also, marks)) = found.right hit held in
+              let same : position ≡ at = omega arith in (
+                hit,
+                held,
+                rank_is,
+                marks.ends.1 (
+                  subst (λ (r : ℕ). IsTrue (sees list.seen part.bound.need r)) (sym rank_is) (tells.1 holds),
+                  subst (Ends part.problem (drop (at + 1) items)) (sym state_is) (subst (λ (k : ℕ). Ends part.problem (drop (k + 1) items) state) same ends),
+                ),
+              )),
+          (λ (hit, held, rank_is, mark).
+              let (at, less, (is, writes, marks)) = found.right hit held in
+              let (holds, ends) = marks.ends.0 mark in
+              law.1 (
+                at,
+                hit.state,
+                (
+                  subst (λ (r : ℕ). WritesNext part.problem part.bound items are.prefix r at hit.state) rank_is writes,
+                  tells.0 (subst (λ (r : ℕ). IsTrue (sees list.seen part.bound.need r)) rank_is holds),
+                  ends,
+                ),
+              )),
+        )
+
+    -- the hits of a rank that write on are the snapshots of the prefix with it from which a path goes on as it has to
+    pub opens-hit : (rank position state : ℕ) → OpensNext part.problem part.bound items are.prefix list.seen rank position state
+        ↔ ((hit : Hit) × Contains hits hit × (hit.rank ≡ rank) × IsTrue hit.writes_on × (hit.position ≡ position) × (hit.state ≡ state))
+    opens-hit rank position state = (
+      (λ (before, position_is, writes, completes).
+          let (t, from, here, live, leads, written, enough) = writes in
+          let (hit, held, rank_is, at_is, state_is) = found.all rank before state (slice_get_within items before t here) writes in
+          let (at, less, (is, also, marks)) = found.right hit held in
+          let same : position ≡ at + 1 = omega arith in (
+            hit,
+            held,
+            rank_is,
+            marks.writes_on.1
+                (subst (λ (r : ℕ). Completes part.problem part.bound (drop (at + 1) items) hit.state (goes (sees list.seen part.bound.need r) part.bound.need)) (sym rank_is)
+                (subst (λ (s : ℕ). Completes part.problem part.bound (drop (at + 1) items) s (goes (sees list.seen part.bound.need rank) part.bound.need)) (sym state_is)
+                (subst (λ (k : ℕ). Completes part.problem part.bound (drop k items) state (goes (sees list.seen part.bound.need rank) part.bound.need)) same completes))),
+            at_is ∙ sym position_is,
+            state_is,
+          )),
+      (λ (hit, held, rank_is, mark, position_is, state_is).
+          let (at, less, (is, writes, marks)) = found.right hit held in
+          let same : at + 1 ≡ position = sym is ∙ position_is in (
+            at,
+            sym same,
+            subst (λ (s : ℕ). WritesNext part.problem part.bound items are.prefix rank at s) state_is
+                (subst (λ (r : ℕ). WritesNext part.problem part.bound items are.prefix r at hit.state) rank_is writes),
+            subst (λ (r : ℕ). Completes part.problem part.bound (drop position items) state (goes (sees list.seen part.bound.need r) part.bound.need)) rank_is
+                (subst (λ (s : ℕ). Completes part.problem part.bound (drop position items) s (goes (sees list.seen part.bound.need hit.rank) part.bound.need)) state_is
+                (subst (λ (k : ℕ). Completes part.problem part.bound (drop k items) hit.state (goes (sees list.seen part.bound.need hit.rank) part.bound.need)) same
+                (marks.writes_on.0 mark))),
+          )),
+    )
+
+  -- ---- new lists
+
+  none-generates : (numbers : List ℕ)
+      → AllByRecursion (λ (s : Sequence Item). GeneratesWithin part [] s.items → ⊥) (map (λ (i : ℕ). sequence_at part.problem.sequences i) numbers)
+  none-generates [] = tt
+  none-generates (i ∷ numbers) = (generates-none part (items_of part.problem i), none-generates numbers)
+
+  -- the snapshots of the empty prefix, which generates nothing
+  pub snapshots-start : (list : SnapshotList) → list.seen ≡ false → list.support ≡ 0 → AllPairs ComesBefore list.snapshots
       → ((snapshot : Snapshot) → Contains list.snapshots snapshot ↔ (Contains part.sequences snapshot.sequence × (snapshot.position ≡ 0) × (snapshot.state ≡ 0)
       × Completes part.problem part.bound (items_of part.problem snapshot.sequence) 0 false))
       → AreSnapshots part [] list
-  snapshots-start list unseen rising exact = record {
+  snapshots-start list unseen nothing rising exact = record {
     prefix = [];
     ranked = tt;
     top = tt;
     seen = ((λ seen. absurd (cc)), (λ holds. absurd (needed-none part.problem.ranking part.bound.need holds)));
     rising = rising;
-    exact = λ snapshot.
-        let law = snapshot-start part.problem part.bound (items_of part.problem snapshot.sequence) snapshot.position snapshot.state in (
-          (λ held. let (known, first, start, completes) = (exact snapshot).0 held in (known, law.1 (first, start, completes))),
-          (λ (known, has). let (first, start, completes) = law.0 has in (exact snapshot).1 (known, first, start, completes)),
-        );
+    right = λ snapshot held.
+        let (known, first, start, completes) = (exact snapshot).0 held in
+        (known, (snapshot-start part.problem part.bound (items_of part.problem snapshot.sequence) snapshot.position snapshot.state).1 (first, start, completes));
+    all = λ snapshot is on.
+        let (known, has) = is in
+        let (first, start, completes) = (snapshot-start part.problem part.bound (items_of part.problem snapshot.sequence) snapshot.position snapshot.state).0 has in
+        (exact snapshot).1 (known, first, start, completes);
+    support = subst (IsSupportOf part []) (sym nothing) (Counts-none (GeneratesWithin part []) (sequences_of part) (none-generates part.sequences));
   }
 
-  -- the snapshots of a prefix that is longer by one rank
-  pub snapshots-longer : (ranks : List ℕ) (list : SnapshotList) (are : AreSnapshots part ranks list) (w : Item) (rank : ℕ)
-      → HasRank part.problem.ranking.order w rank → rank ≤ part.bound.top
-      → (longer : SnapshotList) → IsTrue longer.seen ↔ (IsTrue list.seen ⊎ IsNeededRank part.bound.need rank) → AllPairs ComesBefore longer.snapshots
-      → ((snapshot : Snapshot) → Contains longer.snapshots snapshot ↔ (Contains part.sequences snapshot.sequence × ((before : ℕ) × (snapshot.position ≡ before + 1)
-      × WritesNext part.problem part.bound (items_of part.problem snapshot.sequence) are.prefix rank before snapshot.state)))
-      → AreSnapshots part (ranks ++ rank ∷ []) longer
-  snapshots-longer ranks list are w rank has few longer says rising exact =
-      let tells = needed-longer part.problem whole part.bound.need are.prefix w rank has in
-      record {
-        prefix = are.prefix ++ w ∷ [];
-        ranked = ranked-push part.problem.ranking.order are.prefix ranks w rank are.ranked has;
-        top = of_both (λ rank. rank ≤ part.bound.top) ranks (rank ∷ []) are.top (few, tt);
-        seen = (
-          (λ seen. tells.1 (elim (says.0 seen) [ inl before ↦ inl (are.seen.0 before) | inr needed ↦ inr needed ])),
-          (λ holds. says.1 (elim (tells.0 holds) [ inl before ↦ inl (are.seen.1 before) | inr needed ↦ inr needed ])),
-        );
-        rising = rising;
-        exact = λ snapshot. (
-          (λ held.
-              let (known, (before, is, writes)) = (exact snapshot).0 held in (
-                known,
-                subst (λ (k : ℕ). HasSnapshot part.problem part.bound (items_of part.problem snapshot.sequence) (are.prefix ++ w ∷ []) k snapshot.state) (sym is)
-                    ((longer-next part.problem whole part.bound (items_of part.problem snapshot.sequence) are.prefix w rank has few before snapshot.state).1 writes),
-              )),
-          (λ (known, snapshot_has). (exact snapshot).1 (known, behind snapshot snapshot.position snapshot_has)),
-        );
-      }
-    where
-      behind : (snapshot : Snapshot) (position : ℕ)
-          → HasSnapshot part.problem part.bound (items_of part.problem snapshot.sequence) (are.prefix ++ w ∷ []) position snapshot.state
-          → (before : ℕ) × (position ≡ before + 1)
-          × WritesNext part.problem part.bound (items_of part.problem snapshot.sequence) are.prefix rank before snapshot.state
-      behind snapshot zero at = absurd (longer-first part.problem whole part.bound (items_of part.problem snapshot.sequence) are.prefix w snapshot.state at)
-      behind snapshot (suc before) at =
-          let is : suc before ≡ before + 1 = omega arith in (
-            before,
-            is,
-            (longer-next part.problem whole part.bound (items_of part.problem snapshot.sequence) are.prefix w rank has few before snapshot.state).0
-                (subst (λ (k : ℕ). HasSnapshot part.problem part.bound (items_of part.problem snapshot.sequence) (are.prefix ++ w ∷ []) k snapshot.state) is at),
-          )
+  module _ (ranks : List ℕ) (list : SnapshotList) (are : AreSnapshots part ranks list) (w : Item) (rank : ℕ)
+      (has : HasRank part.problem.ranking.order w rank) (few : rank ≤ part.bound.top) where
+    opens-from : (i position state : ℕ) → HasSnapshot part.problem part.bound (items_of part.problem i) (are.prefix ++ w ∷ []) position state
+        → WritesOn part.problem part.bound (are.prefix ++ w ∷ []) (drop position (items_of part.problem i)) state
+        → OpensNext part.problem part.bound (items_of part.problem i) are.prefix list.seen rank position state
+    opens-from i zero state at on = absurd (longer-first part.problem whole part.bound (items_of part.problem i) are.prefix w state at)
+    opens-from i (suc before) state at on =
+        let is : suc before ≡ before + 1 = omega arith in
+        let tells = sees-tells (HoldsNeeded part.problem.ranking part.bound.need are.prefix) part.bound.need list.seen rank are.seen in
+        let longer = needed-longer part.problem whole part.bound.need are.prefix w rank has in (
+          before,
+          is,
+          (longer-next part.problem whole part.bound (items_of part.problem i) are.prefix w rank has few before state).0
+              (subst (λ (k : ℕ). HasSnapshot part.problem part.bound (items_of part.problem i) (are.prefix ++ w ∷ []) k state) is at),
+          open-goes part.problem part.bound (are.prefix ++ w ∷ []) (sees list.seen part.bound.need rank)
+              ((λ seen. longer.1 (tells.0 seen)), (λ holds. tells.1 (longer.0 holds))) (drop (suc before) (items_of part.problem i)) state on,
+        )
+
+    opens-to : (i position state : ℕ) → OpensNext part.problem part.bound (items_of part.problem i) are.prefix list.seen rank position state
+        → HasSnapshot part.problem part.bound (items_of part.problem i) (are.prefix ++ w ∷ []) position state
+    opens-to i position state (before, is, writes, completes) =
+        subst (λ (k : ℕ). HasSnapshot part.problem part.bound (items_of part.problem i) (are.prefix ++ w ∷ []) k state) (sym is)
+        ((longer-next part.problem whole part.bound (items_of part.problem i) are.prefix w rank has few before state).1 writes)
+
+    -- the snapshots of a prefix that is longer by one rank
+    pub snapshots-longer : (longer : SnapshotList) → longer.seen ≡ sees list.seen part.bound.need rank → IsSupportOf part (ranks ++ rank ∷ []) longer.support
+        → AllPairs ComesBefore longer.snapshots
+        → ((snapshot : Snapshot) → Contains longer.snapshots snapshot ↔ (Contains part.sequences snapshot.sequence
+        × OpensNext part.problem part.bound (items_of part.problem snapshot.sequence) are.prefix list.seen rank snapshot.position snapshot.state))
+        → AreSnapshots part (ranks ++ rank ∷ []) longer
+    snapshots-longer longer says support rising exact =
+        let tells = sees-tells (HoldsNeeded part.problem.ranking part.bound.need are.prefix) part.bound.need list.seen rank are.seen in
+        let holds = needed-longer part.problem whole part.bound.need are.prefix w rank has in
+        record {
+          prefix = are.prefix ++ w ∷ [];
+          ranked = ranked-push part.problem.ranking.order are.prefix ranks w rank are.ranked has;
+          top = of_both (λ rank. rank ≤ part.bound.top) ranks (rank ∷ []) are.top (few, tt);
+          seen = ((λ seen. holds.1 (tells.0 (sym says ∙ seen))), (λ needed. says ∙ tells.1 (holds.0 needed)));
+          rising = rising;
+          right = λ snapshot held.
+              let (known, opens) = (exact snapshot).0 held in
+              (known, opens-to snapshot.sequence snapshot.position snapshot.state opens);
+          all = λ snapshot is on.
+              let (known, at) = is in
+              (exact snapshot).1 (known, opens-from snapshot.sequence snapshot.position snapshot.state at on);
+          support = support;
+        }
+
+    -- a longer prefix from all of whose snapshots paths can only end
+    pub snapshots-ended : (support : ℕ) → IsSupportOf part (ranks ++ rank ∷ []) support
+        → ((i position state : ℕ) → Contains part.sequences i
+        → OpensNext part.problem part.bound (items_of part.problem i) are.prefix list.seen rank position state → ⊥)
+        → AreSnapshots part (ranks ++ rank ∷ []) (record { seen = sees list.seen part.bound.need rank; support = support; snapshots = [] })
+    snapshots-ended support is none =
+        snapshots-longer (record { seen = sees list.seen part.bound.need rank; support = support; snapshots = [] }) refl is
+        (λ i j d less inside. absurd (omega (arith, inside)))
+        (λ snapshot. (
+          (λ held. absurd (Contains-none snapshot held)),
+          (λ (known, opens). absurd (none snapshot.sequence snapshot.position snapshot.state known opens)),
+        ))

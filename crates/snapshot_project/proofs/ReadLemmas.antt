@@ -10,12 +10,12 @@ use Rattle.fst_simulate.specs.Problems.{items_of}
 use Rattle.fst_simulate.specs.Grids.{GridList, HoldsNeeded, items_at}
 use Rattle.snapshot_project.specs.declared.snapshot.Snapshot.{Snapshot}
 use Rattle.snapshot_project.specs.declared.grouping.Group.{Group}
-use Rattle.snapshot_project.specs.Snapshots.{IsPart, HasSnapshot}
+use Rattle.snapshot_project.specs.Snapshots.{IsPart, HasSnapshot, WritesOn}
 use Rattle.snapshot_project.specs.Live.{AreSnapshotsOf, IsGroup}
 use Rattle.snapshot_project.specs.Groups.{IsStretch, IsNextGroup, AreRead}
 use Rattle.snapshot_project.specs.Walks.{AreGroupOf}
 use Rattle.snapshot_project.proofs.GroupLemmas.{sequences-rise, positions-rise, group-is, group-behind}
-use Rattle.snapshot_project.proofs.ListedLemmas.{group-has}
+use Rattle.snapshot_project.proofs.ListedLemmas.{group-all}
 
 -- ---- a range of a list
 
@@ -81,7 +81,7 @@ module _ (part : GridList) (is : IsPart part) where
     -- the grid of the sequence of a snapshot
     grid-known : (k : ℕ) (snapshot : Snapshot) → slice_get snapshots k ≡ Some snapshot → (g : ℕ) × (slice_get part.sequences g ≡ Some snapshot.sequence)
     grid-known k snapshot at =
-        let ((g, inside, same), has) = (are.exact snapshot).0 (get-held snapshots k snapshot at) in
+        let ((g, inside, same), has) = are.right snapshot (get-held snapshots k snapshot at) in
         (g, slice_get-get_or part.sequences g snapshot.sequence inside ∙ ap Some same)
 
     -- before the first
@@ -161,20 +161,19 @@ module _ (part : GridList) (is : IsPart part) where
               let two = stretch.here (read + k) (get_or (slice_range snapshots read group.end) k d) (omega arith) in_k at_k in
               positions-rise snapshots are.rising (read + j) (read + k) (get_or (slice_range snapshots read group.end) j d)
               (get_or (slice_range snapshots read group.end) k d) (omega arith) at_j at_k (one ∙ sym two);
-          exact = λ position state.
-              let law = group-has part prefix snapshots are next.sequence read group.end read-group position state in (
-                (λ has.
-                    let (k, least, most, at) = law.0 (subst (λ (i : ℕ). HasSnapshot part.problem part.bound (items_of part.problem i) prefix position state) read-sequence has) in
-                    let here : Snapshot = record { sequence = next.sequence; position = position; state = state } in
-                    (here, range-some snapshots read group.end stretch.within k here least most at, refl, refl)),
-                (λ (snapshot, held, position_is, state_is).
-                    let (k, least, most, at) = range-held snapshots read group.end stretch.within snapshot held in
-                    let sequence_is : snapshot.sequence ≡ slice_index part.sequences group.grid = stretch.here k snapshot least most at ∙ sym read-sequence in
-                    let (known, has) = (are.exact snapshot).0 (get-held snapshots k snapshot at) in
-                    subst (λ (i : ℕ). HasSnapshot part.problem part.bound (items_of part.problem i) prefix position state) sequence_is
-                    (subst (λ (p : ℕ). HasSnapshot part.problem part.bound (items_of part.problem snapshot.sequence) prefix p state) position_is
-                    (subst (HasSnapshot part.problem part.bound (items_of part.problem snapshot.sequence) prefix snapshot.position) state_is has))),
-              );
+          right = λ position state (snapshot, held, position_is, state_is).
+              let (k, least, most, at) = range-held snapshots read group.end stretch.within snapshot held in
+              let sequence_is : snapshot.sequence ≡ slice_index part.sequences group.grid = stretch.here k snapshot least most at ∙ sym read-sequence in
+              let (known, has) = are.right snapshot (get-held snapshots k snapshot at) in
+              subst (λ (i : ℕ). HasSnapshot part.problem part.bound (items_of part.problem i) prefix position state) sequence_is
+              (subst (λ (p : ℕ). HasSnapshot part.problem part.bound (items_of part.problem snapshot.sequence) prefix p state) position_is
+              (subst (HasSnapshot part.problem part.bound (items_of part.problem snapshot.sequence) prefix snapshot.position) state_is has));
+          all = λ position state has on.
+              let (k, least, most, at) = group-all part prefix snapshots are next.sequence read group.end read-group position state
+              (subst (λ (i : ℕ). HasSnapshot part.problem part.bound (items_of part.problem i) prefix position state) read-sequence has)
+              (subst (λ (i : ℕ). WritesOn part.problem part.bound prefix (drop position (items_of part.problem i)) state) read-sequence on) in
+              let here : Snapshot = record { sequence = next.sequence; position = position; state = state } in
+              (here, range-some snapshots read group.end stretch.within k here least most at, refl, refl);
         }
 
       -- where no group is left, the other sequences have no snapshots

@@ -56,11 +56,11 @@ module _ (part : GridList) (is : IsPart part) (list : List Snapshot) (grid numbe
       )))
 
 -- all starts
-pub start-all : (part : GridList) (is : IsPart part) (list : SnapshotList) (count : ℕ) → length part.sequences ≤ count → list.seen ≡ false
+pub start-all : (part : GridList) (is : IsPart part) (list : SnapshotList) (count : ℕ) → length part.sequences ≤ count → list.seen ≡ false → list.support ≡ 0
     → AreFoundBefore part (IsStart part) count list.snapshots → AreSnapshots part [] list
-start-all part is list count all unseen found =
+start-all part is list count all unseen nothing found =
     let every = found-all part is (IsStart part) count list.snapshots found (λ g snapshot least most at start. absurd (omega arith)) in
-    snapshots-start part is.whole list unseen found.rising (λ snapshot. (
+    snapshots-start part is.whole list unseen nothing found.rising (λ snapshot. (
       (λ held. let (known, (position, state, completes)) = (every snapshot).0 held in (known, position, state, completes)),
       (λ (known, position, state, completes). (every snapshot).1 (known, (position, state, completes))),
     ))

@@ -1,5 +1,5 @@
 -- Weights by rank, while sequences are counted.
-use Rattle.std.proofs.Common.{◌≡◌, ◌≢◌, ℕ, zero, suc, ◌+◌, ◌*◌, ◌≤◌, ◌<◌, ◌⊎◌, inl, inr, Option, Some, None, List, [], ◌∷◌, ◌++◌, length, set, Bool, cond, eqb, refl, sym, ap, ◌∙◌, subst, arith}
+use Rattle.std.proofs.Common.{true, false, IsTrue, true≢false, ◌≡◌, ◌≢◌, ℕ, zero, suc, ◌+◌, ◌*◌, ◌≤◌, ◌<◌, ◌⊎◌, inl, inr, Option, Some, None, List, [], ◌∷◌, ◌++◌, length, set, Bool, cond, eqb, refl, sym, ap, ◌∙◌, subst, arith}
 use Rattle.std.specs.List.{Contains, slice_get, slice_index}
 use Rattle.std.proofs.lemmas.Bool.{eq-eqb, ne_eqb, cases_eq}
 use Rattle.std.proofs.lemmas.List.{get_or-set_same, get_or-set_other}
@@ -10,8 +10,8 @@ use Rattle.mine_model.proofs.ListLemmas.{Contains-none}
 use Rattle.mine_model.proofs.ElementLemmas.{get-held, get_set_same, get_set_other, get_snoc}
 use Rattle.snapshot_project.specs.declared.counting.Sum.{Sum}
 use Rattle.snapshot_project.specs.declared.hit.Hit.{Hit}
-use Rattle.snapshot_project.specs.Hits.{HasHit}
-use Rattle.snapshot_project.specs.Sums.{sum_of, weight_in, weight_of, AreSums, Adds, IsAdded, AreAdded, HaveAdded}
+use Rattle.snapshot_project.specs.Hits.{HasHit, HasEnd}
+use Rattle.snapshot_project.specs.Sums.{sum_of, weight_in, weight_of, support_in, support_of, ended_in, ended_of, AreSums, Adds, AddsSupport, IsAdded, AreAdded, HaveAdded}
 
 sum-here : (sum : Sum) (sums : List Sum) (rank : ℕ) → sum.rank ≡ rank → sum_of (sum ∷ sums) rank ≡ Some sum
 sum-here sum sums rank same = ap (λ (b : Bool). cond b (Some sum) (sum_of sums rank)) (eq-eqb sum.rank rank same)
@@ -91,13 +91,27 @@ module _ (grid : ℕ) (places : List ℕ) (sums : List Sum) (are : AreSums grid 
     placed = are.placed;
     last = λ sum held. let before : sum.last < grid = are.last sum held in omega arith;
     small = are.small;
+    ended = λ sum held. let before : sum.ended ≤ grid = are.ended sum held in omega arith;
+    support = are.support;
   }
+
+-- ---- the support of a rank
+
+adds-ended : (ends : Bool) (grid weight ended support : ℕ) (now : Sum) → ended ≤ grid + 1 → AddsSupport ends grid weight ended support now → now.ended ≤ grid + 1
+adds-ended false grid weight ended support now few (same, stays) = omega arith
+adds-ended true grid weight ended support now few (is, either) = omega arith
+
+adds-small : (ends : Bool) (grid weight ended support : ℕ) (now : Sum) → weight ≤ most_weight → support ≤ ended * most_weight
+    → AddsSupport ends grid weight ended support now → now.support ≤ now.ended * most_weight
+adds-small false grid weight ended support now few small (same, stays) = omega arith
+adds-small true grid weight ended support now few small (is, inl (same, stays)) = omega arith
+adds-small true grid weight ended support now few small (is, inr (early, grows)) = omega arith
 
 -- ---- one rank more
 
 module _ (grid : ℕ) (places : List ℕ) (sums : List Sum) (are : AreSums (grid + 1) places sums) (rank weight : ℕ) (few : weight ≤ most_weight) where
   module _ (place : ℕ) (sum again : Sum) (at : slice_get sums place ≡ Some sum) (has : sum.rank ≡ rank) (rank_is : again.rank ≡ sum.rank)
-      (last_is : again.last ≡ grid) (adds : Adds grid weight (Some sum) again.weight) where
+      (last_is : again.last ≡ grid) (adds : Adds grid weight (Some sum) again.weight) (ends : Bool) (supports : AddsSupport ends grid weight sum.ended sum.support again) where
     held : Contains sums sum
     held = get-held sums place sum at
 
@@ -109,6 +123,12 @@ module _ (grid : ℕ) (places : List ℕ) (sums : List Sum) (are : AreSums (grid
           | inl (same, is) ↦ omega arith
           | inr (other, is) ↦ omega arith
         ]
+
+    again-ended : again.ended ≤ grid + 1
+    again-ended = adds-ended ends grid weight sum.ended sum.support again (are.ended sum held) supports
+
+    again-support : again.support ≤ again.ended * most_weight
+    again-support = adds-small ends grid weight sum.ended sum.support again few (are.support sum held) supports
 
     again-sum : (k : ℕ) (now : Sum) → slice_get (set sums place again) k ≡ Some now → ((k ≡ place) × (now ≡ again)) ⊎ (slice_get sums k ≡ Some now)
     again-sum k now is = elim (cases_eq k place) [
@@ -138,22 +158,34 @@ module _ (grid : ℕ) (places : List ℕ) (sums : List Sum) (are : AreSums (grid
         | inl one ↦ subst (λ (s : Sum). s.weight ≤ (s.last + 1) * most_weight) (sym one) again-small
         | inr stands ↦ are.small now stands
       ];
+      ended = λ now is. elim (again-held now is) [
+        | inl one ↦ subst (λ (s : Sum). s.ended ≤ grid + 1) (sym one) again-ended
+        | inr stands ↦ are.ended now stands
+      ];
+      support = λ now is. elim (again-held now is) [
+        | inl one ↦ subst (λ (s : Sum). s.support ≤ s.ended * most_weight) (sym one) again-support
+        | inr stands ↦ are.support now stands
+      ];
     }
 
-    pub again-added : IsAdded rank grid weight sums (set sums place again)
+    was : sum_of sums rank ≡ Some sum
+    was = subst (λ (r : ℕ). sum_of sums r ≡ Some sum) has (sum-of (grid + 1) places sums are place sum at)
+
+    pub again-added : IsAdded rank ends grid weight sums (set sums place again)
     again-added = record {
       sum = again;
       this =
           subst (λ (r : ℕ). sum_of (set sums place again) r ≡ Some again) (rank_is ∙ has)
           (sum-of (grid + 1) places (set sums place again) again-sums place again (get_set_same sums place sum again at));
       last = last_is;
-      weight_is = subst (λ (o : Option Sum). Adds grid weight o again.weight)
-          (sym (subst (λ (r : ℕ). sum_of sums r ≡ Some sum) has (sum-of (grid + 1) places sums are place sum at))) adds;
+      weight_is = subst (λ (o : Option Sum). Adds grid weight o again.weight) (sym was) adds;
+      support_is = subst (λ (o : Option Sum). AddsSupport ends grid weight (ended_in o) (support_in o) again) (sym was) supports;
       others = λ other apart. sum-set sums place sum again other at (sym rank_is) (λ e. apart (sym e ∙ rank_is ∙ has));
     }
 
   module _ (room : rank < length places) (none : (k : ℕ) (sum : Sum) → slice_get sums k ≡ Some sum → k ≡ slice_index places rank → sum.rank ≢ rank)
-      (sum : Sum) (rank_is : sum.rank ≡ rank) (last_is : sum.last ≡ grid) (weight_is : sum.weight ≡ weight) (place : ℕ) (place_is : place ≡ length sums) where
+      (sum : Sum) (rank_is : sum.rank ≡ rank) (last_is : sum.last ≡ grid) (weight_is : sum.weight ≡ weight) (ends : Bool)
+      (supports : AddsSupport ends grid weight 0 0 sum) (place : ℕ) (place_is : place ≡ length sums) where
     apart : (k : ℕ) (old : Sum) → slice_get sums k ≡ Some old → old.rank ≢ rank
     apart k old at = λ same. none k old at (sym (are.placed k old at) ∙ ap (slice_index places) same) same
 
@@ -176,14 +208,23 @@ module _ (grid : ℕ) (places : List ℕ) (sums : List Sum) (are : AreSums (grid
         | inl stands ↦ are.small now stands
         | inr one ↦ subst (λ (s : Sum). s.weight ≤ (s.last + 1) * most_weight) one (omega (arith, weight_is, few))
       ];
+      ended = λ now is. elim (Contains-push_cases sums sum now is) [
+        | inl stands ↦ are.ended now stands
+        | inr one ↦ subst (λ (s : Sum). s.ended ≤ grid + 1) one (adds-ended ends grid weight 0 0 sum (omega arith) supports)
+      ];
+      support = λ now is. elim (Contains-push_cases sums sum now is) [
+        | inl stands ↦ are.support now stands
+        | inr one ↦ subst (λ (s : Sum). s.support ≤ s.ended * most_weight) one (adds-small ends grid weight 0 0 sum few (omega arith) supports)
+      ];
     }
 
-    pub first-added : IsAdded rank grid weight sums (sums ++ sum ∷ [])
+    pub first-added : IsAdded rank ends grid weight sums (sums ++ sum ∷ [])
     first-added = record {
       sum = sum;
       this = sum-last sums sum rank missing rank_is;
       last = last_is;
       weight_is = subst (λ (o : Option Sum). Adds grid weight o sum.weight) (sym missing) weight_is;
+      support_is = subst (λ (o : Option Sum). AddsSupport ends grid weight (ended_in o) (support_in o) sum) (sym missing) supports;
       others = λ other off. sum-before sums sum other (λ e. off (sym e ∙ rank_is));
     }
 
@@ -191,7 +232,10 @@ module _ (grid : ℕ) (places : List ℕ) (sums : List Sum) (are : AreSums (grid
 
 module _ (grid weight : ℕ) (before : List Sum) where
   pub added-none : HaveAdded [] grid weight before before
-  added-none rank = inr ((λ (hit, held, has). Contains-none hit held), refl)
+  added-none = record {
+    weights = λ rank. inr ((λ (hit, held, has). Contains-none hit held), refl);
+    supports = λ rank. inr ((λ (hit, held, has, ends). Contains-none hit held), refl, refl);
+  }
 
   hit-last : (hits : List Hit) (hit : Hit) (rank : ℕ) → hit.rank ≡ rank → HasHit (hits ++ hit ∷ []) rank
   hit-last hits hit rank has = (hit, Contains-push hits hit, has)
@@ -205,7 +249,16 @@ module _ (grid weight : ℕ) (before : List Sum) where
     | inr one ↦ inr (ap (λ (h : Hit). h.rank) one ∙ has)
   ]
 
-  module _ (earlier : (sum : Sum) (rank : ℕ) → sum_of before rank ≡ Some sum → sum.last ≢ grid) where
+  end-left : (hits : List Hit) (hit : Hit) (rank : ℕ) → HasEnd hits rank → HasEnd (hits ++ hit ∷ []) rank
+  end-left hits hit rank (other, held, has, ends) = (other, Contains-append_left hits (hit ∷ []) other held, has, ends)
+
+  end-cases : (hits : List Hit) (hit : Hit) (rank : ℕ) → HasEnd (hits ++ hit ∷ []) rank → HasEnd hits rank ⊎ ((hit.rank ≡ rank) × IsTrue hit.ends)
+  end-cases hits hit rank (other, held, has, ends) = elim (Contains-push_cases hits hit other held) [
+    | inl stands ↦ inl (other, stands, has, ends)
+    | inr one ↦ inr (ap (λ (h : Hit). h.rank) one ∙ has, ap (λ (h : Hit). h.ends) one ∙ ends)
+  ]
+
+  module _ (earlier : (sum : Sum) (rank : ℕ) → sum_of before rank ≡ Some sum → sum.last ≢ grid) (early : (rank : ℕ) → ended_of before rank ≤ grid) where
     -- the weight of a rank that is met for the first time in the sequence
     met-first : (rank now : ℕ) (found : Option Sum) → sum_of before rank ≡ found → Adds grid weight found now → now ≡ weight_in found + weight
     met-first rank now None is adds = omega (arith, adds)
@@ -214,7 +267,7 @@ module _ (grid weight : ℕ) (before : List Sum) where
 
     met-now : (now : List Sum) (hits : List Hit) → HaveAdded hits grid weight before now → (rank : ℕ) (added : Sum)
         → Adds grid weight (sum_of now rank) added.weight → added.weight ≡ weight_of before rank + weight
-    met-now now hits have rank added adds = elim (have rank) [
+    met-now now hits have rank added adds = elim (have.weights rank) [
       | inl (has, (sum, is, last, w)) ↦ elim (subst (λ (o : Option Sum). Adds grid weight o added.weight) is adds) [
         | inl (same, stays) ↦ stays ∙ w
         | inr (other, grows) ↦ absurd (other last)
@@ -222,16 +275,18 @@ module _ (grid weight : ℕ) (before : List Sum) where
       | inr (no', same) ↦ met-first rank added.weight (sum_of before rank) refl (subst (λ (o : Option Sum). Adds grid weight o added.weight) same adds)
     ]
 
-    pub added-more : (now after : List Sum) (hits : List Hit) (hit : Hit) → HaveAdded hits grid weight before now → IsAdded hit.rank grid weight now after
-        → HaveAdded (hits ++ hit ∷ []) grid weight before after
-    added-more now after hits hit have added rank = elim (cases_eq rank hit.rank) [
+    weights-more : (now after : List Sum) (hits : List Hit) (hit : Hit) → HaveAdded hits grid weight before now → IsAdded hit.rank hit.ends grid weight now after → (rank : ℕ)
+        → (HasHit (hits ++ hit ∷ []) rank
+        × ((sum : Sum) × (sum_of after rank ≡ Some sum) × (sum.last ≡ grid) × (sum.weight ≡ weight_of before rank + weight)))
+        ⊎ ((HasHit (hits ++ hit ∷ []) rank → ⊥) × (sum_of after rank ≡ sum_of before rank))
+    weights-more now after hits hit have added rank = elim (cases_eq rank hit.rank) [
       | inl same ↦
           let this : sum_of after rank ≡ Some added.sum = ap (sum_of after) same ∙ added.this in
           let adds = subst (λ (r : ℕ). Adds grid weight (sum_of now r) added.sum.weight) (sym same) added.weight_is in
           inl (hit-last hits hit rank (sym same), (added.sum, this, added.last, met-now now hits have rank added.sum adds))
       | inr other ↦
           let stays = added.others rank other in
-          elim (have rank) [
+          elim (have.weights rank) [
             | inl (has, (sum, is, last, w)) ↦ inl (hit-left hits hit rank has, (sum, stays ∙ is, last, w))
             | inr (no', is) ↦ inr (
               (λ has. elim (hit-cases hits hit rank has) [ inl earlier ↦ no' earlier | inr here ↦ other (sym here) ]),
@@ -240,11 +295,82 @@ module _ (grid weight : ℕ) (before : List Sum) where
           ]
     ]
 
+    -- the support of the rank of a hit that ends, and of one that does not
+    supports-by : (now : List Sum) (hits : List Hit) (hit : Hit) (sum : Sum) → HaveAdded hits grid weight before now → (ends : Bool) → hit.ends ≡ ends
+        → AddsSupport ends grid weight (ended_of now hit.rank) (support_of now hit.rank) sum
+        → (HasEnd (hits ++ hit ∷ []) hit.rank × (sum.ended ≡ grid + 1) × (sum.support ≡ support_of before hit.rank + weight))
+        ⊎ ((HasEnd (hits ++ hit ∷ []) hit.rank → ⊥) × (sum.ended ≡ ended_of before hit.rank) × (sum.support ≡ support_of before hit.rank))
+    supports-by now hits hit sum have false off (ended, support) = elim (have.supports hit.rank) [
+      | inl (has, is, w) ↦ inl (end-left hits hit hit.rank has, ended ∙ is, support ∙ w)
+      | inr (no', is, w) ↦ inr (
+        (λ has. elim (end-cases hits hit hit.rank has) [ inl earlier ↦ no' earlier | inr (here, on) ↦ true≢false (sym on ∙ off) ]),
+        ended ∙ is,
+        support ∙ w,
+      )
+    ]
+    supports-by now hits hit sum have true on (ended, either) =
+        inl (
+          (hit, Contains-push hits hit, refl, on),
+          ended,
+          elim (have.supports hit.rank) [
+            | inl (has, is, w) ↦ elim either [
+              | inl (same, stays) ↦ stays ∙ w
+              | inr (low, grows) ↦ absurd (omega arith)
+            ]
+            | inr (no', is, w) ↦ elim either [
+              | inl (same, stays) ↦ let low = early hit.rank in absurd (omega arith)
+              | inr (low, grows) ↦ grows ∙ ap (λ (n : ℕ). n + weight) w
+            ]
+          ],
+        )
+
+    supports-more : (now after : List Sum) (hits : List Hit) (hit : Hit) → HaveAdded hits grid weight before now → IsAdded hit.rank hit.ends grid weight now after → (rank : ℕ)
+        → (HasEnd (hits ++ hit ∷ []) rank × (ended_of after rank ≡ grid + 1) × (support_of after rank ≡ support_of before rank + weight))
+        ⊎ ((HasEnd (hits ++ hit ∷ []) rank → ⊥) × (ended_of after rank ≡ ended_of before rank) × (support_of after rank ≡ support_of before rank))
+    supports-more now after hits hit have added rank = elim (cases_eq rank hit.rank) [
+      | inl same ↦
+          let ended : ended_of after rank ≡ added.sum.ended = ap ended_in (ap (sum_of after) same ∙ added.this) in
+          let support : support_of after rank ≡ added.sum.support = ap support_in (ap (sum_of after) same ∙ added.this) in
+          elim (supports-by now hits hit added.sum have hit.ends refl added.support_is) [
+            | inl (has, is, w) ↦ inl (
+              subst (HasEnd (hits ++ hit ∷ [])) (sym same) has,
+              ended ∙ is,
+              support ∙ w ∙ ap (λ (r : ℕ). support_of before r + weight) (sym same),
+            )
+            | inr (no', is, w) ↦ inr (
+              (λ has. no' (subst (HasEnd (hits ++ hit ∷ [])) same has)),
+              ended ∙ is ∙ ap (ended_of before) (sym same),
+              support ∙ w ∙ ap (support_of before) (sym same),
+            )
+          ]
+      | inr other ↦
+          let stays = added.others rank other in
+          elim (have.supports rank) [
+            | inl (has, is, w) ↦ inl (end-left hits hit rank has, ap ended_in stays ∙ is, ap support_in stays ∙ w)
+            | inr (no', is, w) ↦ inr (
+              (λ has. elim (end-cases hits hit rank has) [ inl earlier ↦ no' earlier | inr (here, on) ↦ other (sym here) ]),
+              ap ended_in stays ∙ is,
+              ap support_in stays ∙ w,
+            )
+          ]
+    ]
+
+    pub added-more : (now after : List Sum) (hits : List Hit) (hit : Hit) → HaveAdded hits grid weight before now → IsAdded hit.rank hit.ends grid weight now after
+        → HaveAdded (hits ++ hit ∷ []) grid weight before after
+    added-more now after hits hit have added =
+        record { weights = weights-more now after hits hit have added; supports = supports-more now after hits hit have added }
+
   pub added-all : (now : List Sum) (hits : List Hit) → HaveAdded hits grid weight before now → AreAdded hits weight before now
-  added-all now hits have rank = elim (have rank) [
-    | inl (has, (sum, is, last, w)) ↦ inl (has, ap weight_in is ∙ w)
-    | inr (no', same) ↦ inr (no', ap weight_in same)
-  ]
+  added-all now hits have = record {
+    weights = λ rank. elim (have.weights rank) [
+      | inl (has, (sum, is, last, w)) ↦ inl (has, ap weight_in is ∙ w)
+      | inr (no', same) ↦ inr (no', ap weight_in same)
+    ];
+    supports = λ rank. elim (have.supports rank) [
+      | inl (has, is, w) ↦ inl (has, w)
+      | inr (no', is, w) ↦ inr (no', w)
+    ];
+  }
 
 -- sums of earlier sequences were not met in this one
 pub sums-earlier : (grid : ℕ) (places : List ℕ) (sums : List Sum) → AreSums grid places sums
@@ -253,3 +379,11 @@ sums-earlier grid places sums are sum rank is =
     let (k, at, has) = sum-found sums rank sum is in
     let before : sum.last < grid = are.last sum (get-held sums k sum at) in
     λ same. omega arith
+
+-- nor counted for its support
+pub ended-earlier : (grid : ℕ) (places : List ℕ) (sums : List Sum) → AreSums grid places sums → (rank : ℕ) → ended_of sums rank ≤ grid
+ended-earlier grid places sums are rank = by (sum_of sums rank) refl
+  where
+    by : (found : Option Sum) → sum_of sums rank ≡ found → ended_in found ≤ grid
+    by None is = omega arith
+    by (Some sum) is = let (k, at, has) = sum-found sums rank sum is in are.ended sum (get-held sums k sum at)

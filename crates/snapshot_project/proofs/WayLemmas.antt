@@ -7,7 +7,6 @@ use Rattle.state_bits.specs.Members.{Has}
 use Rattle.fst_compile.proofs.RowLemmas.{Has-none}
 use Rattle.mine_model.specs.declared.item.Item.{Item}
 use Rattle.mine_model.proofs.ElementLemmas.{get-held}
-use Rattle.mine_model.proofs.ListLemmas.{Contains-none}
 use Rattle.fst_simulate.specs.declared.bound.Bound.{Bound}
 use Rattle.fst_simulate.specs.Problems.{Problem, IsWhole}
 use Rattle.fst_simulate.specs.Grids.{Completes, Reads}
@@ -15,13 +14,11 @@ use Rattle.fst_simulate.specs.Successors.{LeadsFrom}
 use Rattle.snapshot_project.specs.declared.snapshot.Snapshot.{Snapshot}
 use Rattle.snapshot_project.specs.declared.hit.Hit.{Hit}
 use Rattle.snapshot_project.specs.Aims.{goes}
-use Rattle.snapshot_project.specs.Snapshots.{HasSnapshot}
-use Rattle.snapshot_project.specs.Live.{WritesNext}
-use Rattle.snapshot_project.specs.Hits.{AreInOrder, AreHits, IsHitOf}
+use Rattle.snapshot_project.specs.Hits.{AreInOrder, AreHits, AreHitsBefore, IsHitOf, WritesFrom, HasHitAt}
 use Rattle.snapshot_project.specs.Joins.{StandAt, Joins}
-use Rattle.snapshot_project.specs.Walks.{AreGroupOf, IsNextAt, IsUseful, Arrives, IsOnWay}
+use Rattle.snapshot_project.specs.Walks.{AreGroupOf, StandsIn, IsNextAt, IsUseful, Arrives, IsOnWay}
 use Rattle.snapshot_project.proofs.SnapshotLemmas.{snapshot-state}
-use Rattle.snapshot_project.proofs.WalkLemmas.{useful-joined, arrives-next, writes-useful, useful-none}
+use Rattle.snapshot_project.proofs.WalkLemmas.{arrives-next, useless, arrives-none, writes-useful, writes-none, hits-none, hits-pass, hits-more, hits-all}
 
 -- the next position that matters is not before this one
 pub next-forward : (group : List Snapshot) (taken position end live at : ℕ) → IsNextAt group taken position end live at
@@ -47,7 +44,7 @@ order-later position later hits forward order = record { rising = order.rising; 
 module _ (problem : Problem) (whole : IsWhole problem) (bound : Bound) (items prefix : List Item) (seen : Bool) (group : List Snapshot)
     (are : AreGroupOf problem bound items prefix seen group) where
   abbrev OnWay : ℕ → ℕ → ℕ → List Hit → Type 0
-  OnWay taken position live hits = IsOnWay problem bound items prefix (goes seen bound.need) group taken position live hits
+  OnWay taken position live hits = IsOnWay problem bound items prefix seen (goes seen bound.need) group taken position live hits
 
   -- the positions do not fall
   rises : (j k : ℕ) (first second : Snapshot) → j ≤ k → slice_get group j ≡ Some first → slice_get group k ≡ Some second → first.position ≤ second.position
@@ -67,25 +64,23 @@ module _ (problem : Problem) (whole : IsWhole problem) (bound : Bound) (items pr
             omega arith
       ]
 
-  -- a snapshot of the prefix has its place in the group
-  placed : (position state : ℕ) → HasSnapshot problem bound items prefix position state
+  -- a snapshot of the group has its place
+  placed : (position state : ℕ) → StandsIn group position state
       → (k : ℕ) × (snapshot : Snapshot) × (slice_get group k ≡ Some snapshot) × (snapshot.position ≡ position) × (snapshot.state ≡ state)
-  placed position state has =
-      let (snapshot, (k, inside, is), at, of) = (are.exact position state).0 has in
-      (k, snapshot, slice_get-get_or group k snapshot inside ∙ ap Some is, at, of)
+  placed position state (snapshot, (k, inside, is), at, of) = (k, snapshot, slice_get-get_or group k snapshot inside ∙ ap Some is, at, of)
 
   pub way-first : (live : ℕ) → live ≡ 0 → OnWay 0 0 live []
   way-first live none = record {
     arrived = λ state. ((λ has. absurd (Has-none state (subst (λ (set : ℕ). Has set state) none has))), (λ h. absurd h));
     before = λ k snapshot below at. absurd (omega arith);
     behind = λ k snapshot above at. omega arith;
-    found = λ hit. ((λ held. absurd (Contains-none hit held)), (λ h. let (at, below, is, writes) = h in absurd (omega arith)));
+    found = hits-none problem whole bound items prefix seen;
   }
 
   module _ (taken position live : ℕ) (hits : List Hit) (way : OnWay taken position live hits) where
     -- where nothing is live no snapshot stands before the next one
     no-snapshot : (to : ℕ) → ((snapshot : Snapshot) → slice_get group taken ≡ Some snapshot → to ≤ snapshot.position)
-        → (between state : ℕ) → position ≤ between → between < to → HasSnapshot problem bound items prefix between state → ⊥
+        → (between state : ℕ) → position ≤ between → between < to → StandsIn group between state → ⊥
     no-snapshot to next between state least most has =
         let (k, snapshot, at, place, of) = placed between state has in
         elim (cases_lt k taken) [
@@ -102,32 +97,31 @@ module _ (problem : Problem) (whole : IsWhole problem) (bound : Bound) (items pr
             let inside : k < length group = slice_get_within group k snapshot at in
             (get_or group taken snapshot, slice_get-get_or group taken snapshot (omega arith))
 
-    idle : live ≡ 0 → (state : ℕ) → Arrives problem bound items prefix (goes seen bound.need) position state → ⊥
+    idle : live ≡ 0 → (state : ℕ) → Arrives problem bound items group (goes seen bound.need) position state → ⊥
     idle none state arrives = Has-none state (subst (λ (set : ℕ). Has set state) none ((way.arrived state).1 arrives))
 
-    -- nothing is written between, where nothing is live
-    nothing : live ≡ 0 → (to : ℕ) → position ≤ to → ((snapshot : Snapshot) → slice_get group taken ≡ Some snapshot → to ≤ snapshot.position)
-        → ((state : ℕ) → Arrives problem bound items prefix (goes seen bound.need) to state → ⊥)
-        × ((at state rank : ℕ) → position ≤ at → at < to → WritesNext problem bound items prefix rank at state → ⊥)
-    nothing none to forward next =
-        useful-none problem whole bound items prefix seen are.seen_is position to (idle none) (no-snapshot to next) forward
+    module _ (none : live ≡ 0) (to : ℕ) (forward : position ≤ to) (next : (snapshot : Snapshot) → slice_get group taken ≡ Some snapshot → to ≤ snapshot.position) where
+      -- nothing arrives there, where nothing is live
+      nothing-arrives : (state : ℕ) → Arrives problem bound items group (goes seen bound.need) to state → ⊥
+      nothing-arrives = arrives-none problem bound items group (goes seen bound.need) position to (idle none) (no-snapshot to next) forward
+
+      -- and nothing is written between
+      nothing-written : AreHitsBefore problem bound items prefix seen to hits
+      nothing-written =
+          hits-pass problem whole bound items prefix seen position hits way.found to forward
+          (λ at rank state least most. writes-none problem whole bound items prefix seen group are at
+          (λ useful. useless problem bound items group (goes seen bound.need) position to (idle none) (no-snapshot to next) at useful least most) rank state)
 
     -- at the end all was found
     pub way-all : (end : ℕ) → end ≡ length items → (end ≤ position) ⊎ ((live ≡ 0) × ((snapshot : Snapshot) → slice_get group taken ≡ Some snapshot → end ≤ snapshot.position))
-        → AreHits problem bound items prefix hits
-    way-all end all stops hit = (
-      (λ held. let (at, below, is, writes) = (way.found hit).0 held in (at, is, writes)),
-      (λ (at, is, writes). elim (cases_lt at position) [
-        | inl below ↦ (way.found hit).1 (at, below, is, writes)
-        | inr above ↦
-            let (t, from, here, alive, leads, written, completes) = writes in
-            let inside : at < length items = slice_get_within items at t here in
-            elim stops [
-              | inl over ↦ absurd (omega arith)
-              | inr (none, next) ↦ absurd ((nothing none end (omega arith) next).1 at hit.state hit.rank above (omega arith) writes)
-            ]
-      ]),
-    )
+        → AreHits problem bound items prefix seen hits
+    way-all end all stops = elim stops [
+      | inl over ↦ hits-all problem whole bound items prefix seen position hits way.found (omega arith)
+      | inr (none, next) ↦ elim (cases_lt position end) [
+        | inl before ↦ hits-all problem whole bound items prefix seen end hits (nothing-written none end (omega arith) next) (omega arith)
+        | inr over ↦ hits-all problem whole bound items prefix seen position hits way.found (omega arith)
+      ]
+    ]
 
     module _ (end at : ℕ) (next : IsNextAt group taken position end live at) (forward : position ≤ at) where
       -- where nothing is live the position is that of the next snapshot
@@ -153,43 +147,40 @@ module _ (problem : Problem) (whole : IsWhole problem) (bound : Bound) (items pr
       ]
 
       -- what arrives at the position
-      arrived-at : (state : ℕ) → Has live state ↔ Arrives problem bound items prefix (goes seen bound.need) at state
+      arrived-at : (state : ℕ) → Has live state ↔ Arrives problem bound items group (goes seen bound.need) at state
       arrived-at state = elim (cases_eq at position) [
-        | inl same ↦ subst (λ (p : ℕ). Has live state ↔ Arrives problem bound items prefix (goes seen bound.need) p state) (sym same) (way.arrived state)
+        | inl same ↦ subst (λ (p : ℕ). Has live state ↔ Arrives problem bound items group (goes seen bound.need) p state) (sym same) (way.arrived state)
         | inr apart ↦ elim next.stays [
           | inl none ↦ (
             (λ has. absurd (Has-none state (subst (λ (set : ℕ). Has set state) none has))),
-            (λ arrives. absurd ((nothing none at forward (jumped none)).0 state arrives)),
+            (λ arrives. absurd (nothing-arrives none at forward (jumped none) state arrives)),
           )
           | inr stays ↦ absurd (apart stays)
         ]
       ]
 
       -- nothing was left out before it
-      found-at : (hit : Hit) → Contains hits hit ↔ ((before : ℕ) × (before < at) × (hit.position ≡ before + 1) × WritesNext problem bound items prefix hit.rank before hit.state)
-      found-at hit = (
-        (λ held. let (before, below, is, writes) = (way.found hit).0 held in (before, omega arith, is, writes)),
-        (λ (before, below, is, writes). elim (cases_lt before position) [
-          | inl early ↦ (way.found hit).1 (before, early, is, writes)
-          | inr late ↦ elim next.stays [
-            | inl none ↦ absurd ((nothing none at forward (jumped none)).1 before hit.state hit.rank late below writes)
-            | inr stays ↦ absurd (omega arith)
-          ]
-        ]),
-      )
+      found-at : AreHitsBefore problem bound items prefix seen at hits
+      found-at = elim (cases_eq at position) [
+        | inl same ↦ subst (λ (p : ℕ). AreHitsBefore problem bound items prefix seen p hits) (sym same) way.found
+        | inr apart ↦ elim next.stays [
+          | inl none ↦ nothing-written none at forward (jumped none)
+          | inr stays ↦ absurd (apart stays)
+        ]
+      ]
 
       module _ (after : ℕ) (stand : StandAt group taken at after) (joined : ℕ)
           (joins : (state : ℕ) → Has joined state ↔ ((Has live state ⊎ Joins (length problem.machine.labels) group taken after state)
           × Completes problem bound (drop at items) state (goes seen bound.need))) where
         -- the snapshots at the position
-        snapshots-at : (state : ℕ) → HasSnapshot problem bound items prefix at state ↔ Joins (length problem.machine.labels) group taken after state
+        snapshots-at : (state : ℕ) → StandsIn group at state ↔ Joins (length problem.machine.labels) group taken after state
         snapshots-at state = (
           (λ has.
               let (k, snapshot, here, place, of) = placed at state has in
               elim (cases_lt k taken) [
                 | inl early ↦ let low = way.before k snapshot early here in absurd (omega arith)
                 | inr late ↦ elim (cases_lt k after) [
-                  | inl below ↦ (k, snapshot, late, below, here, of, snapshot-state problem bound whole items prefix at state has)
+                  | inl below ↦ (k, snapshot, late, below, here, of, snapshot-state problem bound whole items prefix at state (are.right at state has))
                   | inr above ↦
                       let inside : k < length group = slice_get_within group k snapshot here in
                       let at_first : slice_get group after ≡ Some (get_or group after snapshot) = slice_get-get_or group after snapshot (omega arith) in
@@ -201,30 +192,29 @@ module _ (problem : Problem) (whole : IsWhole problem) (bound : Bound) (items pr
           (λ (k, snapshot, late, below, here, of, small).
               let high = stand.taken k snapshot late below here in
               let low = not-before k snapshot late here in
-              (are.exact at state).1 (snapshot, get-held group k snapshot here, omega arith, of)),
+              (snapshot, get-held group k snapshot here, omega arith, of)),
         )
 
         -- the states that are live then
-        lives : (state : ℕ) → Has joined state ↔ IsUseful problem bound items prefix (goes seen bound.need) at state
-        lives state =
-            let law = useful-joined problem whole bound items prefix seen are.seen_is at state in (
-              (λ has.
-                  let (either, completes) = (joins state).0 has in
-                  law.1 (elim either [ inl live_at ↦ inl ((arrived-at state).0 live_at) | inr joining ↦ inr ((snapshots-at state).1 joining) ], completes)),
-              (λ useful.
-                  let (either, completes) = law.0 useful in
-                  (joins state).1 (elim either [ inl arrives ↦ inl ((arrived-at state).1 arrives) | inr snapshot ↦ inr ((snapshots-at state).0 snapshot) ], completes)),
-            )
+        lives : (state : ℕ) → Has joined state ↔ IsUseful problem bound items group (goes seen bound.need) at state
+        lives state = (
+          (λ has.
+              let (either, completes) = (joins state).0 has in
+              (elim either [ inl live_at ↦ inl ((arrived-at state).0 live_at) | inr joining ↦ inr ((snapshots-at state).1 joining) ], completes)),
+          (λ (either, completes).
+              (joins state).1 (elim either [ inl arrives ↦ inl ((arrived-at state).1 arrives) | inr stands ↦ inr ((snapshots-at state).0 stands) ], completes)),
+        )
 
         pub way-more : (t : Item) → slice_get items at ≡ Some t → (now : ℕ)
             → ((state : ℕ) → Has now state ↔ (LeadsFrom problem.machine joined state × Reads problem t state []
             × Completes problem bound (drop (at + 1) items) state (goes seen bound.need)))
             → (more : List Hit)
             → ((hit : Hit) → Contains more hit ↔ (Contains hits hit ⊎ IsHitOf problem bound joined t (drop (at + 1) items) seen (at + 1) hit))
+            → ((rank state : ℕ) → WritesFrom problem bound joined t (drop (at + 1) items) seen rank state → HasHitAt more rank (at + 1) state)
             → OnWay after (at + 1) now more
-        way-more t here now steps more adds = record {
+        way-more t here now steps more adds every = record {
           arrived = λ state.
-              let law = arrives-next problem whole bound items prefix seen are.seen_is at t here joined lives state in
+              let law = arrives-next problem bound items group (goes seen bound.need) at t here joined lives state in
               ((λ has. law.1 ((steps state).0 has)), (λ arrives. (steps state).1 (law.0 arrives)));
           before = λ k snapshot below at_k. elim (cases_lt k taken) [
             | inl early ↦ let low = way.before k snapshot early at_k in omega arith
@@ -236,17 +226,7 @@ module _ (problem : Problem) (whole : IsWhole problem) (bound : Bound) (items pr
               let far = stand.left (get_or group after snapshot) at_first in
               let order = rises after k (get_or group after snapshot) snapshot above at_first at_k in
               omega arith;
-          found = λ hit.
-              let law = writes-useful problem whole bound items prefix seen are.seen_is at t here joined lives hit.rank hit.state in (
-                (λ held. elim ((adds hit).0 held) [
-                  | inl old ↦ let (before, below, is, writes) = (found-at hit).0 old in (before, omega arith, is, writes)
-                  | inr (is, leads, writes, completes) ↦ (at, omega arith, is, law.1 (leads, writes, completes))
-                ]),
-                (λ (before, below, is, writes). elim (cases_eq before at) [
-                  | inl same ↦
-                      let (leads, written, completes) = law.0 (subst (λ (p : ℕ). WritesNext problem bound items prefix hit.rank p hit.state) same writes) in
-                      (adds hit).1 (inr (is ∙ ap (λ (p : ℕ). p + 1) same, leads, written, completes))
-                  | inr apart ↦ (adds hit).1 (inl ((found-at hit).1 (before, omega arith, is, writes)))
-                ]),
-              );
+          found =
+              hits-more problem whole bound items prefix seen at hits found-at t joined more (writes-useful problem whole bound items prefix seen group are at t here joined lives)
+              adds every;
         }

@@ -34,11 +34,16 @@ GeneratesWithin part ranks items =
 abbrev pub CanFollow : GridList → List ℕ → ℕ → ℕ → Type 0
 CanFollow part ranks rank weight = Counts (GrowsBehind part (ranks ++ rank ∷ [])) (sequences_of part) weight
 
+-- the sequences of the part that have the prefix itself as a pattern weigh so much together
+abbrev pub IsSupportOf : GridList → List ℕ → ℕ → Type 0
+IsSupportOf part ranks support = Counts (GeneratesWithin part ranks) (sequences_of part) support
+
 -- exactly the ranks that can follow the prefix in sequences that weigh at least so much, rising, each with
--- the weight of these sequences
+-- the weight of these sequences and the support of the prefix with the rank
 pub record AreNextRanks (part : GridList) (ranks : List ℕ) (least : ℕ) (found : List NextRank) : Type 0 where
   pub rising : AllPairs (λ low high. low.rank < high.rank) found
   pub right : (next : NextRank) → Contains found next
       → (least ≤ next.weight) × CanFollow part ranks next.rank next.weight
+      × IsSupportOf part (ranks ++ next.rank ∷ []) next.support
   pub all : (rank : ℕ) → WeighAtLeast (GrowsBehind part (ranks ++ rank ∷ [])) (sequences_of part) least
       → (next : NextRank) × Contains found next × (next.rank ≡ rank)

@@ -12,4 +12,3 @@ pub mod Walks
 pub mod Groups
 pub mod Sums
 pub mod Files
-pub mod Ends

@@ -6,11 +6,12 @@ use Rattle.mine_model.specs.Support.{Sequence}
 use Rattle.fst_compile.specs.Transducer.{Leads}
 use Rattle.fst_simulate.specs.declared.bound.Bound.{Bound}
 use Rattle.fst_simulate.specs.Problems.{Problem}
-use Rattle.fst_simulate.specs.Grids.{GridList, HoldsNeeded, Completes, Reads, WritesRank}
+use Rattle.fst_simulate.specs.Grids.{GridList, HoldsNeeded, Completes, Ends, Reads, WritesRank}
 use Rattle.fst_simulate.specs.Kinds.{IsNeededRank}
 use Rattle.snapshot_project.specs.declared.snapshot.Snapshot.{Snapshot}
 use Rattle.snapshot_project.specs.Runs.{IsRun}
-use Rattle.snapshot_project.specs.Snapshots.{CompletesBehind, IsSnapshotAt, IsSnapshotOf, ComesBefore}
+use Rattle.snapshot_project.specs.Snapshots.{CompletesBehind, IsSnapshotAt, IsSnapshotOf, IsOpen, ComesBefore}
+use Rattle.snapshot_project.specs.Aims.{sees, goes}
 
 -- from a snapshot of the prefix edges that write nothing lead to the state, and a path completes from there
 abbrev pub IsLiveAt : Problem → Bound → List Item → List Item → List Item → ℕ → Type 0
@@ -52,15 +53,29 @@ WritesNext problem bound items prefix rank position state =
     × WritesRank problem bound t state rank
     × CompletesWith problem bound prefix rank (drop (position + 1) items) state
 
+-- the same, what is needed is seen with the rank, and a path from there writes nothing more
+abbrev pub EndsNext : Problem → Bound → List Item → List Item → ℕ → ℕ → ℕ → Type 0
+EndsNext problem bound items prefix rank position state =
+    WritesNext problem bound items prefix rank position state × HoldsNeededWith problem bound prefix rank
+    × Ends problem (drop (position + 1) items) state
+
+-- such an edge leads to this state at the position, and a path goes on from there as it has to
+abbrev pub OpensNext : Problem → Bound → List Item → List Item → Bool → ℕ → ℕ → ℕ → Type 0
+OpensNext problem bound items prefix seen rank position state =
+    (before : ℕ) × (position ≡ before + 1) × WritesNext problem bound items prefix rank before state
+    × Completes problem bound (drop position items) state (goes (sees seen bound.need rank) bound.need)
+
 -- the first so many sequences of the part, with their weights
 abbrev pub sequences_before : GridList → ℕ → List (Sequence Item)
 sequences_before part count =
     map (λ i. sequence_at part.problem.sequences i) (take count part.sequences)
 
--- the list has exactly the snapshots of the prefix, each once
+-- the list has snapshots of the prefix, each once, and all from which more can be written
 pub record AreSnapshotsOf (part : GridList) (prefix : List Item) (snapshots : List Snapshot) : Type 0 where
   pub rising : AllPairs ComesBefore snapshots
-  pub exact : (snapshot : Snapshot) → Contains snapshots snapshot ↔ IsSnapshotOf part prefix snapshot
+  pub right : (snapshot : Snapshot) → Contains snapshots snapshot → IsSnapshotOf part prefix snapshot
+  pub all : (snapshot : Snapshot) → IsSnapshotOf part prefix snapshot → IsOpen part prefix snapshot
+      → Contains snapshots snapshot
 
 -- the snapshots of the sequence are those from one place of the list up to the other
 pub record IsGroup (snapshots : List Snapshot) (sequence from end : ℕ) : Type 0 where

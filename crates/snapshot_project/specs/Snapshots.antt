@@ -3,11 +3,13 @@ use Rattle.std.specs.Prelude.{◌≡◌, ℕ, ◌≤◌, ◌<◌, Bool, ◌⊎�
 use Rattle.std.specs.List.{AllByRecursion}
 use Rattle.mine_model.specs.declared.item.Item.{Item}
 use Rattle.mine_model.specs.Ranks.{AreRanked}
+use Rattle.fst_compile.specs.Transducer.{IsPath}
 use Rattle.fst_simulate.specs.declared.bound.Bound.{Bound}
 use Rattle.fst_simulate.specs.Problems.{Problem, IsWhole, items_of}
-use Rattle.fst_simulate.specs.Grids.{GridList, Completes, HoldsNeeded}
+use Rattle.fst_simulate.specs.Grids.{GridList, Completes, IsAllowed, HoldsNeeded}
 use Rattle.snapshot_project.specs.declared.snapshot.Snapshot.{Snapshot}
 use Rattle.snapshot_project.specs.Runs.{IsRun, IsStep}
+use Rattle.snapshot_project.specs.Extensions.{IsSupportOf}
 
 -- a path from the start over these items ends in the state and writes the prefix, and its last edge wrote the
 -- prefix's last item
@@ -46,25 +48,44 @@ IsSnapshotOf part prefix snapshot =
     × HasSnapshot part.problem part.bound (items_of part.problem snapshot.sequence) prefix snapshot.position
     snapshot.state
 
+-- from the state a path writes one item or more, all of them allowed, and the prefix with them holds what is
+-- needed
+abbrev pub WritesOn : Problem → Bound → List Item → List Item → ℕ → Type 0
+WritesOn problem bound prefix rest state =
+    (v : Item) × (more : List Item) × IsPath problem.hierarchy.links problem.machine state rest (v ∷ more)
+    × AllByRecursion (IsAllowed problem.ranking bound) (v ∷ more)
+    × HoldsNeeded problem.ranking bound.need (prefix ++ v ∷ more)
+
+-- the snapshot of the prefix is one from which more can be written
+abbrev pub IsOpen : GridList → List Item → Snapshot → Type 0
+IsOpen part prefix snapshot =
+    WritesOn part.problem part.bound prefix
+    (drop snapshot.position (items_of part.problem snapshot.sequence)) snapshot.state
+
 -- by sequence, by position and by state
 abbrev pub ComesBefore : Snapshot → Snapshot → Type 0
 ComesBefore first second = (first.sequence < second.sequence)
     ⊎ ((first.sequence ≡ second.sequence) × ((first.position < second.position)
     ⊎ ((first.position ≡ second.position) × (first.state < second.state))))
 
--- snapshots of one prefix, and whether it holds what is needed
+-- snapshots of one prefix, whether it holds what is needed, and what it weighs by itself
 pub record SnapshotList : Type 0 where
   pub seen : Bool
+  pub support : ℕ
   pub snapshots : List Snapshot
 
--- the snapshots are exactly those of the prefix with these ranks, which the bound allows, each once
+-- The snapshots are snapshots of the prefix with these ranks, which the bound allows, each once; none is left
+-- out from which more can be written.
 pub record AreSnapshots (part : GridList) (ranks : List ℕ) (list : SnapshotList) : Type 0 where
   pub prefix : List Item
   pub ranked : AreRanked part.problem.ranking.order prefix ranks
   pub top : AllByRecursion (λ rank. rank ≤ part.bound.top) ranks
   pub seen : IsTrue list.seen ↔ HoldsNeeded part.problem.ranking part.bound.need prefix
   pub rising : AllPairs ComesBefore list.snapshots
-  pub exact : (snapshot : Snapshot) → Contains list.snapshots snapshot ↔ IsSnapshotOf part prefix snapshot
+  pub right : (snapshot : Snapshot) → Contains list.snapshots snapshot → IsSnapshotOf part prefix snapshot
+  pub all : (snapshot : Snapshot) → IsSnapshotOf part prefix snapshot → IsOpen part prefix snapshot
+      → Contains list.snapshots snapshot
+  pub support : IsSupportOf part ranks list.support
 
 -- a part's sequences rise, and are sequences of its problem; the ranks up to its top have items
 pub record IsPart (part : GridList) : Type 0 where

@@ -1,10 +1,10 @@
 -- Weights by rank, while sequences are counted.
-use Rattle.std.specs.Prelude.{◌≡◌, ◌≢◌, ℕ, ◌+◌, ◌*◌, ◌≤◌, ◌<◌, ◌==◌, ◌⊎◌, if◌then◌else◌, Option, Some, None, List, [], ◌∷◌, slice_get, slice_index, AllPairs, Contains}
+use Rattle.std.specs.Prelude.{◌≡◌, ◌≢◌, ℕ, Bool, true, false, ◌+◌, ◌*◌, ◌≤◌, ◌<◌, ◌==◌, ◌⊎◌, if◌then◌else◌, Option, Some, None, List, [], ◌∷◌, slice_get, slice_index, AllPairs, Contains}
 use Rattle.mine_model.specs.Limits.{most_weight}
 use Rattle.snapshot_project.specs.declared.hit.Hit.{Hit}
 use Rattle.snapshot_project.specs.declared.counting.Sum.{Sum}
 use Rattle.snapshot_project.specs.declared.next_rank.NextRank.{NextRank}
-use Rattle.snapshot_project.specs.Hits.{HasHit}
+use Rattle.snapshot_project.specs.Hits.{HasHit, HasEnd}
 
 -- the first sum of the rank
 abbrev pub sum_of : List Sum → ℕ → Option Sum
@@ -15,9 +15,25 @@ abbrev pub weight_in : Option Sum → ℕ
 weight_in None = 0
 weight_in (Some sum) = sum.weight
 
+abbrev pub support_in : Option Sum → ℕ
+support_in None = 0
+support_in (Some sum) = sum.support
+
+abbrev pub ended_in : Option Sum → ℕ
+ended_in None = 0
+ended_in (Some sum) = sum.ended
+
 -- the weight that the rank has, 0 where it was not met
 abbrev pub weight_of : List Sum → ℕ → ℕ
 weight_of sums rank = weight_in (sum_of sums rank)
+
+-- the support that it has
+abbrev pub support_of : List Sum → ℕ → ℕ
+support_of sums rank = support_in (sum_of sums rank)
+
+-- before which grid it was counted
+abbrev pub ended_of : List Sum → ℕ → ℕ
+ended_of sums rank = ended_in (sum_of sums rank)
 
 -- by its rank the place of each is found, so there is one of each rank
 abbrev pub ArePlaced : List ℕ → List ℕ → Type 0
@@ -29,6 +45,8 @@ pub record AreSums (grid : ℕ) (places : List ℕ) (sums : List Sum) : Type 0 w
   pub placed : (k : ℕ) (sum : Sum) → slice_get sums k ≡ Some sum → slice_index places sum.rank ≡ k
   pub last : (sum : Sum) → Contains sums sum → sum.last < grid
   pub small : (sum : Sum) → Contains sums sum → sum.weight ≤ (sum.last + 1) * most_weight
+  pub ended : (sum : Sum) → Contains sums sum → sum.ended ≤ grid
+  pub support : (sum : Sum) → Contains sums sum → sum.support ≤ sum.ended * most_weight
 
 -- the weight now, where the sequence of the grid was counted before or not
 abbrev pub Adds : ℕ → ℕ → Option Sum → ℕ → Type 0
@@ -36,31 +54,46 @@ Adds grid weight None now = now ≡ weight
 Adds grid weight (Some sum) now =
     ((sum.last ≡ grid) × (now ≡ sum.weight)) ⊎ ((sum.last ≢ grid) × (now ≡ sum.weight + weight))
 
+-- the support now, and before which grid it was counted, where the hit ends or does not
+abbrev pub AddsSupport : Bool → ℕ → ℕ → ℕ → ℕ → Sum → Type 0
+AddsSupport false grid weight ended support now = (now.ended ≡ ended) × (now.support ≡ support)
+AddsSupport true grid weight ended support now =
+    (now.ended ≡ grid + 1)
+    × (((ended ≡ grid + 1) × (now.support ≡ support)) ⊎ ((ended ≤ grid) × (now.support ≡ support + weight)))
+
 -- the sequence of the grid was counted for the rank, and the others stay
-pub record IsAdded (rank grid weight : ℕ) (before after : List Sum) : Type 0 where
+pub record IsAdded (rank : ℕ) (ends : Bool) (grid weight : ℕ) (before after : List Sum) : Type 0 where
   pub sum : Sum
   pub this : sum_of after rank ≡ Some sum
   pub last : sum.last ≡ grid
   pub weight_is : Adds grid weight (sum_of before rank) sum.weight
+  pub support_is : AddsSupport ends grid weight (ended_of before rank) (support_of before rank) sum
   pub others : (other : ℕ) → other ≢ rank → sum_of after other ≡ sum_of before other
 
--- each rank that was hit has grown by the weight, and the others stay
-abbrev pub AreAdded : List Hit → ℕ → List Sum → List Sum → Type 0
-AreAdded hits weight before after =
-    (rank : ℕ) → (HasHit hits rank × (weight_of after rank ≡ weight_of before rank + weight))
-    ⊎ ((HasHit hits rank → ⊥) × (weight_of after rank ≡ weight_of before rank))
+-- each rank that was hit has grown by the weight, and each that a hit of ends has it as support; the others
+-- stay
+pub record AreAdded (hits : List Hit) (weight : ℕ) (before after : List Sum) : Type 0 where
+  pub weights : (rank : ℕ) → (HasHit hits rank × (weight_of after rank ≡ weight_of before rank + weight))
+      ⊎ ((HasHit hits rank → ⊥) × (weight_of after rank ≡ weight_of before rank))
+  pub supports : (rank : ℕ) → (HasEnd hits rank × (support_of after rank ≡ support_of before rank + weight))
+      ⊎ ((HasEnd hits rank → ⊥) × (support_of after rank ≡ support_of before rank))
 
--- each rank that was hit has grown by the weight, with the sequence of the grid, and the others stay
-abbrev pub HaveAdded : List Hit → ℕ → ℕ → List Sum → List Sum → Type 0
-HaveAdded hits grid weight before now =
-    (rank : ℕ) → (HasHit hits rank
-    × ((sum : Sum) × (sum_of now rank ≡ Some sum) × (sum.last ≡ grid) × (sum.weight ≡ weight_of before rank + weight)))
-    ⊎ ((HasHit hits rank → ⊥) × (sum_of now rank ≡ sum_of before rank))
+-- the same of hits that were gone over, with the sequence of the grid
+pub record HaveAdded (hits : List Hit) (grid weight : ℕ) (before now : List Sum) : Type 0 where
+  pub weights : (rank : ℕ) → (HasHit hits rank
+      × ((sum : Sum) × (sum_of now rank ≡ Some sum) × (sum.last ≡ grid)
+      × (sum.weight ≡ weight_of before rank + weight)))
+      ⊎ ((HasHit hits rank → ⊥) × (sum_of now rank ≡ sum_of before rank))
+  pub supports : (rank : ℕ) → (HasEnd hits rank × (ended_of now rank ≡ grid + 1)
+      × (support_of now rank ≡ support_of before rank + weight))
+      ⊎ ((HasEnd hits rank → ⊥) × (ended_of now rank ≡ ended_of before rank)
+      × (support_of now rank ≡ support_of before rank))
 
--- exactly the ranks whose weight reaches the least, rising, each with it
+-- exactly the ranks whose weight reaches the least, rising, each with it and with its support
 pub record AreEnough (least : ℕ) (sums : List Sum) (found : List NextRank) : Type 0 where
   pub rising : AllPairs (λ low high. low.rank < high.rank) found
   pub right : (next : NextRank) → Contains found next
       → (least ≤ next.weight) × (weight_of sums next.rank ≡ next.weight)
+      × (support_of sums next.rank ≡ next.support)
   pub all : (rank : ℕ) → 1 ≤ least → least ≤ weight_of sums rank
       → (next : NextRank) × Contains found next × (next.rank ≡ rank)

@@ -8,47 +8,59 @@ use Rattle.fst_simulate.specs.Problems.{Problem}
 use Rattle.fst_simulate.specs.Grids.{HoldsNeeded, Completes, Reads}
 use Rattle.snapshot_project.specs.declared.snapshot.Snapshot.{Snapshot}
 use Rattle.snapshot_project.specs.declared.hit.Hit.{Hit}
-use Rattle.snapshot_project.specs.Snapshots.{HasSnapshot}
-use Rattle.snapshot_project.specs.Live.{IsLive, WritesNext}
+use Rattle.snapshot_project.specs.Snapshots.{HasSnapshot, WritesOn}
+use Rattle.snapshot_project.specs.Hits.{AreHitsBefore}
 
--- the snapshots are exactly those of the prefix in these items, by rising position
+-- one of the snapshots stands at the position, in the state
+abbrev pub StandsIn : List Snapshot → ℕ → ℕ → Type 0
+StandsIn group position state =
+    (snapshot : Snapshot) × Contains group snapshot × (snapshot.position ≡ position)
+    × (snapshot.state ≡ state)
+
+-- the snapshots are snapshots of the prefix in these items, by rising position, and among them are all from
+-- which more can be written
 pub record AreGroupOf (problem : Problem) (bound : Bound) (items prefix : List Item) (seen : Bool)
     (group : List Snapshot)
     : Type 0 where
   pub seen_is : IsTrue seen ↔ HoldsNeeded problem.ranking bound.need prefix
   pub rising : AllPairs (λ first second. first.position ≤ second.position) group
-  pub exact : (position state : ℕ) → HasSnapshot problem bound items prefix position state
-      ↔ ((snapshot : Snapshot) × Contains group snapshot × (snapshot.position ≡ position)
-      × (snapshot.state ≡ state))
+  pub right : (position state : ℕ) → StandsIn group position state
+      → HasSnapshot problem bound items prefix position state
+  pub all : (position state : ℕ) → HasSnapshot problem bound items prefix position state
+      → WritesOn problem bound prefix (drop position items) state → StandsIn group position state
 
 -- the position is the next one that matters
 pub record IsNextAt (group : List Snapshot) (taken position end live at : ℕ) : Type 0 where
   pub within : at < end
   pub stays : (live ≡ 0) ⊎ (at ≡ position)
-  pub jumps : live ≡ 0 → (snapshot : Snapshot) × (slice_get group taken ≡ Some snapshot) × (snapshot.position ≡ at)
+  pub jumps : live ≡ 0 → (snapshot : Snapshot) × (slice_get group taken ≡ Some snapshot)
+      × (snapshot.position ≡ at)
 
--- the state is live, and a path from it goes on as it has to
-abbrev pub IsUseful : Problem → Bound → List Item → List Item → Bool → ℕ → ℕ → Type 0
-IsUseful problem bound items prefix goes position state =
-    IsLive problem bound items prefix position state × Completes problem bound (drop position items) state goes
-
--- an edge that writes nothing leads from such a state before the position to this one at the position
-abbrev pub Arrives : Problem → Bound → List Item → List Item → Bool → ℕ → ℕ → Type 0
-Arrives problem bound items prefix goes zero state = ⊥
-Arrives problem bound items prefix goes (suc before) state =
+-- An edge that writes nothing leads to the state at the position from one before it, where a snapshot stands
+-- or to which such an edge leads; and a path goes on as it has to.
+abbrev pub Arrives : Problem → Bound → List Item → List Snapshot → Bool → ℕ → ℕ → Type 0
+Arrives problem bound items group goes zero state = ⊥
+Arrives problem bound items group goes (suc before) state =
     (t : Item) × (from : ℕ) × (slice_get items before ≡ Some t)
-    × IsUseful problem bound items prefix goes before from × Leads problem.machine from state
-    × Reads problem t state [] × Completes problem bound (drop (before + 1) items) state goes
+    × ((Arrives problem bound items group goes before from ⊎ StandsIn group before from)
+    × Completes problem bound (drop before items) from goes)
+    × Leads problem.machine from state × Reads problem t state []
+    × Completes problem bound (drop (before + 1) items) state goes
+
+-- a snapshot stands at the position in the state, or such an edge leads to it; and a path goes on as it has
+-- to
+abbrev pub IsUseful : Problem → Bound → List Item → List Snapshot → Bool → ℕ → ℕ → Type 0
+IsUseful problem bound items group goes position state =
+    (Arrives problem bound items group goes position state ⊎ StandsIn group position state)
+    × Completes problem bound (drop position items) state goes
 
 -- a prefix on its way: what stands before the position was found, and the snapshots before it were taken
-pub record IsOnWay (problem : Problem) (bound : Bound) (items prefix : List Item) (goes : Bool)
+pub record IsOnWay (problem : Problem) (bound : Bound) (items prefix : List Item) (seen goes : Bool)
     (group : List Snapshot)
     (taken position live : ℕ) (hits : List Hit) : Type 0 where
-  pub arrived : (state : ℕ) → Has live state ↔ Arrives problem bound items prefix goes position state
+  pub arrived : (state : ℕ) → Has live state ↔ Arrives problem bound items group goes position state
   pub before : (k : ℕ) (snapshot : Snapshot) → k < taken → slice_get group k ≡ Some snapshot
       → snapshot.position < position
   pub behind : (k : ℕ) (snapshot : Snapshot) → taken ≤ k → slice_get group k ≡ Some snapshot
       → position ≤ snapshot.position
-  pub found : (hit : Hit) → Contains hits hit
-      ↔ ((at : ℕ) × (at < position) × (hit.position ≡ at + 1)
-      × WritesNext problem bound items prefix hit.rank at hit.state)
+  pub found : AreHitsBefore problem bound items prefix seen position hits

@@ -3,11 +3,12 @@
 ghost use Rattle.std.specs.Prelude.{◌≡◌, ℕ, ◌≤◌, ◌<◌, List, [], ◌∷◌, ◌++◌, length, map, All, AllPairs, IfOk, OnOk, Some, slice_get};
 ghost use Rattle.snapshot_project.specs.declared.next_rank.NextRank.{NextRank as Next};
 ghost use Rattle.snapshot_project.specs.Snapshots.{SnapshotList, AreSnapshots};
+ghost use Rattle.snapshot_project.specs.Extensions.{IsSupportOf};
 ghost use Rattle.snapshot_project.specs.Sums.{ArePlaced};
 ghost use Rattle.snapshot_project.specs.Files.{empty_for};
-ghost use Rattle.snapshot_project.specs.Aims.{sees as sees_with};
 
-use super::filing::{file_all, file_rank, place_ranks};
+use super::aim::sees;
+use super::filing::{file_all, file_rank, has_end, place_ranks};
 use super::grouping::next_group;
 use super::hit::Hit;
 use super::next_rank::NextRank;
@@ -31,7 +32,8 @@ pub fn advance(
         → AreSnapshots part.now (ranks ++ rank ∷ []) longer) }
 {
     let mut hits = Vec::new(alloc);
-    let mut longer = Snapshots::new(alloc, sees(snapshots.seen(), part.need(), rank), 0)?;
+    let mut longer = Snapshots::new(alloc, sees(snapshots.seen(), part.need(), rank), 0, 0)?;
+    let mut support = 0;
     let mut read = 0;
     let mut grid = 0;
     'groups: while let Some(group) = next_group(
@@ -44,9 +46,13 @@ pub fn advance(
         walk(part, group.grid, stretch, snapshots.seen(), &mut hits)?;
         let sequence = part.sequences()[group.grid as usize];
         file_rank(hits.as_slice(), sequence, rank, &mut longer)?;
+        if has_end(hits.as_slice(), rank) {
+            support += part.weight(group.grid);
+        }
         read = group.end;
         grid = group.grid + 1;
     }
+    longer.set_support(support);
     Ok(longer)
 }
 
@@ -65,6 +71,7 @@ pub fn advance_all(
     ensures all { IfOk result (λ longer. length longer.items ≡ length next.now) }
     ensures each { IfOk result (λ longer. (ranks : List ℕ) → AreSnapshots part.now ranks snapshots.now
         → (i : ℕ) (n : Next) (list : SnapshotList) → slice_get next.now i ≡ Some n
+        → IsSupportOf part.now (ranks ++ n.rank ∷ []) n.support
         → slice_get longer.items i ≡ Some list → AreSnapshots part.now (ranks ++ n.rank ∷ []) list) }
 {
     // Nothing follows a leaf, so no walk is made.
@@ -101,7 +108,7 @@ fn empty_lists(
     let mut lists = Vec::with_capacity(alloc, next.len())?;
     for n in next {
         let room = n.snapshots.min(MOST_ROOM);
-        lists.push(Snapshots::new(alloc, sees(seen, need, n.rank), room)?)?;
+        lists.push(Snapshots::new(alloc, sees(seen, need, n.rank), n.support, room)?)?;
     }
     Ok(lists)
 }
@@ -123,6 +130,7 @@ fn fill_lists(
     ensures all { OnOk result (length longer.new.items ≡ length next.now) }
     ensures each { OnOk result ((ranks : List ℕ) → AreSnapshots part.now ranks snapshots.now
         → (i : ℕ) (n : Next) (list : SnapshotList) → slice_get next.now i ≡ Some n
+        → IsSupportOf part.now (ranks ++ n.rank ∷ []) n.support
         → slice_get longer.new.items i ≡ Some list → AreSnapshots part.now (ranks ++ n.rank ∷ []) list) }
 {
     let mut read = 0;
@@ -141,14 +149,4 @@ fn fill_lists(
         grid = group.grid + 1;
     }
     Ok(())
-}
-
-/// Whether the prefix with the rank appended holds what is needed.
-fn sees(seen: bool, need: Option<u32>, rank: u32) -> bool
-    ensures { result ≡ sees_with seen need rank }
-{
-    match need {
-        Some(need) => seen || need == rank,
-        None => true,
-    }
 }

@@ -1,21 +1,23 @@
 //! Weights by rank, each sequence counted once.
 
 ghost use Rattle.std.specs.Prelude.{◌≡◌, ℕ, ◌+◌, ◌*◌, ◌^◌, ◌≤◌, ◌<◌, length, Some, All, IfOk, OnOk};
-ghost use Rattle.mine_model.specs.Limits.{most_weight};
+ghost use Rattle.mine_model.specs.Limits.{most_sequences, most_weight};
 ghost use Rattle.snapshot_project.specs.Hits.{HasHit};
-ghost use Rattle.snapshot_project.specs.Sums.{AreSums, AreAdded, IsAdded, Adds};
+ghost use Rattle.snapshot_project.specs.Sums.{AreSums, AreAdded, IsAdded, Adds, AddsSupport};
 
 use super::hit::Hit;
 use mine_model::NoMemory;
 
-/// What a rank weighs in the sequences up to the grid of the last one that it was met in, and how often it was
-/// met.
+/// What a rank weighs in the sequences up to the grid of the last one that it was met in; what it weighs in
+/// the sequences before a grid in which a hit of it ends; and how many of its hits write on.
 #[derive(Clone, Copy, Debug)]
 pub(crate) struct Sum {
     pub(crate) rank: u32,
     pub(crate) last: u32,
     pub(crate) weight: u64,
-    pub(crate) met: usize,
+    pub(crate) ended: u32,
+    pub(crate) support: u64,
+    pub(crate) snapshots: usize,
 }
 
 /// Adds the weight of the sequence of a grid to the sum of each rank that was hit in it, once.
@@ -28,67 +30,89 @@ pub(crate) fn add_hits(
 ) -> Result<(), NoMemory>
     requires ranks { All (λ hit. hit.rank < length places.old.items) hits.now }
     requires weight { weight ≤ most_weight }
+    requires grid { grid < most_sequences }
     requires sums { AreSums grid places.old.items sums.old.items }
     ensures room { length places.new.items ≡ length places.old.items }
     ensures sums { OnOk result (AreSums (grid + 1) places.new.items sums.new.items) }
     ensures added { OnOk result (AreAdded hits.now weight sums.old.items sums.new.items) }
 {
     for hit in hits {
-        add_hit(hit.rank, grid, weight, places, sums)?;
+        add_hit(*hit, grid, weight, places, sums)?;
     }
     Ok(())
 }
 
-/// Adds the weight to the sum of the rank, where the sequence of the grid was not yet counted there.
+/// Adds the weight to the sum of the rank of a hit, where the sequence of the grid was not yet counted there.
 fn add_hit(
-    rank: u32,
+    hit: Hit,
     grid: u32,
     weight: u64,
     places: &mut Vec<u32>,
     sums: &mut Vec<Sum>,
 ) -> Result<(), NoMemory>
-    requires rank { rank < length places.old.items }
+    requires rank { hit.rank < length places.old.items }
     requires weight { weight ≤ most_weight }
+    requires grid { grid < most_sequences }
     requires sums { AreSums (grid + 1) places.old.items sums.old.items }
     ensures room { length places.new.items ≡ length places.old.items }
     ensures sums { OnOk result (AreSums (grid + 1) places.new.items sums.new.items) }
-    ensures added { OnOk result (IsAdded rank grid weight sums.old.items sums.new.items) }
+    ensures added { OnOk result (IsAdded hit.rank hit.ends grid weight sums.old.items sums.new.items) }
 {
-    let place = places[rank as usize] as usize;
+    let place = places[hit.rank as usize] as usize;
     if place < sums.len() {
         let sum = sums[place];
-        if sum.rank == rank {
-            sums[place] = met_again(sum, grid, weight);
+        if sum.rank == hit.rank {
+            sums[place] = met_again(sum, hit, grid, weight);
             return Ok(());
         }
     }
     let place = to_place(sums.len())?;
-    sums.push(Sum {
-        rank,
-        last: grid,
-        weight,
-        met: 1,
-    })?;
-    places[rank as usize] = place;
+    sums.push(met_first(hit, grid, weight))?;
+    places[hit.rank as usize] = place;
     Ok(())
 }
 
+/// The sum of a rank that was not met before.
+fn met_first(hit: Hit, grid: u32, weight: u64) -> Sum
+    requires grid { grid < most_sequences }
+    ensures rank { result.rank ≡ hit.rank }
+    ensures last { result.last ≡ grid }
+    ensures weight { result.weight ≡ weight }
+    ensures support { AddsSupport hit.ends grid weight 0 0 result }
+{
+    Sum {
+        rank: hit.rank,
+        last: grid,
+        weight,
+        ended: if hit.ends { grid + 1 } else { 0 },
+        support: if hit.ends { weight } else { 0 },
+        snapshots: hit.writes_on as usize,
+    }
+}
+
 /// The sum of a rank that was met before, in a sequence that was counted there or not.
-fn met_again(sum: Sum, grid: u32, weight: u64) -> Sum
+fn met_again(sum: Sum, hit: Hit, grid: u32, weight: u64) -> Sum
     requires weight { weight ≤ most_weight }
+    requires grid { grid < most_sequences }
     requires small { sum.weight ≤ (sum.last + 1) * most_weight }
+    requires support { sum.support ≤ sum.ended * most_weight }
+    requires ended { sum.ended ≤ grid + 1 }
     ensures rank { result.rank ≡ sum.rank }
     ensures last { result.last ≡ grid }
     ensures weight { Adds grid weight (Some sum) result.weight }
+    ensures support { AddsSupport hit.ends grid weight sum.ended sum.support result }
 {
-    let met = sum.met.wrapping_add(1);
-    let added = if sum.last == grid { 0 } else { weight };
-    Sum {
-        rank: sum.rank,
-        last: grid,
-        weight: sum.weight + added,
-        met,
+    let mut now = sum;
+    now.snapshots = now.snapshots.wrapping_add(hit.writes_on as usize);
+    if sum.last != grid {
+        now.last = grid;
+        now.weight += weight;
     }
+    if hit.ends && sum.ended <= grid {
+        now.ended = grid + 1;
+        now.support += weight;
+    }
+    now
 }
 
 /// The place as a number of 32 bits.

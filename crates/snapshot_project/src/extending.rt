@@ -4,8 +4,8 @@ ghost use Rattle.std.specs.Prelude.{◌≡◌, ℕ, ◌-◌, ◌≤◌, ◌<◌,
 ghost use Rattle.mine_model.specs.Support.{Counts};
 ghost use Rattle.snapshot_project.specs.declared.next_rank.NextRank.{NextRank as Next};
 ghost use Rattle.snapshot_project.specs.Snapshots.{AreSnapshots};
-ghost use Rattle.snapshot_project.specs.Extensions.{AreNextRanks, CanFollow};
-ghost use Rattle.snapshot_project.specs.Sums.{AreSums, AreEnough, weight_of};
+ghost use Rattle.snapshot_project.specs.Extensions.{AreNextRanks, CanFollow, IsSupportOf};
+ghost use Rattle.snapshot_project.specs.Sums.{AreSums, AreEnough, weight_of, support_of};
 
 use super::counting::{Sum, add_hits};
 use super::grouping::next_group;
@@ -18,7 +18,8 @@ use super::walking::walk;
 use mine_model::NoMemory;
 use std::alloc::Global;
 
-/// The ranks that can follow in sequences that weigh at least `least`, rising.
+/// The ranks that can follow in sequences that weigh at least `least`, rising, with the supports of the
+/// prefix with each of them.
 pub fn next_ranks(
     alloc: Global,
     part: &Part,
@@ -42,7 +43,8 @@ pub fn next_ranks(
     enough(alloc, room.sums.as_slice(), least)
 }
 
-/// Sums up by rank what the sequences weigh in which the rank can follow.
+/// Sums up by rank what the sequences weigh in which the rank can follow, and those that generate the prefix
+/// with it.
 fn count(
     part: &Part,
     snapshots: &Snapshots,
@@ -55,6 +57,8 @@ fn count(
     ensures sums { OnOk result ((k : ℕ) × AreSums k places.new.items sums.new.items) }
     ensures weights { OnOk result ((ranks : List ℕ) → AreSnapshots part.now ranks snapshots.now
         → (rank : ℕ) → CanFollow part.now ranks rank (weight_of sums.new.items rank)) }
+    ensures supports { OnOk result ((ranks : List ℕ) → AreSnapshots part.now ranks snapshots.now
+        → (rank : ℕ) → IsSupportOf part.now (ranks ++ rank ∷ []) (support_of sums.new.items rank)) }
 {
     let sequences = part.sequences();
     sums.clear();
@@ -82,7 +86,8 @@ fn enough(alloc: Global, sums: &[Sum], least: u64) -> Result<Vec<NextRank>, NoMe
             found.push(NextRank {
                 rank: sum.rank,
                 weight: sum.weight,
-                snapshots: sum.met,
+                support: sum.support,
+                snapshots: sum.snapshots,
             })?;
         }
     }

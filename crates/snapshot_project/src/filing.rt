@@ -1,6 +1,7 @@
 //! What may be written behind a prefix, as snapshots of the longer prefixes.
 
-ghost use Rattle.std.specs.Prelude.{◌≡◌, ◌<◌, map, length, All, AllPairs, OnOk};
+ghost use Rattle.std.specs.Prelude.{◌≡◌, ◌<◌, ◌↔◌, map, length, All, AllPairs, IsTrue, OnOk};
+ghost use Rattle.snapshot_project.specs.Hits.{HasEnd};
 ghost use Rattle.snapshot_project.specs.Sums.{ArePlaced};
 ghost use Rattle.snapshot_project.specs.Files.{AreFiled, filed, with_more};
 
@@ -11,7 +12,7 @@ use super::snapshot::Snapshot;
 use super::snapshots::Snapshots;
 use mine_model::NoMemory;
 
-/// Appends the hits of one rank in a sequence to the snapshots of the longer prefix.
+/// Appends the hits of one rank in a sequence that write on to the snapshots of the longer prefix.
 pub(crate) fn file_rank(
     hits: &[Hit],
     sequence: u32,
@@ -21,14 +22,26 @@ pub(crate) fn file_rank(
     ensures { OnOk result (longer.new ≡ with_more longer.old (filed sequence rank hits.now)) }
 {
     for hit in hits {
-        if hit.rank == rank {
+        if hit.rank == rank && hit.writes_on {
             longer.push(snapshot_of(*hit, sequence))?;
         }
     }
     Ok(())
 }
 
-/// Appends the hits in a sequence to the snapshots of the longer prefixes, each by its rank.
+/// Whether a hit of the rank ends.
+pub(crate) fn has_end(hits: &[Hit], rank: u32) -> bool
+    ensures { IsTrue result ↔ HasEnd hits.now rank }
+{
+    for hit in hits {
+        if hit.rank == rank && hit.ends {
+            return true;
+        }
+    }
+    false
+}
+
+/// Appends the hits in a sequence that write on to the snapshots of the longer prefixes, each by its rank.
 pub(crate) fn file_all(
     hits: &[Hit],
     sequence: u32,
@@ -43,9 +56,11 @@ pub(crate) fn file_all(
     ensures filed { OnOk result (AreFiled sequence next.now hits.now longer.old.items longer.new.items) }
 {
     for hit in hits {
-        let place = places[hit.rank as usize] as usize;
-        if place < next.len() && next[place].rank == hit.rank {
-            longer[place].push(snapshot_of(*hit, sequence))?;
+        if hit.writes_on {
+            let place = places[hit.rank as usize] as usize;
+            if place < next.len() && next[place].rank == hit.rank {
+                longer[place].push(snapshot_of(*hit, sequence))?;
+            }
         }
     }
     Ok(())

@@ -1,8 +1,10 @@
-/// A rank that can follow a prefix, with the weight of the sequences in which it can. `snapshots` is how many
-/// snapshots the longer prefix is expected to have: no more than a hint for the room that they need.
+/// A rank that can follow a prefix, with the weight of the sequences in which it can, and the weight of those
+/// that have the longer prefix itself as a pattern. `snapshots` is how many snapshots the longer prefix is
+/// expected to have: no more than a hint for the room that they need.
 #[derive(Clone, Copy, Debug, PartialEq, Eq)]
 pub struct NextRank {
     pub rank: u32,
     pub weight: u64,
+    pub support: u64,
     pub snapshots: usize,
 }

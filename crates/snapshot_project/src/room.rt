@@ -7,8 +7,8 @@ use mine_model::NoMemory;
 use std::alloc::Global;
 use std::marker::Model;
 
-/// Room that the walks of one worker use again: what may be written in one sequence, and the sums of the ranks
-/// that were met, with the place of each by its rank.
+/// Room that the walks of one worker use again: what may be written in one sequence, and the sums of the
+/// ranks that were met, with the place of each by its rank.
 ///
 /// A place stands only where what stands there has the rank, so none is cleared.
 #[derive(Drop)]

@@ -5,10 +5,12 @@ use mine_model::NoMemory;
 use std::alloc::Global;
 use std::marker::Model;
 
-/// The snapshots of one prefix in a part, sequence by sequence, and whether it holds what is needed.
+/// Snapshots of one prefix in a part, sequence by sequence, all from which more can be written; whether it
+/// holds what is needed; and what it weighs by itself.
 #[derive(Debug, Drop)]
 pub struct Snapshots {
     seen: bool,
+    support: u64,
     snapshots: Vec<Snapshot>,
 }
 
@@ -17,16 +19,22 @@ impl Model for Snapshots {
 
     ghost Value = { SnapshotList };
 
-    ghost view = { λ s. record { seen = s.seen; snapshots = s.snapshots.items } };
+    ghost view = { λ s. record { seen = s.seen; support = s.support; snapshots = s.snapshots.items } };
 }
 
 impl Snapshots {
     /// No snapshots yet, with room for so many.
-    pub(crate) fn new(alloc: Global, seen: bool, room: usize) -> Result<Snapshots, NoMemory>
-        ensures { IfOk result (λ list. list ≡ record { seen = seen; snapshots = [] }) }
+    pub(crate) fn new(
+        alloc: Global,
+        seen: bool,
+        support: u64,
+        room: usize,
+    ) -> Result<Snapshots, NoMemory>
+        ensures { IfOk result (λ list. list ≡ record { seen = seen; support = support; snapshots = [] }) }
     {
         Ok(Snapshots {
             seen,
+            support,
             snapshots: Vec::with_capacity(alloc, room)?,
         })
     }
@@ -38,6 +46,20 @@ impl Snapshots {
     {
         self.snapshots.push(snapshot)?;
         Ok(())
+    }
+
+    /// Sets what the prefix weighs by itself.
+    pub(crate) fn set_support(&mut self, support: u64)
+        ensures { self.new ≡ record self.old { support = support } }
+    {
+        self.support = support;
+    }
+
+    /// What the prefix weighs by itself.
+    pub(crate) fn support(&self) -> u64
+        ensures { result ≡ self.now.support }
+    {
+        self.support
     }
 
     /// Whether the prefix holds what is needed.

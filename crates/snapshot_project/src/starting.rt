@@ -13,7 +13,7 @@ pub fn start(alloc: Global, part: &Part) -> Result<Snapshots, NoMemory>
     ensures { IfOk result (AreSnapshots part.now []) }
 {
     let sequences = part.sequences();
-    let mut snapshots = Snapshots::new(alloc, false, sequences.len())?;
+    let mut snapshots = Snapshots::new(alloc, false, 0, sequences.len())?;
     for (grid, number) in sequences.iter().enumerate() {
         if part.grids().completes(grid as u32, 0, State(0), false) {
             snapshots.push(Snapshot {

@@ -8,7 +8,7 @@ ghost use Rattle.fst_simulate.specs.Readings.{HasOutputs, outputs_at};
 ghost use Rattle.fst_simulate.specs.Successors.{AreSuccessors, LeadsFrom};
 ghost use Rattle.snapshot_project.specs.declared.hit.Hit.{Hit as Found};
 ghost use Rattle.snapshot_project.specs.Aims.{goes, sees_all};
-ghost use Rattle.snapshot_project.specs.Hits.{AreInOrder, AreRanksWithin, IsWritten, Passes, IsHitOf, AreWritable, words_of};
+ghost use Rattle.snapshot_project.specs.Hits.{AreInOrder, AreRanksWithin, IsWritten, Passes, IsHitOf, WritesFrom, HasHitAt, AreWritable, words_of, hit_of};
 
 use super::aim::Aim;
 use super::hit::Hit;
@@ -44,8 +44,12 @@ pub(crate) fn step<const W: usize>(
         → state ≤ length part.now.problem.machine.labels) }
     ensures hits { OnOk result ((t : Item) → slice_get (items_at part.now grid) at ≡ Some t
         → (hit : Found) → Contains hits.new.items hit ↔ (Contains hits.old.items hit
-        ⊎ IsHitOf part.now.problem part.now.bound live.now t (rest_at part.now grid (at + 1)) aim.seen (at + 1)
-        hit)) }
+        ⊎ IsHitOf part.now.problem part.now.bound live.now t (rest_at part.now grid (at + 1)) aim.seen
+        (at + 1) hit)) }
+    ensures all { OnOk result ((t : Item) → slice_get (items_at part.now grid) at ≡ Some t
+        → (rank state : ℕ) → WritesFrom part.now.problem part.now.bound live.now t
+        (rest_at part.now grid (at + 1)) aim.seen rank state
+        → HasHitAt hits.new.items rank (at + 1) state) }
     ensures order { OnOk result (AreInOrder at hits.old.items → AreInOrder (at + 1) hits.new.items) }
     ensures ranks { OnOk result (AreRanksWithin part.now.problem hits.old.items
         → AreRanksWithin part.now.problem hits.new.items) }
@@ -89,12 +93,18 @@ fn write<const W: usize>(
     writers.intersect_with_words(reading.writing);
     writers.intersect_with_words(reading.seen);
     let mut closed = writers;
-    if !aim.sees_all() {
-        closed.intersect_with_words(reading.unseen);
-    }
+    closed.intersect_with_words(reading.unseen);
+    let mut ended = writers;
+    ended.intersect_with_words(reading.ending);
     for state in writers.iter() {
-        let ranks = allowed(reading.outputs(State(state)), closed.has(state), aim.need);
-        push_hits(hits, ranks, position, state as u16)?;
+        let unseen = closed.has(state);
+        let ending = ended.has(state);
+        let ranks = allowed(
+            reading.outputs(State(state)),
+            aim.takes_any(unseen),
+            aim.need,
+        );
+        push_hits(hits, ranks, aim, position, state as u16, unseen, ending)?;
     }
     Ok(())
 }
@@ -128,19 +138,27 @@ fn only(ranks: &[u32], need: u32) -> &[u32]
     &ranks[..0]
 }
 
-/// Appends a hit for each of the ranks.
-fn push_hits(hits: &mut Vec<Hit>, ranks: &[u32], position: u16, state: u16) -> Result<(), NoMemory>
-    ensures { OnOk result (hits.new.items ≡ hits.old.items ++ map (λ rank. record {
-      rank = rank;
-      position = position;
-      state = state;
-    }) ranks.now) }
+/// Appends a hit for each of the ranks, at a state that completes unseen or not, and that ends or not.
+fn push_hits(
+    hits: &mut Vec<Hit>,
+    ranks: &[u32],
+    aim: Aim,
+    position: u16,
+    state: u16,
+    unseen: bool,
+    ending: bool,
+) -> Result<(), NoMemory>
+    ensures { OnOk result (hits.new.items
+        ≡ hits.old.items ++ map (hit_of aim position state unseen ending) ranks.now) }
 {
     for rank in ranks {
+        let behind = aim.with(*rank);
         hits.push(Hit {
             rank: *rank,
             position,
             state,
+            ends: behind.seen && ending,
+            writes_on: behind.goes() || unseen,
         })?;
     }
     Ok(())

@@ -205,8 +205,8 @@ fn follow(alloc: Global, part: &Part, ranks: &[u32], top: u32) -> Result<Snapsho
     Ok(snapshots)
 }
 
-/// The support of the prefix; each rank that can follow, with its weight; the supports of the prefixes that are
-/// longer by the ranks 1 and 2.
+/// The support of the prefix; each rank that can follow, with its weight and the support of the prefix with
+/// it; how many ranks can follow the prefixes that are longer by the ranks 1 and 2.
 fn text_of(
     alloc: Global,
     part: &Part,
@@ -220,11 +220,12 @@ fn text_of(
 {
     let mut text = format!(in alloc; "{}:", support(part, snapshots))?;
     for next in &next_ranks(alloc, part, snapshots, least, room)? {
-        write!(text, " {} {}", next.rank, next.weight)?;
+        write!(text, " {} {} {}", next.rank, next.weight, next.support)?;
     }
     text.push(',')?;
     for longer in &advance_all(alloc, part, snapshots, &FIRST, room)? {
-        write!(text, " {}", support(part, longer))?;
+        let next = next_ranks(alloc, part, longer, least, room)?;
+        write!(text, " {}", next.len())?;
     }
     Ok(text)
 }
@@ -233,11 +234,13 @@ const FIRST: [NextRank; 2] = [
     NextRank {
         rank: 1,
         weight: 0,
+        support: 0,
         snapshots: 0,
     },
     NextRank {
         rank: 2,
         weight: 0,
+        support: 0,
         snapshots: 1,
     },
 ];
@@ -254,14 +257,14 @@ const RUNNING: [&[Item]; 5] = [
 #[test]
 fn follows_prefixes_through_the_running_data(rt: HostRuntime) -> Result<(), Fail> {
     let table: [(Option<u32>, &[u32], u64, &str); 9] = [
-        (None, &[], 1, "0: 3 3, 0 0"),
+        (None, &[], 1, "0: 3 3 0, 0 0"),
         (None, &[], 4, "0:, 0 0"),
-        (None, &[3], 1, "0: 1 3 2 2 3 2 4 1 5 1, 3 0"),
-        (None, &[3], 2, "0: 1 3 2 2 3 2, 3 0"),
+        (None, &[3], 1, "0: 1 3 3 2 2 0 3 2 0 4 1 0 5 1 0, 0 1"),
+        (None, &[3], 2, "0: 1 3 3 2 2 0 3 2 0, 0 1"),
         (None, &[3, 1], 1, "3:, 0 0"),
-        (None, &[3, 2], 1, "0: 1 2, 2 0"),
-        (Some(3), &[], 1, "0: 3 3, 0 0"),
-        (Some(3), &[3], 1, "0: 1 3 2 2 3 2, 3 0"),
+        (None, &[3, 2], 1, "0: 1 2 2, 0 0"),
+        (Some(3), &[], 1, "0: 3 3 0, 0 0"),
+        (Some(3), &[3], 1, "0: 1 3 3 2 2 0 3 2 0, 0 1"),
         (Some(2), &[], 1, "0:, 0 0"),
     ];
     for (pivot, ranks, least, want) in table {

@@ -20,7 +20,8 @@ use fst_simulate::Successors;
 use mine_model::NoMemory;
 use state_bits::StateSet;
 
-/// Finds what may be written behind the prefix of these snapshots, all of one sequence, the one of the grid.
+/// Finds what may be written behind the prefix of these snapshots, all of one sequence, the one of the grid,
+/// and among them all from which more can be written.
 pub(crate) fn walk(
     part: &Part,
     grid: u32,
@@ -33,7 +34,7 @@ pub(crate) fn walk(
     ensures ranks { OnOk result (AreRanksWithin part.now.problem hits.new.items) }
     ensures hits { OnOk result ((prefix : List Item)
         → AreGroupOf part.now.problem part.now.bound (items_at part.now grid) prefix seen group.now
-        → AreHits part.now.problem part.now.bound (items_at part.now grid) prefix hits.new.items) }
+        → AreHits part.now.problem part.now.bound (items_at part.now grid) prefix seen hits.new.items) }
 {
     let need = part.need();
     let aim = Aim { seen, need };
@@ -61,7 +62,7 @@ fn walk_over<const W: usize>(
     ensures ranks { OnOk result (AreRanksWithin part.now.problem hits.new.items) }
     ensures hits { OnOk result ((prefix : List Item)
         → AreGroupOf part.now.problem part.now.bound (items_at part.now grid) prefix aim.seen group.now
-        → AreHits part.now.problem part.now.bound (items_at part.now grid) prefix hits.new.items) }
+        → AreHits part.now.problem part.now.bound (items_at part.now grid) prefix aim.seen hits.new.items) }
 {
     let end = part.length(grid);
     hits.clear();

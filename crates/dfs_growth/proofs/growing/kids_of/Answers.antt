@@ -1,8 +1,9 @@
-use Rattle.std.proofs.Common.{◌≡◌, ◌≢◌, map, sym, ap, ◌∙◌, subst, arith, All, AllPairs}
+use Rattle.std.proofs.Common.{◌≡◌, ◌≢◌, Some, map, slice_get, sym, ap, ◌∙◌, subst, arith, All, AllPairs}
 use Rattle.std.proofs.lemmas.Simd.{map-map}
 use Rattle.std.proofs.lemmas.Result.{IfOk-weaker}
 use Rattle.std.specs.Arc.{arc_value}
 use Rattle.mine_model.specs.SearchTree.{AreKids}
+use Rattle.mine_model.proofs.ElementLemmas.{get-held}
 use Rattle.fst_simulate.specs.Problems.{data_of}
 use Rattle.snapshot_project.specs.declared.next_rank.NextRank.{NextRank}
 use Rattle.snapshot_project.specs.Extensions.{AreNextRanks}
@@ -27,6 +28,19 @@ pub advance_all-requires-clause-rising : goal.advance_all-requires-clause-rising
 advance_all-requires-clause-rising c =
     let found = rw c.deref.ensures at c.in_ok-next.ensures.next in
     rw c.as_slice.ensures.value (found (prefix_at c.args.job.now c.args.label.now).ranks c.requires.projection.snapshots).rising
+
+-- the support of each longer prefix is told with its rank
+pub nodes-requires-clause-each : goal.nodes-requires-clause-each
+nodes-requires-clause-each c = λ i n list at taken.
+    let part = arc_value c.args.part.now in
+    let prefix = prefix_at c.args.job.now c.args.label.now in
+    let is = c.requires.projection in
+    let here : slice_get c.in_ok-next.next.items i ≡ Some n = rw c.as_slice-2.ensures.value at at in
+    let found = rw c.deref.ensures at c.in_ok-next.ensures.next in
+    let next : AreNextRanks part prefix.ranks c.support.result c.in_ok-next.next.items = found prefix.ranks is.snapshots in
+    let right = next.right n (get-held c.in_ok-next.next.items i n here) in
+    let each = rw (c.as_slice.ensures.value, c.deref-2.ensures) at c.in_ok-longer.ensures.each in
+    record { part_by = is.part_by; snapshots = each prefix.ranks is.snapshots i n list here right.2 taken }
 
 pub returns-clause-problem : goal.returns-clause-problem
 returns-clause-problem c =

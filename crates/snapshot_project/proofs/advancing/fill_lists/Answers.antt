@@ -1,4 +1,4 @@
-use Rattle.std.proofs.Common.{◌≡◌, ◌<◌, ◌≤◌, ◌+◌, List, ℕ, length, get_or, sym, subst, refl, arith}
+use Rattle.std.proofs.Common.{[], ◌∷◌, ◌++◌, ◌≡◌, ◌<◌, ◌≤◌, ◌+◌, List, ℕ, length, get_or, sym, subst, refl, arith}
 use Rattle.std.specs.List.{slice_index, slice_range}
 use Rattle.std.proofs.lemmas.Option.{slice_get_within, get_or_from_slice_get}
 use Rattle.std.proofs.lemmas.List.Elements.{Contains-get_or}
@@ -6,6 +6,7 @@ use Rattle.mine_model.specs.Limits.{most_sequences}
 use Rattle.fst_simulate.specs.Grids.{items_at}
 use Rattle.snapshot_project.specs.declared.hit.Hit.{Hit}
 use Rattle.snapshot_project.specs.declared.next_rank.NextRank.{NextRank}
+use Rattle.snapshot_project.specs.Extensions.{IsSupportOf}
 use Rattle.snapshot_project.specs.Hits.{AreInOrder, AreRanksWithin}
 use Rattle.snapshot_project.specs.Files.{AreFiled}
 use Rattle.snapshot_project.specs.Groups.{IsNextGroup}
@@ -56,7 +57,7 @@ groups-preserved c =
       found = λ ranks are.
           let (so_far, found) = c.groups.invariant.found ranks are in (
             read-next part is are.prefix list.snapshots (snapshots-of part ranks list are) c.groups.read c.groups.grid so_far group next,
-            longer-filed number c.args.next.now hits c.groups.longer.items c.file_all.new.longer.items long filed part are.prefix c.groups.grid (group.grid + 1) found
+            longer-filed number c.args.next.now hits c.groups.longer.items c.file_all.new.longer.items long filed part are.prefix list.seen c.groups.grid (group.grid + 1) found
                 (λ rank longer before. longer-more part is ranks list are c.groups.read c.groups.grid so_far rank group next hits order walked longer before),
           );
     }
@@ -66,9 +67,10 @@ returns-clause-each c =
     let part = c.args.part.now in
     let list = c.args.snapshots.now in
     let none = none-shown part.sequences c.sequences.result.now list.snapshots c.as_slice.result.now c.groups.read c.groups.grid c.sequences.ensures.numbers c.as_slice.ensures c.in_default.ensures.none in
-    λ ranks are i n longer at_n at_list.
+    λ ranks are i n longer at_n support at_list.
     let (so_far, found) = c.groups.invariant.found ranks are in
     let (least, most) = subst (λ (m : NextRank). (1 ≤ m.rank) × (m.rank ≤ part.bound.top)) (get_or_from_slice_get c.args.next.now i n n at_n)
     (c.requires.ranks i n (slice_get_within c.args.next.now i n at_n)) in
-    longer-all part c.sequences.ensures.part ranks list are c.groups.read c.groups.grid so_far n.rank none least most longer (c.groups.invariant.begun i n longer at_n at_list)
-    (found i n longer at_n at_list)
+    let (seen_is, support_is) = c.groups.invariant.begun i n longer at_n at_list in
+    longer-all part c.sequences.ensures.part ranks list are c.groups.read c.groups.grid so_far n.rank none least most longer seen_is
+    (subst (IsSupportOf part (ranks ++ n.rank ∷ [])) (sym support_is) support) (found i n longer at_n at_list)

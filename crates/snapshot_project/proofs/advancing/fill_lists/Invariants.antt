@@ -11,7 +11,7 @@ invariant-groups l = record {
   long : length l.longer.items ≡ length l.next;
   begun : AreBegun l.snapshots.seen l.part.bound.need l.next l.longer.items;
   found : (ranks : List ℕ) (are : AreSnapshots l.part ranks l.snapshots)
-      → AreRead l.part l.snapshots.snapshots l.read l.grid × AreLongerSoFar l.part are.prefix l.grid l.next l.longer.items;
+      → AreRead l.part l.snapshots.snapshots l.read l.grid × AreLongerSoFar l.part are.prefix l.snapshots.seen l.grid l.next l.longer.items;
 }
 
 abbrev pub decreases-groups : goal.decreases-groups

@@ -12,7 +12,7 @@ use Rattle.snapshot_project.specs.Sums.{AreAdded}
 use Rattle.snapshot_project.proofs.ListedLemmas.{snapshots-of}
 use Rattle.snapshot_project.proofs.TallyLemmas.{sums-later}
 use Rattle.snapshot_project.proofs.ReadLemmas.{next-shown, none-shown, read-next, read-walk}
-use Rattle.snapshot_project.proofs.CountLemmas.{counted-next, counted-all}
+use Rattle.snapshot_project.proofs.CountLemmas.{counted-next, counted-all, supports-all}
 use Rattle.snapshot_project.proofs.extending.count.Goals as goal
 
 pub add_hits-requires-clause-ranks : goal.add_hits-requires-clause-ranks
@@ -56,13 +56,14 @@ groups-preserved c =
           (slice_range l c.groups.read c.in-Some.group.end)) (sym c.as_slice-in-Some.ensures)
           (read-walk c.args.part.now c.sequences-sequences.ensures.part are.prefix c.args.snapshots.now.snapshots (snapshots-of c.args.part.now ranks c.args.snapshots.now are)
           c.groups.read c.groups.grid (c.groups.invariant.read ranks are) c.in-Some.group next c.seen.result says) in
-          let found : AreHits c.args.part.now.problem c.args.part.now.bound (items_at c.args.part.now c.in-Some.group.grid) are.prefix c.walk.new.hits.items =
+          let found : AreHits c.args.part.now.problem c.args.part.now.bound (items_at c.args.part.now c.in-Some.group.grid) are.prefix c.seen.result c.walk.new.hits.items =
           c.in_ok-walk.ensures.hits are.prefix group in
           let added : AreAdded c.walk.new.hits.items c.weight-weight.result c.groups.sums.items c.add_hits.new.sums.items =
           subst (λ (hits : List Hit). AreAdded hits c.weight-weight.result c.groups.sums.items c.add_hits.new.sums.items) c.as_slice-in-Some-2.ensures.value
           c.in_ok-add_hits.ensures.added in
           counted-next c.args.part.now c.sequences-sequences.ensures.part ranks c.args.snapshots.now are c.groups.read c.groups.grid (c.groups.invariant.read ranks are)
-          c.groups.sums.items (c.groups.invariant.counted ranks are) c.in-Some.group next c.walk.new.hits.items found c.weight-weight.result c.weight-weight.ensures.weight
+          c.groups.sums.items (c.groups.invariant.counted ranks are) c.in-Some.group next c.walk.new.hits.items
+          (subst (λ (b : Bool). AreHits c.args.part.now.problem c.args.part.now.bound (items_at c.args.part.now c.in-Some.group.grid) are.prefix b c.walk.new.hits.items) c.seen.ensures found) c.weight-weight.result c.weight-weight.ensures.weight
           c.add_hits.new.sums.items added;
     }
 
@@ -72,3 +73,17 @@ returns-clause-weights c = λ ranks are.
     c.groups.sums.items (c.groups.invariant.counted ranks are)
     (none-shown c.args.part.now.sequences c.sequences-sequences.result.now c.args.snapshots.now.snapshots c.as_slice.result.now c.groups.read c.groups.grid
     c.sequences-sequences.ensures.numbers c.as_slice.ensures c.in_default.ensures.none) c.groups.invariant.within
+
+pub returns-clause-supports : goal.returns-clause-supports
+returns-clause-supports c = λ ranks are.
+    supports-all c.args.part.now c.sequences-sequences.ensures.part ranks c.args.snapshots.now are c.groups.read c.groups.grid (c.groups.invariant.read ranks are)
+    c.groups.sums.items (c.groups.invariant.counted ranks are)
+    (none-shown c.args.part.now.sequences c.sequences-sequences.result.now c.args.snapshots.now.snapshots c.as_slice.result.now c.groups.read c.groups.grid
+    c.sequences-sequences.ensures.numbers c.as_slice.ensures c.in_default.ensures.none) c.groups.invariant.within
+
+pub add_hits-requires-clause-grid : goal.add_hits-requires-clause-grid
+add_hits-requires-clause-grid c =
+    let inside : c.in-Some.group.grid < length c.sequences-sequences.result.now =
+    slice_get_within c.sequences-sequences.result.now c.in-Some.group.grid c.in-Some.ensures.some.sequence c.in-Some.ensures.some.at in
+    let few : length c.sequences-sequences.result.now ≡ length c.args.part.now.sequences = ap (λ (l : List ℕ). length l) c.sequences-sequences.ensures.numbers in
+    omega (arith, inside, few, c.sequences-sequences.ensures.few)

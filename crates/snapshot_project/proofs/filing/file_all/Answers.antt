@@ -1,4 +1,4 @@
-use Rattle.std.proofs.Common.{◌≡◌, ◌<◌, ◌≢◌, List, Some, ◌++◌, [], ◌∷◌, length, take, get_or, set, refl, sym, subst, arith, length-set, ◌∙◌, ap}
+use Rattle.std.proofs.Common.{false, ◌≡◌, ◌<◌, ◌≢◌, List, Some, ◌++◌, [], ◌∷◌, length, take, get_or, set, refl, sym, subst, arith, length-set, ◌∙◌, ap}
 use Rattle.std.specs.List.{slice_get}
 use Rattle.std.proofs.lemmas.List.{take_more, take_all}
 use Rattle.std.proofs.lemmas.Option.{slice_get-get_or, slice_get_read}
@@ -7,14 +7,14 @@ use Rattle.snapshot_project.specs.declared.hit.Hit.{Hit}
 use Rattle.snapshot_project.specs.declared.snapshot.Snapshot.{Snapshot}
 use Rattle.snapshot_project.specs.Snapshots.{SnapshotList}
 use Rattle.snapshot_project.specs.Files.{AreFiled, with_more, snapshot_in}
-use Rattle.snapshot_project.proofs.FileLemmas.{filed-here, filed-nowhere}
+use Rattle.snapshot_project.proofs.FileLemmas.{filed-here, filed-nowhere, filed-quiet}
 use Rattle.snapshot_project.proofs.filing.file_all.Goals as goal
-use Rattle.snapshot_project.proofs.filing.file_all.Goals.{then-place-next+then-next-place+in_ok-push, else-place-next, else-place-next-via-then-place-next+else-next-place, else-place-next-via-else-place-next}
+use Rattle.snapshot_project.proofs.filing.file_all.Goals.{then-hit+then-place-next+then-next-place+in_ok-push, then-hit+else-place-next, else-hit, else-place-next-via-then-place-next+else-next-place, else-place-next-via-else-place-next}
 
 pub loop-hit-preserved : goal.loop-hit-preserved
 loop-hit-preserved c =
-    let none : NextRank = record { rank = 0; weight = 0; snapshots = 0 } in
-    let blank : Hit = record { rank = 0; position = 0; state = 0 } in
+    let none : NextRank = record { rank = 0; weight = 0; support = 0; snapshots = 0 } in
+    let blank : Hit = record { rank = 0; position = 0; state = 0; ends = false; writes_on = false } in
     let hits : List Hit = c.args.hits.now in
     let done : List Hit = take c.loop-hit.hit-index hits in
     let hit : Hit = get_or hits c.loop-hit.hit-index blank in
@@ -22,24 +22,24 @@ loop-hit-preserved c =
     let more = take_more hits c.loop-hit.hit-index blank c.loop-hit-test.true in
     let next = c.args.next.now in
     let inv = c.loop-hit.invariant.filed_so_far in
-    elim c.if-place-next.branch [
-      | then-place-next+then-next-place+in_ok-push w ↦
+    elim c.if-hit.branch [
+      | then-hit+then-place-next+then-next-place+in_ok-push w ↦
           let at : slice_get next place ≡ Some (get_or next place none) = slice_get-get_or next place none w.if-place-next.true in
           let there = slice_get_read c.loop-hit.longer.items (length next) place w.index_mut.result.now (sym c.loop-hit.invariant.long) w.if-place-next.true w.index_mut.ensures.value in
           let pushed : w.push.new.self ≡ with_more w.index_mut.result.now (snapshot_in c.args.sequence hit ∷ []) =
           w.in_ok-push.ensures ∙ ap (λ (s : Snapshot). with_more w.index_mut.result.now (s ∷ [])) w.snapshot_of.ensures in
-          let is : c.if-place-next.longer.items ≡ set c.loop-hit.longer.items place (with_more w.index_mut.result.now (snapshot_in c.args.sequence hit ∷ [])) =
+          let is : c.if-hit.longer.items ≡ set c.loop-hit.longer.items place (with_more w.index_mut.result.now (snapshot_in c.args.sequence hit ∷ [])) =
           ap (λ v. v.items) w.longer-is ∙ ap (set c.loop-hit.longer.items place) pushed in
           record {
             long = ap length is ∙ length-set c.loop-hit.longer.items place _ ∙ c.loop-hit.invariant.long;
             filed_so_far =
-                subst (λ (l : List Hit). AreFiled c.args.sequence next l c.args.longer.now.items c.if-place-next.longer.items) (sym more)
+                subst (λ (l : List Hit). AreFiled c.args.sequence next l c.args.longer.now.items c.if-hit.longer.items) (sym more)
                 (subst (λ (after : List SnapshotList). AreFiled c.args.sequence next (done ++ hit ∷ []) c.args.longer.now.items after) (sym is)
                 (filed-here c.args.sequence next c.args.places.now c.requires.placed c.args.longer.now.items c.loop-hit.longer.items done hit inv place (get_or next place none)
-                w.index_mut.result.now at w.if-next-place.true there));
+                w.index_mut.result.now at w.if-next-place.true w.if-hit.true there));
           }
-      | else-place-next w ↦
-          let is : c.if-place-next.longer.items ≡ c.loop-hit.longer.items = ap (λ v. v.items) w.longer-is in
+      | then-hit+else-place-next w ↦
+          let is : c.if-hit.longer.items ≡ c.loop-hit.longer.items = ap (λ v. v.items) w.longer-is in
           let apart : place < length next → (get_or next place none).rank ≢ hit.rank = elim w.else-place-next.branch [
             | else-place-next-via-then-place-next+else-next-place w' ↦ λ inside. w'.if-next-place.false
             | else-place-next-via-else-place-next w' ↦ λ inside. absurd (omega arith)
@@ -47,9 +47,18 @@ loop-hit-preserved c =
           record {
             long = ap length is ∙ c.loop-hit.invariant.long;
             filed_so_far =
-                subst (λ (l : List Hit). AreFiled c.args.sequence next l c.args.longer.now.items c.if-place-next.longer.items) (sym more)
+                subst (λ (l : List Hit). AreFiled c.args.sequence next l c.args.longer.now.items c.if-hit.longer.items) (sym more)
                 (subst (λ (after : List SnapshotList). AreFiled c.args.sequence next (done ++ hit ∷ []) c.args.longer.now.items after) (sym is)
                 (filed-nowhere c.args.sequence next c.args.places.now c.requires.placed c.args.longer.now.items c.loop-hit.longer.items done hit inv place none refl apart));
+          }
+      | else-hit w ↦
+          let is : c.if-hit.longer.items ≡ c.loop-hit.longer.items = ap (λ v. v.items) w.longer-is in
+          record {
+            long = ap length is ∙ c.loop-hit.invariant.long;
+            filed_so_far =
+                subst (λ (l : List Hit). AreFiled c.args.sequence next l c.args.longer.now.items c.if-hit.longer.items) (sym more)
+                (subst (λ (after : List SnapshotList). AreFiled c.args.sequence next (done ++ hit ∷ []) c.args.longer.now.items after) (sym is)
+                (filed-quiet c.args.sequence next c.args.places.now c.requires.placed c.args.longer.now.items c.loop-hit.longer.items done hit inv w.if-hit.false));
           }
     ]
 

@@ -19,11 +19,12 @@ loop-grid-preserved c =
     let there = λ (p : GridList). Completes p.problem p.bound (items_at p c.loop-grid.grid) 0 false in
     elim c.if-completes.branch [
       | then-completes+in_ok-push w ↦
-          let is : c.if-completes.snapshots ≡ record { seen = c.loop-grid.snapshots.seen; snapshots = c.loop-grid.snapshots.snapshots ++ (record { sequence = number; position = 0; state = 0 }) ∷ [] } =
+          let is : c.if-completes.snapshots ≡ record { seen = c.loop-grid.snapshots.seen; support = c.loop-grid.snapshots.support; snapshots = c.loop-grid.snapshots.snapshots ++ (record { sequence = number; position = 0; state = 0 }) ∷ [] } =
           w.snapshots-is ∙ w.in_ok-push.ensures
-          ∙ ap (λ (i : ℕ). record { seen = c.loop-grid.snapshots.seen; snapshots = c.loop-grid.snapshots.snapshots ++ (record { sequence = i; position = 0; state = 0 }) ∷ [] }) read in
+          ∙ ap (λ (i : ℕ). record { seen = c.loop-grid.snapshots.seen; support = c.loop-grid.snapshots.support; snapshots = c.loop-grid.snapshots.snapshots ++ (record { sequence = i; position = 0; state = 0 }) ∷ [] }) read in
           record {
             unseen = ap (λ (l : SnapshotList). l.seen) is ∙ c.loop-grid.invariant.unseen;
+            nothing = ap (λ (l : SnapshotList). l.support) is ∙ c.loop-grid.invariant.nothing;
             found =
                 subst (λ (l : SnapshotList). AreFoundBefore part (IsStart part) (c.loop-grid.grid + 1) l.snapshots) (sym is)
                 (start-more part c.sequences-sequences.ensures.part c.loop-grid.snapshots.snapshots c.loop-grid.grid number c.loop-grid.invariant.found here
@@ -32,6 +33,7 @@ loop-grid-preserved c =
       | else-completes w ↦
           record {
             unseen = ap (λ (l : SnapshotList). l.seen) w.snapshots-is ∙ c.loop-grid.invariant.unseen;
+            nothing = ap (λ (l : SnapshotList). l.support) w.snapshots-is ∙ c.loop-grid.invariant.nothing;
             found =
                 subst (λ (l : SnapshotList). AreFoundBefore part (IsStart part) (c.loop-grid.grid + 1) l.snapshots) (sym w.snapshots-is)
                 (start-pass part c.sequences-sequences.ensures.part c.loop-grid.snapshots.snapshots c.loop-grid.grid number c.loop-grid.invariant.found here
@@ -43,4 +45,5 @@ pub returns : goal.returns
 returns c =
     let count : length c.sequences-sequences.result.now ≡ length c.args.part.now.sequences = ap length c.sequences-sequences.ensures.numbers in
     let past : length c.sequences-sequences.result.now ≤ c.loop-grid.grid = c.loop-grid-test.false in
-    start-all c.args.part.now c.sequences-sequences.ensures.part c.loop-grid.snapshots c.loop-grid.grid (omega arith) c.loop-grid.invariant.unseen c.loop-grid.invariant.found
+    start-all c.args.part.now c.sequences-sequences.ensures.part c.loop-grid.snapshots c.loop-grid.grid (omega arith) c.loop-grid.invariant.unseen
+    c.loop-grid.invariant.nothing c.loop-grid.invariant.found

@@ -7,5 +7,6 @@ use Rattle.snapshot_project.proofs.starting.start.Given as goal
 abbrev pub invariant-loop-grid : goal.invariant-loop-grid
 invariant-loop-grid l = record {
   unseen : l.snapshots.seen ≡ false;
+  nothing : l.snapshots.support ≡ 0;
   found : AreFoundBefore l.part (IsStart l.part) l.grid l.snapshots.snapshots;
 }

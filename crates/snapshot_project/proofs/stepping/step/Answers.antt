@@ -10,7 +10,7 @@ use Rattle.fst_simulate.proofs.SuccessorLemmas.{leads-from, leads-within}
 use Rattle.snapshot_project.specs.declared.hit.Hit.{Hit}
 use Rattle.snapshot_project.specs.Aims.{goes}
 use Rattle.snapshot_project.specs.Hits.{AreWritable, IsHitOf, IsWritten}
-use Rattle.snapshot_project.proofs.StepLemmas.{silent-steps, written-steps, rank-within}
+use Rattle.snapshot_project.proofs.StepLemmas.{silent-steps, written-steps, rank-within, hit-made}
 use Rattle.snapshot_project.proofs.stepping.step.Given.{Over}
 use Rattle.snapshot_project.proofs.stepping.step.Goals as goal
 use Rattle.snapshot_project.proofs.stepping.step.Goals.{After-neighbours-targets, After-silent}
@@ -79,3 +79,12 @@ returns-clause-ranks g c ranks hit held =
       | inr written ↦ rank-within c.args.part.now.problem c.args.part.now.bound t (rest_at c.args.part.now c.args.grid (c.args.at + 1)) c.reading-reading.result c.args.live.now c.neighbours-targets.result
           (reads g there t here) (leads g there) (within g there) c.args.aim.seen (c.args.at + 1) hit ((is_hit g c t here hit).0 written)
     ]
+
+pub returns-clause-all : goal.returns-clause-all
+returns-clause-all g c t here rank state writes =
+    let there = (goal.at.returns-clause-all g c).After-neighbours-targets in
+    let (hit, is, rank_is, at_is, state_is) =
+    hit-made c.args.part.now.problem c.args.part.now.bound t (rest_at c.args.part.now c.args.grid (c.args.at + 1)) c.reading-reading.result c.args.live.now c.neighbours-targets.result
+    (reads g there t here) (leads g there) (within g there) c.args.aim.seen (c.args.at + 1) rank state
+    writes in
+    (hit, (c.in_ok-write.ensures.hits hit).1 (inr (subst (λ (need : Option ℕ). IsWritten c.reading-reading.result c.neighbours-targets.result (record { seen = c.args.aim.seen; need = need }) (c.args.at + 1) hit) (sym c.requires.need) is)), rank_is, at_is, state_is)

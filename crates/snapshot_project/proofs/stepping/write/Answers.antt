@@ -1,14 +1,15 @@
-use Rattle.std.proofs.Common.{◌≡◌, ◌↔◌, ◌⊎◌, ◌*◌, ◌^◌, ◌<◌, ℕ, IsTrue, inl, inr, sym, ◌∙◌, subst, rules, true≢false}
+use Rattle.std.proofs.Common.{map, ◌||◌, ◌↔◌, ◌*◌, ◌^◌, ◌<◌, ℕ, IsTrue, rules}
 use Rattle.std.specs.List.{Contains}
 use Rattle.std.proofs.lemmas.List.Kept.{AllPairs-from_increasing}
 use Rattle.std.proofs.lemmas.List.Elements.{All-contains}
 use Rattle.state_bits.specs.Members.{Has, HasBit}
 use Rattle.snapshot_project.specs.Aims.{sees_all}
-use Rattle.snapshot_project.specs.Hits.{AreWritable}
-use Rattle.snapshot_project.proofs.HitLemmas.{IsWriter, written-none, next-writer, written-more, written-all, written-order}
+use Rattle.fst_simulate.specs.Readings.{outputs_at}
+use Rattle.snapshot_project.specs.Hits.{AreWritable, Passes, hit_of}
+use Rattle.snapshot_project.proofs.HitLemmas.{IsWriter, one-state, state-written, written-none, next-writer, written-more, written-all, written-order}
 use Rattle.snapshot_project.proofs.stepping.write.Given.{Over}
 use Rattle.snapshot_project.proofs.stepping.write.Goals as goal
-use Rattle.snapshot_project.proofs.stepping.write.Goals.{After-iter-state-items, In-Some, then-not-sees_all, else-not-sees_all}
+use Rattle.snapshot_project.proofs.stepping.write.Goals.{After-iter-state-items, In-Some}
 
 module _ (g : Over) where
   writers : (c : After-iter-state-items g) → (state : ℕ) → Has c.intersect_with_words-2.new.self state ↔ IsWriter c.args.reading.now c.args.targets.now state
@@ -23,28 +24,10 @@ module _ (g : Over) where
     (λ is. (c.iter-state-items.ensures.members state).1 ((writers c state).1 is)),
   )
 
-  -- the closed states of the writers
-  closes : (c : After-iter-state-items g) → (state : ℕ) → IsWriter c.args.reading.now c.args.targets.now state
-      → Has c.if-not-sees_all.closed state ↔ (IsTrue (sees_all c.args.aim.seen c.args.aim.need) ⊎ HasBit c.args.reading.now.unseen.now state)
-  closes c state is = elim c.if-not-sees_all.branch [
-    | then-not-sees_all w ↦
-        let unseen : sees_all c.args.aim.seen c.args.aim.need ≡ _ = sym c.sees_all.ensures ∙ w.if-not-sees_all.true in (
-          (λ has. inr ((w.intersect_with_words-then-not-sees_all.ensures state).0 (subst (λ (set : ℕ). Has set state) w.closed-is has)).1),
-          (λ either. subst (λ (set : ℕ). Has set state) (sym w.closed-is) (elim either [
-            | inl all ↦ absurd (true≢false (sym all ∙ unseen))
-            | inr bit ↦ (w.intersect_with_words-then-not-sees_all.ensures state).1 ((writers c state).1 is, bit)
-          ])),
-        )
-    | else-not-sees_all w ↦ (
-      (λ has. inl (sym c.sees_all.ensures ∙ w.if-not-sees_all.false)),
-      (λ either. subst (λ (set : ℕ). Has set state) (sym w.closed-is) ((writers c state).1 is)),
-    )
-  ]
-
 module _ (g : Over) (c : In-Some g) where
   writer : IsWriter c.args.reading.now c.args.targets.now c.in-Some.state
   writer =
-      next-writer c.args.reading.now c.args.aim.need c.args.position c.args.targets.now c.if-not-sees_all.closed c.loop-state.yielded c.loop-state.state-iterator
+      next-writer c.args.reading.now c.args.targets.now c.args.aim c.args.position c.loop-state.yielded c.loop-state.state-iterator
       c.args.hits.now.items c.loop-state.hits.items c.loop-state.invariant c.in-Some.state c.next.new.self c.in-Some.ensures.steps
 
   writable : AreWritable c.args.reading.now c.in-Some.state
@@ -54,15 +37,24 @@ pub loop-state-init : goal.loop-state-init
 loop-state-init g c =
     let there : After-iter-state-items g = (goal.at.loop-state-init g c).After-iter-state-items in
     rw c.into_iter-state-iterator.ensures.into_iter_gives
-    (written-none c.args.reading.now c.args.aim.need c.args.position c.args.targets.now c.if-not-sees_all.closed c.iter-state-items.result c.args.hits.now.items (listed g there)
+    (written-none c.args.reading.now c.args.targets.now c.args.aim c.args.position c.iter-state-items.result c.args.hits.now.items (listed g there)
     (AllPairs-from_increasing c.iter-state-items.result c.iter-state-items.ensures.rising))
 
 pub outputs-requires : goal.outputs-requires
 outputs-requires g c = (writable g (goal.at.outputs-requires g c).In-Some).kept
 
-pub has-requires : goal.has-requires
-has-requires g c =
-    let at = goal.at.has-requires g c in
+pub has-unseen-requires : goal.has-unseen-requires
+has-unseen-requires g c =
+    let at = goal.at.has-unseen-requires g c in
+    let is = writer g at.In-Some in
+    let inside : c.in-Some.state < 64 * g.row.W =
+    All-contains (λ q. q < 64 * g.row.W) c.iter-state-items.result c.in-Some.state c.iter-state-items.ensures.within ((listed g at.After-iter-state-items c.in-Some.state).1 is) in
+    let width = c.requires.width in
+    search rules
+
+pub has-ending-requires : goal.has-ending-requires
+has-ending-requires g c =
+    let at = goal.at.has-ending-requires g c in
     let is = writer g at.In-Some in
     let inside : c.in-Some.state < 64 * g.row.W =
     All-contains (λ q. q < 64 * g.row.W) c.iter-state-items.result c.in-Some.state c.iter-state-items.ensures.within ((listed g at.After-iter-state-items c.in-Some.state).1 is) in
@@ -75,18 +67,33 @@ overflow_cast-state g c = let small : c.in-Some.state < 2 ^ 16 = (writable g (go
 pub loop-state-preserved : goal.loop-state-preserved
 loop-state-preserved g c =
     let at = goal.at.loop-state-preserved g c in
-    written-more c.args.reading.now c.args.aim.need c.args.position c.args.targets.now c.if-not-sees_all.closed c.loop-state.yielded c.loop-state.state-iterator
-    c.args.hits.now.items c.loop-state.hits.items c.loop-state.invariant c.in-Some.state c.next.new.self c.in-Some.ensures.steps
-    c.push_hits.new.hits.items c.allowed-ranks.result.now c.in_ok-push_hits.ensures
-    (c.allowed-ranks.ensures.once (rw c.outputs.ensures (writable g at.In-Some).once)) c.has.result c.has.ensures
-    (rw c.outputs.ensures at c.allowed-ranks.ensures.ranks)
+    let is = writer g at.In-Some in
+    let state = c.in-Some.state in
+    let has = (writers g at.After-iter-state-items state).1 is in
+    let unseen : IsTrue c.has-unseen.result ↔ HasBit c.args.reading.now.unseen.now state = (
+      (λ yes'. ((c.intersect_with_words-3.ensures state).0 (c.has-unseen.ensures.0 yes')).1),
+      (λ bit. c.has-unseen.ensures.1 ((c.intersect_with_words-3.ensures state).1 (has, bit))),
+    ) in
+    let ending : IsTrue c.has-ending.result ↔ HasBit c.args.reading.now.ending.now state = (
+      (λ yes'. ((c.intersect_with_words-4.ensures state).0 (c.has-ending.ensures.0 yes')).1),
+      (λ bit. c.has-ending.ensures.1 ((c.intersect_with_words-4.ensures state).1 (has, bit))),
+    ) in
+    let once = c.allowed-ranks.ensures.once (rw c.outputs.ensures (writable g at.In-Some).once) in
+    let picks : (rank : ℕ) → Contains c.allowed-ranks.result.now rank
+    ↔ (Contains (outputs_at c.args.reading.now state) rank × Passes (sees_all c.args.aim.seen c.args.aim.need || c.has-unseen.result) c.args.aim.need rank) =
+    rw (c.outputs.ensures, c.takes_any.ensures) at c.allowed-ranks.ensures.ranks in
+    written-more c.args.reading.now c.args.targets.now c.args.aim c.args.position c.loop-state.yielded c.loop-state.state-iterator
+    c.args.hits.now.items c.loop-state.hits.items c.loop-state.invariant state c.next.new.self c.in-Some.ensures.steps
+    c.push_hits.new.hits.items (map (hit_of c.args.aim c.args.position state c.has-unseen.result c.has-ending.result) c.allowed-ranks.result.now) c.in_ok-push_hits.ensures
+    (one-state c.args.aim c.args.position state c.has-unseen.result c.has-ending.result c.allowed-ranks.result.now once)
+    (state-written c.args.reading.now c.args.targets.now c.args.aim c.args.position state is c.has-unseen.result c.has-ending.result unseen ending c.allowed-ranks.result.now picks)
 
 pub returns-clause-hits : goal.returns-clause-hits
 returns-clause-hits g c =
-    written-all c.args.reading.now c.args.aim.need c.args.position c.args.targets.now c.if-not-sees_all.closed c.loop-state.yielded c.loop-state.state-iterator
-    c.args.hits.now.items c.loop-state.hits.items c.loop-state.invariant c.in-None.ensures.steps.0 c.args.aim.seen (closes g (goal.at.returns-clause-hits g c).After-iter-state-items)
+    written-all c.args.reading.now c.args.targets.now c.args.aim c.args.position c.loop-state.yielded c.loop-state.state-iterator
+    c.args.hits.now.items c.loop-state.hits.items c.loop-state.invariant c.in-None.ensures.steps.0
 
 pub returns-clause-order : goal.returns-clause-order
 returns-clause-order g c =
-    written-order c.args.reading.now c.args.aim.need c.args.position c.args.targets.now c.if-not-sees_all.closed c.loop-state.yielded c.loop-state.state-iterator
+    written-order c.args.reading.now c.args.targets.now c.args.aim c.args.position c.loop-state.yielded c.loop-state.state-iterator
     c.args.hits.now.items c.loop-state.hits.items c.loop-state.invariant

@@ -93,7 +93,7 @@ positions-preserved g c =
           way-more c.args.part.now.problem c.length-end.ensures.part.whole c.args.part.now.bound (items_at c.args.part.now c.args.grid) prefix c.args.aim.seen c.args.group.now are
           c.positions.taken c.positions.position c.positions.live c.positions.hits.items (c.positions.invariant.way prefix are) c.length-end.result c.in-Some.at c.in-Some.ensures.some (forward g some)
           c.join-taken.result c.join-taken.ensures.taken c.join-taken.new.live (rw (c.goes.ensures, c.requires.need) at c.join-taken.ensures.live)
-          t here c.in_ok-live.live steps c.step.new.hits.items (c.in_ok-live.ensures.hits t here);
+          t here c.in_ok-live.live steps c.step.new.hits.items (c.in_ok-live.ensures.hits t here) (c.in_ok-live.ensures.all t here);
     }
 
 pub returns-clause-order : goal.returns-clause-order

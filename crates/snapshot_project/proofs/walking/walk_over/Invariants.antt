@@ -19,7 +19,7 @@ invariant-positions g l = record {
   order : AreInOrder l.position l.hits.items;
   ranks : AreRanksWithin l.part.problem l.hits.items;
   way : (prefix : List Item) → AreGroupOf l.part.problem l.part.bound (items_at l.part l.grid) prefix l.aim.seen l.group
-      → IsOnWay l.part.problem l.part.bound (items_at l.part l.grid) prefix (goes l.aim.seen l.part.bound.need) l.group l.taken l.position l.live l.hits.items;
+      → IsOnWay l.part.problem l.part.bound (items_at l.part l.grid) prefix l.aim.seen (goes l.aim.seen l.part.bound.need) l.group l.taken l.position l.live l.hits.items;
 }
 
 abbrev pub decreases-positions : goal.decreases-positions
