@@ -1,7 +1,8 @@
 -- The weights of the ranks that can follow a prefix, group by group.
-use Rattle.std.proofs.Common.{◌≡◌, ◌↔◌, ℕ, ◌+◌, ◌≤◌, ◌<◌, ◌⊎◌, inl, inr, List, [], ◌∷◌, ◌++◌, Some, length, sym, ap, ◌∙◌, subst, arith}
+use Rattle.std.proofs.Common.{false, true≢false, ◌≡◌, ◌↔◌, ℕ, ◌+◌, ◌≤◌, ◌<◌, ◌⊎◌, inl, inr, List, [], ◌∷◌, ◌++◌, Some, length, sym, ap, ◌∙◌, subst, arith}
 use Rattle.std.specs.List.{Contains, slice_get, slice_index}
-use Rattle.std.proofs.lemmas.Option.{same_Some}
+use Rattle.std.proofs.lemmas.Option.{slice_get-get_or, same_Some}
+use Rattle.std.proofs.lemmas.Bool.{cases_lt}
 use Rattle.mine_model.specs.declared.item.Item.{Item}
 use Rattle.mine_model.specs.Database.{sequence_at}
 use Rattle.mine_model.specs.Support.{Counts}
@@ -13,24 +14,32 @@ use Rattle.snapshot_project.specs.declared.grouping.Group.{Group}
 use Rattle.snapshot_project.specs.declared.hit.Hit.{Hit}
 use Rattle.snapshot_project.specs.declared.counting.Sum.{Sum}
 use Rattle.snapshot_project.specs.Snapshots.{IsPart, SnapshotList, AreSnapshots}
-use Rattle.snapshot_project.specs.Extensions.{GrowsBehind, GeneratesWithin, CanFollow, IsSupportOf, sequences_of}
+use Rattle.snapshot_project.specs.Extensions.{GrowsBehind, GeneratesWithin, CanFollow, IsSupportOf, NothingFollows, sequences_of}
 use Rattle.snapshot_project.specs.Live.{sequences_before}
 use Rattle.snapshot_project.specs.Groups.{IsNextGroup, AreRead}
 use Rattle.snapshot_project.specs.Hits.{HasHit, HasEnd, AreHits}
-use Rattle.snapshot_project.specs.Sums.{weight_of, support_of, AreAdded}
-use Rattle.snapshot_project.proofs.ListedLemmas.{snapshots-of, grows-not, generates-not, grows-hit, generates-hit}
+use Rattle.snapshot_project.specs.Sums.{weight_of, support_of, goes_of, AreAdded}
+use Rattle.snapshot_project.proofs.ListedLemmas.{snapshots-of, grows-not, generates-not, grows-hit, generates-hit, follows-hit}
 use Rattle.snapshot_project.proofs.SumLemmas.{sum-none, sum-add, sum-pass, sum-all}
+use Rattle.snapshot_project.proofs.ExtensionLemmas.{grows-shorter}
 use Rattle.snapshot_project.proofs.ReadLemmas.{read-passed, read-sequence, read-all}
+
+-- nothing follows the prefix in the sequences before the grid
+abbrev pub NothingBefore : GridList → List ℕ → ℕ → Type 0
+NothingBefore part ranks grid =
+    (k i rank : ℕ) → k < grid → slice_get part.sequences k ≡ Some i → GrowsBehind part (ranks ++ rank ∷ []) (items_of part.problem i) → ⊥
 
 -- the sums have what the sequences before the grid weigh that grow, and what those weigh that generate
 pub record HaveCounted (part : GridList) (ranks : List ℕ) (sums : List Sum) (grid : ℕ) : Type 0 where
   pub weights : (rank : ℕ) → Counts (GrowsBehind part (ranks ++ rank ∷ [])) (sequences_before part grid) (weight_of sums rank)
   pub supports : (rank : ℕ) → Counts (GeneratesWithin part (ranks ++ rank ∷ [])) (sequences_before part grid) (support_of sums rank)
+  pub ends : (rank : ℕ) → goes_of sums rank ≡ false → NothingBefore part (ranks ++ rank ∷ []) grid
 
 pub counted-none : (part : GridList) (ranks : List ℕ) → HaveCounted part ranks [] 0
 counted-none part ranks = record {
   weights = λ rank. sum-none part (GrowsBehind part (ranks ++ rank ∷ []));
   supports = λ rank. sum-none part (GeneratesWithin part (ranks ++ rank ∷ []));
+  ends = λ rank off k i other less at grows. absurd (omega arith);
 }
 
 module _ (part : GridList) (is : IsPart part) (ranks : List ℕ) (list : SnapshotList) (are : AreSnapshots part ranks list)
@@ -117,6 +126,25 @@ module _ (part : GridList) (is : IsPart part) (ranks : List ℕ) (list : Snapsho
       weights = λ rank. counted-with (GrowsBehind part (ranks ++ rank ∷ [])) (grows-unlisted rank) (weight_of before rank) (counted.weights rank) group next weight weight_is
           (HasHit hits rank) (grows-hit part is.whole ranks list are (items_at part group.grid) hits found rank) (weight_of after rank) (added.weights rank);
       supports = λ rank. support-next rank (support_of before rank) (counted.supports rank) group next hits found weight weight_is (support_of after rank) (added.supports rank);
+      ends = λ rank off k i other less at grows.
+          let (early, none) = added.stops rank off in
+          let here : slice_index part.sequences group.grid ≡ next.sequence =
+          read-sequence part is are.prefix list.snapshots (snapshots-of part ranks list are) read grid so_far group next in
+          elim (cases_lt k grid) [
+            | inl below ↦ counted.ends rank early k i other below at grows
+            | inr above ↦ elim (cases_lt k group.grid) [
+              | inl between ↦
+                  grows-unlisted rank i (get-held part.sequences k i at)
+                  (read-passed part is are.prefix list.snapshots (snapshots-of part ranks list are) read grid so_far group next k i above between at)
+                  (grows-shorter part is.whole (ranks ++ rank ∷ []) (other ∷ []) (items_of part.problem i) grows)
+              | inr behind ↦
+                  let one : k ≡ group.grid = omega arith in
+                  let number : i ≡ slice_index part.sequences group.grid = same_Some i next.sequence (sym at ∙ ap (slice_get part.sequences) one ∙ next.at) ∙ sym here in
+                  let (hit, held, rank_is, on) = follows-hit part is.whole ranks list are (items_at part group.grid) hits found rank other
+                  (subst (λ (j : ℕ). GrowsBehind part ((ranks ++ rank ∷ []) ++ other ∷ []) (items_of part.problem j)) number grows) in
+                  true≢false (sym on ∙ none hit held rank_is)
+            ]
+          ];
     }
 
     module _ (none : (snapshot : Snapshot) → slice_get list.snapshots read ≡ Some snapshot → (k : ℕ) → grid ≤ k → k < length part.sequences
@@ -126,3 +154,14 @@ module _ (part : GridList) (is : IsPart part) (ranks : List ℕ) (list : Snapsho
 
       pub supports-all : IsSupportOf part (ranks ++ rank ∷ []) (support_of before rank)
       supports-all = support-all rank (support_of before rank) (counted.supports rank) none inside
+
+      pub ends-all : goes_of before rank ≡ false → NothingFollows part (ranks ++ rank ∷ [])
+      ends-all off i other held grows =
+          let (k, inside, is_i) = held in
+          let at : slice_get part.sequences k ≡ Some i = slice_get-get_or part.sequences k i inside ∙ ap Some is_i in
+          elim (cases_lt k grid) [
+            | inl below ↦ counted.ends rank off k i other below at grows
+            | inr above ↦
+                grows-unlisted rank i held (read-all part is are.prefix list.snapshots (snapshots-of part ranks list are) read grid so_far none k i above at)
+                (grows-shorter part is.whole (ranks ++ rank ∷ []) (other ∷ []) (items_of part.problem i) grows)
+          ]

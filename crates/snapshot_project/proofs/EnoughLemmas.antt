@@ -1,5 +1,5 @@
 -- The ranks whose weight is enough, sorted.
-use Rattle.std.proofs.Common.{◌≡◌, ◌≢◌, ℕ, ◌≤◌, inl, inr, Bool, leb, Option, Some, None, List, length, get_or, map, refl, sym, ap, ◌∙◌, arith}
+use Rattle.std.proofs.Common.{◌≡◌, ◌≢◌, ℕ, ◌≤◌, inl, inr, Bool, false, leb, Option, Some, None, List, length, get_or, map, refl, sym, ap, ◌∙◌, arith}
 use Rattle.std.specs.List.{AllPairs, Contains, filter, slice_get, slice_index}
 use Rattle.std.specs.List.Sorted.{IsPermutation, IsNonDecreasingBy}
 use Rattle.std.proofs.lemmas.Bool.{cases_lt, leb-true, le-leb}
@@ -13,11 +13,11 @@ use Rattle.mine_model.proofs.ElementLemmas.{get-held}
 use Rattle.mine_model.proofs.ListLemmas.{Contains-by, Contains-from, Contains-filter, filter-Contains}
 use Rattle.snapshot_project.specs.declared.counting.Sum.{Sum}
 use Rattle.snapshot_project.specs.declared.next_rank.NextRank.{NextRank}
-use Rattle.snapshot_project.specs.Sums.{sum_of, weight_in, weight_of, support_in, support_of, AreSums, AreEnough}
+use Rattle.snapshot_project.specs.Sums.{sum_of, weight_in, weight_of, support_in, support_of, goes_in, goes_of, AreSums, AreEnough}
 use Rattle.snapshot_project.proofs.TallyLemmas.{sum-found, sum-of}
 
 abbrev pub next_of : Sum → NextRank
-next_of sum = record { rank = sum.rank; weight = sum.weight; support = sum.support; snapshots = sum.snapshots }
+next_of sum = record { rank = sum.rank; weight = sum.weight; support = sum.support; snapshots = sum.snapshots; goes_on = sum.goes_on }
 
 abbrev pub reaches : ℕ → Sum → Bool
 reaches least sum = leb least sum.weight
@@ -38,7 +38,7 @@ module _ (least grid : ℕ) (places : List ℕ) (sums : List Sum) (are : AreSums
 
   enough-apart : AllPairs (λ (x y : ℕ). x ≢ y) (map (λ (n : NextRank). n.rank) (enough_of least sums))
   enough-apart i j d less inside same =
-      let none : Sum = record { rank = 0; last = 0; weight = 0; ended = 0; support = 0; snapshots = 0 } in
+      let none : Sum = record { rank = 0; last = 0; weight = 0; ended = 0; support = 0; snapshots = 0; goes_on = false } in
       let kept : List Sum = filter (reaches least) sums in
       let long : length (map (λ (n : NextRank). n.rank) (map next_of kept)) ≡ length kept =
       length-map (map next_of kept) (λ (n : NextRank). n.rank) ∙ length-map kept next_of in
@@ -68,6 +68,9 @@ module _ (least grid : ℕ) (places : List ℕ) (sums : List Sum) (are : AreSums
   support-is : (sum : Sum) → Contains sums sum → support_of sums sum.rank ≡ sum.support
   support-is sum (k, inside, is) = ap support_in (sum-of grid places sums are k sum (slice_get-get_or sums k sum inside ∙ ap Some is))
 
+  goes-is : (sum : Sum) → Contains sums sum → goes_of sums sum.rank ≡ sum.goes_on
+  goes-is sum (k, inside, is) = ap goes_in (sum-of grid places sums are k sum (slice_get-get_or sums k sum inside ∙ ap Some is))
+
   module _ (found : List NextRank) (moved : IsPermutation (enough_of least sums) found) (sorted : IsNonDecreasingBy (λ (n : NextRank). n.rank) found) where
     pub enough-sorted : AreEnough least sums found
     enough-sorted = record {
@@ -86,8 +89,12 @@ module _ (least grid : ℕ) (places : List ℕ) (sums : List Sum) (are : AreSums
       right = λ next held.
           let (sum, inside, reached, is) = found-next next (Contains-permutation found (enough_of least sums) next (IsPermutation-sym (enough_of least sums) found moved) held) in
           let rank_is : next.rank ≡ sum.rank = ap (λ (n : NextRank). n.rank) is in
-          let weight_is : next.weight ≡ sum.weight = ap (λ (n : NextRank). n.weight) is in
-          (omega arith, ap (weight_of sums) rank_is ∙ weight-is sum inside ∙ sym weight_is, ap (support_of sums) rank_is ∙ support-is sum inside ∙ sym (ap (λ (n : NextRank). n.support) is));
+          let weight_is : next.weight ≡ sum.weight = ap (λ (n : NextRank). n.weight) is in (
+            omega arith,
+            ap (weight_of sums) rank_is ∙ weight-is sum inside ∙ sym weight_is,
+            ap (support_of sums) rank_is ∙ support-is sum inside ∙ sym (ap (λ (n : NextRank). n.support) is),
+            ap (goes_of sums) rank_is ∙ goes-is sum inside ∙ sym (ap (λ (n : NextRank). n.goes_on) is),
+          );
       all = λ rank some reached. by rank some reached (sum_of sums rank) refl;
     }
       where

@@ -17,14 +17,14 @@ use Rattle.snapshot_project.specs.declared.snapshot.Snapshot.{Snapshot}
 use Rattle.snapshot_project.specs.declared.hit.Hit.{Hit}
 use Rattle.snapshot_project.specs.Aims.{sees, goes}
 use Rattle.snapshot_project.specs.Hits.{AreHits, HasHit, HasEnd}
-use Rattle.snapshot_project.specs.Snapshots.{HasSnapshot, WritesOn, ComesBefore, SnapshotList, AreSnapshots}
-use Rattle.snapshot_project.specs.Extensions.{sequences_of, GrowsBehind, GeneratesWithin, IsSupportOf}
+use Rattle.snapshot_project.specs.Snapshots.{HasSnapshot, WritesOn, IsSnapshotOf, IsOpen, ComesBefore, SnapshotList, AreSnapshots}
+use Rattle.snapshot_project.specs.Extensions.{sequences_of, GrowsBehind, GeneratesWithin, IsSupportOf, NothingFollows}
 use Rattle.snapshot_project.specs.Live.{WritesNext, OpensNext, AreSnapshotsOf, IsGroup}
 use Rattle.snapshot_project.proofs.NeedLemmas.{needed-none, needed-longer}
-use Rattle.snapshot_project.proofs.SnapshotLemmas.{snapshot-start}
+use Rattle.snapshot_project.proofs.SnapshotLemmas.{snapshot-start, written-behind}
 use Rattle.snapshot_project.proofs.LiveLemmas.{longer-first, longer-next}
 use Rattle.snapshot_project.proofs.OpenLemmas.{open-goes, writes-begins}
-use Rattle.snapshot_project.proofs.ExtensionLemmas.{grows-next, generates-next, generates-none}
+use Rattle.snapshot_project.proofs.ExtensionLemmas.{ranked-allowed, grows-shorter, grows-next, generates-next, generates-none}
 use Rattle.snapshot_project.proofs.WalkLemmas.{sees-tells}
 
 -- the list without what is said of ranks
@@ -214,20 +214,20 @@ module _ (part : GridList) (whole : IsWhole part.problem) where
 
   module _ (ranks : List ℕ) (list : SnapshotList) (are : AreSnapshots part ranks list) (w : Item) (rank : ℕ)
       (has : HasRank part.problem.ranking.order w rank) (few : rank ≤ part.bound.top) where
-    opens-from : (i position state : ℕ) → HasSnapshot part.problem part.bound (items_of part.problem i) (are.prefix ++ w ∷ []) position state
-        → WritesOn part.problem part.bound (are.prefix ++ w ∷ []) (drop position (items_of part.problem i)) state
-        → OpensNext part.problem part.bound (items_of part.problem i) are.prefix list.seen rank position state
-    opens-from i zero state at on = absurd (longer-first part.problem whole part.bound (items_of part.problem i) are.prefix w state at)
-    opens-from i (suc before) state at on =
+    opens-from : (items : List Item) (position state : ℕ) → HasSnapshot part.problem part.bound items (are.prefix ++ w ∷ []) position state
+        → WritesOn part.problem part.bound (are.prefix ++ w ∷ []) (drop position items) state
+        → OpensNext part.problem part.bound items are.prefix list.seen rank position state
+    opens-from items zero state at on = absurd (longer-first part.problem whole part.bound items are.prefix w state at)
+    opens-from items (suc before) state at on =
         let is : suc before ≡ before + 1 = omega arith in
         let tells = sees-tells (HoldsNeeded part.problem.ranking part.bound.need are.prefix) part.bound.need list.seen rank are.seen in
         let longer = needed-longer part.problem whole part.bound.need are.prefix w rank has in (
           before,
           is,
-          (longer-next part.problem whole part.bound (items_of part.problem i) are.prefix w rank has few before state).0
-              (subst (λ (k : ℕ). HasSnapshot part.problem part.bound (items_of part.problem i) (are.prefix ++ w ∷ []) k state) is at),
+          (longer-next part.problem whole part.bound items are.prefix w rank has few before state).0
+              (subst (λ (k : ℕ). HasSnapshot part.problem part.bound items (are.prefix ++ w ∷ []) k state) is at),
           open-goes part.problem part.bound (are.prefix ++ w ∷ []) (sees list.seen part.bound.need rank)
-              ((λ seen. longer.1 (tells.0 seen)), (λ holds. tells.1 (longer.0 holds))) (drop (suc before) (items_of part.problem i)) state on,
+              ((λ seen. longer.1 (tells.0 seen)), (λ holds. tells.1 (longer.0 holds))) (drop (suc before) items) state on,
         )
 
     opens-to : (i position state : ℕ) → OpensNext part.problem part.bound (items_of part.problem i) are.prefix list.seen rank position state
@@ -236,13 +236,13 @@ module _ (part : GridList) (whole : IsWhole part.problem) where
         subst (λ (k : ℕ). HasSnapshot part.problem part.bound (items_of part.problem i) (are.prefix ++ w ∷ []) k state) (sym is)
         ((longer-next part.problem whole part.bound (items_of part.problem i) are.prefix w rank has few before state).1 writes)
 
-    -- the snapshots of a prefix that is longer by one rank
-    pub snapshots-longer : (longer : SnapshotList) → longer.seen ≡ sees list.seen part.bound.need rank → IsSupportOf part (ranks ++ rank ∷ []) longer.support
+    snapshots-by : (longer : SnapshotList) → longer.seen ≡ sees list.seen part.bound.need rank → IsSupportOf part (ranks ++ rank ∷ []) longer.support
         → AllPairs ComesBefore longer.snapshots
-        → ((snapshot : Snapshot) → Contains longer.snapshots snapshot ↔ (Contains part.sequences snapshot.sequence
-        × OpensNext part.problem part.bound (items_of part.problem snapshot.sequence) are.prefix list.seen rank snapshot.position snapshot.state))
+        → ((snapshot : Snapshot) → Contains longer.snapshots snapshot → IsSnapshotOf part (are.prefix ++ w ∷ []) snapshot)
+        → ((snapshot : Snapshot) → IsSnapshotOf part (are.prefix ++ w ∷ []) snapshot → IsOpen part (are.prefix ++ w ∷ []) snapshot
+        → Contains longer.snapshots snapshot)
         → AreSnapshots part (ranks ++ rank ∷ []) longer
-    snapshots-longer longer says support rising exact =
+    snapshots-by longer says support rising right all =
         let tells = sees-tells (HoldsNeeded part.problem.ranking part.bound.need are.prefix) part.bound.need list.seen rank are.seen in
         let holds = needed-longer part.problem whole part.bound.need are.prefix w rank has in
         record {
@@ -251,14 +251,41 @@ module _ (part : GridList) (whole : IsWhole part.problem) where
           top = of_both (λ rank. rank ≤ part.bound.top) ranks (rank ∷ []) are.top (few, tt);
           seen = ((λ seen. holds.1 (tells.0 (sym says ∙ seen))), (λ needed. says ∙ tells.1 (holds.0 needed)));
           rising = rising;
-          right = λ snapshot held.
-              let (known, opens) = (exact snapshot).0 held in
-              (known, opens-to snapshot.sequence snapshot.position snapshot.state opens);
-          all = λ snapshot is on.
-              let (known, at) = is in
-              (exact snapshot).1 (known, opens-from snapshot.sequence snapshot.position snapshot.state at on);
+          right = right;
+          all = all;
           support = support;
         }
+
+    -- the snapshots of a prefix that is longer by one rank
+    pub snapshots-longer : (longer : SnapshotList) → longer.seen ≡ sees list.seen part.bound.need rank → IsSupportOf part (ranks ++ rank ∷ []) longer.support
+        → AllPairs ComesBefore longer.snapshots
+        → ((snapshot : Snapshot) → Contains longer.snapshots snapshot ↔ (Contains part.sequences snapshot.sequence
+        × OpensNext part.problem part.bound (items_of part.problem snapshot.sequence) are.prefix list.seen rank snapshot.position snapshot.state))
+        → AreSnapshots part (ranks ++ rank ∷ []) longer
+    snapshots-longer longer says support rising exact = snapshots-by longer says support rising
+        (λ snapshot held.
+        let (known, opens) = (exact snapshot).0 held in
+        (known, opens-to snapshot.sequence snapshot.position snapshot.state opens))
+        (λ snapshot (known, at) on.
+        (exact snapshot).1 (known, opens-from (items_of part.problem snapshot.sequence) snapshot.position snapshot.state at on))
+
+    -- a longer prefix that nothing follows
+    pub snapshots-last : (longer : SnapshotList) → longer.seen ≡ sees list.seen part.bound.need rank → IsSupportOf part (ranks ++ rank ∷ []) longer.support
+        → longer.snapshots ≡ [] → NothingFollows part (ranks ++ rank ∷ []) → AreSnapshots part (ranks ++ rank ∷ []) longer
+    snapshots-last longer says support none nothing = snapshots-by longer says support
+        (subst (AllPairs ComesBefore) (sym none) (λ i j d less inside. absurd (omega (arith, inside))))
+        (λ snapshot held. absurd (Contains-none snapshot (subst (λ (l : List Snapshot). Contains l snapshot) none held)))
+        (λ snapshot (known, at) on.
+        let ranked = ranked-push part.problem.ranking.order are.prefix ranks w rank are.ranked has in
+        let top = of_both (λ rank. rank ≤ part.bound.top) ranks (rank ∷ []) are.top (few, tt) in
+        let allowed = ranked-allowed part.problem.ranking part.bound (are.prefix ++ w ∷ []) (ranks ++ rank ∷ []) ranked top in
+        let (v, (other, others, within), behind) =
+        written-behind part.problem part.bound whole (items_of part.problem snapshot.sequence) (are.prefix ++ w ∷ []) allowed snapshot.position snapshot.state at on in
+        absurd (nothing snapshot.sequence other known (
+          (are.prefix ++ w ∷ []) ++ v ∷ [],
+          ranked-push part.problem.ranking.order (are.prefix ++ w ∷ []) (ranks ++ rank ∷ []) v other ranked others,
+          behind,
+        )))
 
     -- a longer prefix from all of whose snapshots paths can only end
     pub snapshots-ended : (support : ℕ) → IsSupportOf part (ranks ++ rank ∷ []) support
@@ -272,3 +299,18 @@ module _ (part : GridList) (whole : IsWhole part.problem) where
           (λ held. absurd (Contains-none snapshot held)),
           (λ (known, opens). absurd (none snapshot.sequence snapshot.position snapshot.state known opens)),
         ))
+
+  -- where more follows a prefix with a rank, a hit of the rank writes on
+  pub follows-hit : (ranks : List ℕ) (list : SnapshotList) (are : AreSnapshots part ranks list) (items : List Item) (hits : List Hit)
+      (found : AreHits part.problem part.bound items are.prefix list.seen hits) (rank other : ℕ)
+      → GrowsBehind part ((ranks ++ rank ∷ []) ++ other ∷ []) items → (hit : Hit) × Contains hits hit × (hit.rank ≡ rank) × IsTrue hit.writes_on
+  follows-hit ranks list are items hits found rank other grows =
+      let (first, from, writes) = (grows-next part whole are.prefix ranks are.ranked are.top items rank).0 (grows-shorter part whole (ranks ++ rank ∷ []) (other ∷ []) items grows) in
+      let (t, before, here, live, leads, (w, has, few, reads), completes) = writes in
+      let ranked = ranked-push part.problem.ranking.order are.prefix ranks w rank are.ranked has in
+      let top = of_both (λ rank. rank ≤ part.bound.top) ranks (rank ∷ []) are.top (few, tt) in
+      let (place, next, more) = (grows-next part whole (are.prefix ++ w ∷ []) (ranks ++ rank ∷ []) ranked top items other).0 grows in
+      let (start, state, early, snapshot, on) = writes-begins part.problem whole part.bound items (are.prefix ++ w ∷ []) other place next more in
+      let opens = opens-from ranks list are w rank has few items start state snapshot on in
+      let (hit, held, rank_is, mark, position_is, state_is) = (opens-hit ranks list are items hits found rank start state).0 opens in
+      (hit, held, rank_is, mark)

@@ -1,5 +1,5 @@
 -- The snapshots of a prefix that is longer by one rank, found group by group.
-use Rattle.std.proofs.Common.{◌≡◌, ◌≢◌, ℕ, ◌+◌, ◌-◌, ◌≤◌, ◌<◌, Bool, Option, Some, List, [], ◌∷◌, ◌++◌, map, length, refl, sym, ap, ◌∙◌, subst, arith}
+use Rattle.std.proofs.Common.{false, ◌≡◌, ◌≢◌, ℕ, ◌+◌, ◌-◌, ◌≤◌, ◌<◌, Bool, Option, Some, List, [], ◌∷◌, ◌++◌, map, length, refl, sym, ap, ◌∙◌, subst, arith}
 use Rattle.std.specs.List.{Contains, slice_get, slice_index, slice_range}
 use Rattle.std.proofs.lemmas.Option.{slice_get_within, same_Some}
 use Rattle.mine_model.specs.declared.item.Item.{Item}
@@ -12,13 +12,13 @@ use Rattle.snapshot_project.specs.declared.snapshot.Snapshot.{Snapshot}
 use Rattle.snapshot_project.specs.declared.grouping.Group.{Group}
 use Rattle.snapshot_project.specs.Snapshots.{IsPart, SnapshotList, AreSnapshots}
 use Rattle.snapshot_project.specs.Live.{WritesNext, OpensNext, AreSnapshotsOf}
-use Rattle.snapshot_project.specs.Extensions.{IsSupportOf}
+use Rattle.snapshot_project.specs.Extensions.{IsSupportOf, IsTold}
 use Rattle.snapshot_project.specs.Aims.{sees}
 use Rattle.snapshot_project.specs.Hits.{AreInOrder, AreHits}
 use Rattle.snapshot_project.specs.Groups.{IsNextGroup, AreRead}
 use Rattle.snapshot_project.specs.Walks.{AreGroupOf}
 use Rattle.snapshot_project.specs.Files.{empty_for, filed, with_more, AreFiled}
-use Rattle.snapshot_project.proofs.ListedLemmas.{snapshots-of, writes-listed, opens-hit, snapshots-longer}
+use Rattle.snapshot_project.proofs.ListedLemmas.{snapshots-of, writes-listed, opens-hit, snapshots-longer, snapshots-last}
 use Rattle.snapshot_project.proofs.ReadLemmas.{read-passed, read-sequence, read-walk, read-all}
 use Rattle.snapshot_project.proofs.FileLemmas.{mapped-from}
 use Rattle.snapshot_project.proofs.FoundLemmas.{AreFoundBefore, found-none, found-more, found-all, filed-rising, filed-held}
@@ -155,3 +155,13 @@ module _ (number : ℕ) (next : List NextRank) (hits : List Hit) (before after :
       let (old, at_old) = before-filed next before long k n at_n in
       let same : with_more old (filed number n.rank hits) ≡ list = same_Some (with_more old (filed number n.rank hits)) list (sym (all k n old at_n at_old) ∙ at_list) in
       subst (λ (l : SnapshotList). AreFoundBefore part (IsLonger part prefix seen n.rank) more l.snapshots) same (step n.rank old.snapshots (found k n old at_n at_old))
+
+-- where nothing follows a prefix with a rank, the list that is still empty is whole
+pub longer-last : (part : GridList) → IsPart part → (ranks : List ℕ) (list : SnapshotList) → AreSnapshots part ranks list → (next : List NextRank)
+    → (i : ℕ) (n : NextRank) (longer : SnapshotList) → slice_get next i ≡ Some n → slice_get (map (empty_for list.seen part.bound.need) next) i ≡ Some longer
+    → 1 ≤ n.rank → n.rank ≤ part.bound.top → IsTold part ranks n → n.goes_on ≡ false → AreSnapshots part (ranks ++ n.rank ∷ []) longer
+longer-last part is ranks list are next i n longer at_n at_list least most (support, ends) off =
+    let few : part.bound.top ≤ length part.problem.ranking.order = is.top in
+    let (w, place) = get-some part.problem.ranking.order (n.rank - 1) (omega arith) in
+    subst (AreSnapshots part (ranks ++ n.rank ∷ [])) (empty-is list.seen part.bound.need next i n longer at_n at_list)
+    (snapshots-last part is.whole ranks list are w n.rank (record { least = least; place = place }) most (empty_for list.seen part.bound.need n) refl support refl (ends off))

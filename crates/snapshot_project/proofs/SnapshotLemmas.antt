@@ -16,7 +16,7 @@ use Rattle.fst_simulate.specs.Problems.{Problem, IsWhole, data_of}
 use Rattle.fst_simulate.specs.Grids.{IsAllowed, HoldsNeeded, Completes, Ends}
 use Rattle.fst_simulate.proofs.KindLemmas.{nil-not-cons}
 use Rattle.snapshot_project.specs.Runs.{Runs, IsRun}
-use Rattle.snapshot_project.specs.Snapshots.{IsReached, CompletesBehind, IsSnapshotAt, HasSnapshot}
+use Rattle.snapshot_project.specs.Snapshots.{IsReached, CompletesBehind, IsSnapshotAt, HasSnapshot, WritesOn}
 use Rattle.snapshot_project.proofs.RunLemmas.{step-state, step-run, path-runs, runs-path, runs-join, runs-cut_behind}
 use Rattle.snapshot_project.proofs.NeedLemmas.{needed-none, needed-append, needed-decided, needed-within, completes-behind}
 
@@ -145,6 +145,26 @@ module _ (problem : Problem) where
             (of_both (IsAllowed problem.ranking bound) prefix output allowed rest_allowed)
             ((needed-append problem.ranking bound.need prefix output).1 (elim met [ inl before ↦ inl (says.0 before) | inr behind ↦ inr behind ])) in
             (output, pattern, within)
+
+        -- from where more can be written the items have a pattern that is longer
+        pub written-behind : (position state : ℕ) → HasSnapshot problem bound items prefix position state
+            → WritesOn problem bound prefix (drop position items) state
+            → (v : Item) × IsAllowed problem.ranking bound v
+            × HasPatternBehind (data_of problem) (IsWithin problem.ranking.order bound.top bound.need) (prefix ++ v ∷ []) items
+        written-behind position state (inside, (reached, completes)) (v, more, path, more_allowed, holds) =
+            let (pattern, within) =
+            pattern-from (prefix ++ v ∷ more)
+            (at-items position (prefix ++ v ∷ more) (place-path (take position items) prefix state (drop position items) (v ∷ more) reached path))
+            (of_both (IsAllowed problem.ranking bound) prefix (v ∷ more) allowed more_allowed) holds in
+            let e : prefix ++ v ∷ more ≡ (prefix ++ v ∷ []) ++ more = sym (append_assoc prefix (v ∷ []) more) in (
+              v,
+              more_allowed.0,
+              (
+                more,
+                subst (IsPatternOf problem.hierarchy.links (tree_of problem.machine.expression) items) e pattern,
+                subst (IsWithin problem.ranking.order bound.top bound.need) e within,
+              ),
+            )
 
         from-pattern : HasPatternBehind (data_of problem) (IsWithin problem.ranking.order bound.top bound.need) prefix items
             → (position : ℕ) × (state : ℕ) × HasSnapshot problem bound items prefix position state

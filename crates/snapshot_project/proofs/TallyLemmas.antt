@@ -1,5 +1,5 @@
 -- Weights by rank, while sequences are counted.
-use Rattle.std.proofs.Common.{true, false, IsTrue, true≢false, ◌≡◌, ◌≢◌, ℕ, zero, suc, ◌+◌, ◌*◌, ◌≤◌, ◌<◌, ◌⊎◌, inl, inr, Option, Some, None, List, [], ◌∷◌, ◌++◌, length, set, Bool, cond, eqb, refl, sym, ap, ◌∙◌, subst, arith}
+use Rattle.std.proofs.Common.{true, false, IsTrue, true≢false, ◌≡◌, ◌≢◌, ℕ, zero, suc, ◌+◌, ◌*◌, ◌≤◌, ◌<◌, ◌⊎◌, inl, inr, Option, Some, None, List, [], ◌∷◌, ◌++◌, length, set, Bool, cond, eqb, ◌||◌, refl, sym, ap, ◌∙◌, subst, arith}
 use Rattle.std.specs.List.{Contains, slice_get, slice_index}
 use Rattle.std.proofs.lemmas.Bool.{eq-eqb, ne_eqb, cases_eq}
 use Rattle.std.proofs.lemmas.List.{get_or-set_same, get_or-set_other}
@@ -11,7 +11,7 @@ use Rattle.mine_model.proofs.ElementLemmas.{get-held, get_set_same, get_set_othe
 use Rattle.snapshot_project.specs.declared.counting.Sum.{Sum}
 use Rattle.snapshot_project.specs.declared.hit.Hit.{Hit}
 use Rattle.snapshot_project.specs.Hits.{HasHit, HasEnd}
-use Rattle.snapshot_project.specs.Sums.{sum_of, weight_in, weight_of, support_in, support_of, ended_in, ended_of, AreSums, Adds, AddsSupport, IsAdded, AreAdded, HaveAdded}
+use Rattle.snapshot_project.specs.Sums.{sum_of, weight_in, weight_of, support_in, support_of, ended_in, ended_of, goes_in, goes_of, AreSums, Adds, AddsSupport, IsAdded, StopBy, AreAdded, HaveAdded}
 
 sum-here : (sum : Sum) (sums : List Sum) (rank : ℕ) → sum.rank ≡ rank → sum_of (sum ∷ sums) rank ≡ Some sum
 sum-here sum sums rank same = ap (λ (b : Bool). cond b (Some sum) (sum_of sums rank)) (eq-eqb sum.rank rank same)
@@ -111,7 +111,8 @@ adds-small true grid weight ended support now few small (is, inr (early, grows))
 
 module _ (grid : ℕ) (places : List ℕ) (sums : List Sum) (are : AreSums (grid + 1) places sums) (rank weight : ℕ) (few : weight ≤ most_weight) where
   module _ (place : ℕ) (sum again : Sum) (at : slice_get sums place ≡ Some sum) (has : sum.rank ≡ rank) (rank_is : again.rank ≡ sum.rank)
-      (last_is : again.last ≡ grid) (adds : Adds grid weight (Some sum) again.weight) (ends : Bool) (supports : AddsSupport ends grid weight sum.ended sum.support again) where
+      (last_is : again.last ≡ grid) (adds : Adds grid weight (Some sum) again.weight) (ends : Bool) (supports : AddsSupport ends grid weight sum.ended sum.support again)
+      (on : Bool) (goes : again.goes_on ≡ (sum.goes_on || on)) where
     held : Contains sums sum
     held = get-held sums place sum at
 
@@ -171,7 +172,7 @@ module _ (grid : ℕ) (places : List ℕ) (sums : List Sum) (are : AreSums (grid
     was : sum_of sums rank ≡ Some sum
     was = subst (λ (r : ℕ). sum_of sums r ≡ Some sum) has (sum-of (grid + 1) places sums are place sum at)
 
-    pub again-added : IsAdded rank ends grid weight sums (set sums place again)
+    pub again-added : IsAdded rank ends on grid weight sums (set sums place again)
     again-added = record {
       sum = again;
       this =
@@ -180,12 +181,13 @@ module _ (grid : ℕ) (places : List ℕ) (sums : List Sum) (are : AreSums (grid
       last = last_is;
       weight_is = subst (λ (o : Option Sum). Adds grid weight o again.weight) (sym was) adds;
       support_is = subst (λ (o : Option Sum). AddsSupport ends grid weight (ended_in o) (support_in o) again) (sym was) supports;
+      goes_is = subst (λ (o : Option Sum). again.goes_on ≡ (goes_in o || on)) (sym was) goes;
       others = λ other apart. sum-set sums place sum again other at (sym rank_is) (λ e. apart (sym e ∙ rank_is ∙ has));
     }
 
   module _ (room : rank < length places) (none : (k : ℕ) (sum : Sum) → slice_get sums k ≡ Some sum → k ≡ slice_index places rank → sum.rank ≢ rank)
       (sum : Sum) (rank_is : sum.rank ≡ rank) (last_is : sum.last ≡ grid) (weight_is : sum.weight ≡ weight) (ends : Bool)
-      (supports : AddsSupport ends grid weight 0 0 sum) (place : ℕ) (place_is : place ≡ length sums) where
+      (supports : AddsSupport ends grid weight 0 0 sum) (on : Bool) (goes : sum.goes_on ≡ on) (place : ℕ) (place_is : place ≡ length sums) where
     apart : (k : ℕ) (old : Sum) → slice_get sums k ≡ Some old → old.rank ≢ rank
     apart k old at = λ same. none k old at (sym (are.placed k old at) ∙ ap (slice_index places) same) same
 
@@ -218,23 +220,29 @@ module _ (grid : ℕ) (places : List ℕ) (sums : List Sum) (are : AreSums (grid
       ];
     }
 
-    pub first-added : IsAdded rank ends grid weight sums (sums ++ sum ∷ [])
+    pub first-added : IsAdded rank ends on grid weight sums (sums ++ sum ∷ [])
     first-added = record {
       sum = sum;
       this = sum-last sums sum rank missing rank_is;
       last = last_is;
       weight_is = subst (λ (o : Option Sum). Adds grid weight o sum.weight) (sym missing) weight_is;
       support_is = subst (λ (o : Option Sum). AddsSupport ends grid weight (ended_in o) (support_in o) sum) (sym missing) supports;
+      goes_is = subst (λ (o : Option Sum). sum.goes_on ≡ (goes_in o || on)) (sym missing) goes;
       others = λ other off. sum-before sums sum other (λ e. off (sym e ∙ rank_is));
     }
 
 -- ---- the hits of one sequence
+
+neither : (one other : Bool) → (one || other) ≡ false → (one ≡ false) × (other ≡ false)
+neither false other off = (refl, off)
+neither true other off = absurd (true≢false off)
 
 module _ (grid weight : ℕ) (before : List Sum) where
   pub added-none : HaveAdded [] grid weight before before
   added-none = record {
     weights = λ rank. inr ((λ (hit, held, has). Contains-none hit held), refl);
     supports = λ rank. inr ((λ (hit, held, has, ends). Contains-none hit held), refl, refl);
+    stops = λ rank off. (off, (λ hit held has. absurd (Contains-none hit held)));
   }
 
   hit-last : (hits : List Hit) (hit : Hit) (rank : ℕ) → hit.rank ≡ rank → HasHit (hits ++ hit ∷ []) rank
@@ -275,7 +283,7 @@ module _ (grid weight : ℕ) (before : List Sum) where
       | inr (no', same) ↦ met-first rank added.weight (sum_of before rank) refl (subst (λ (o : Option Sum). Adds grid weight o added.weight) same adds)
     ]
 
-    weights-more : (now after : List Sum) (hits : List Hit) (hit : Hit) → HaveAdded hits grid weight before now → IsAdded hit.rank hit.ends grid weight now after → (rank : ℕ)
+    weights-more : (now after : List Sum) (hits : List Hit) (hit : Hit) → HaveAdded hits grid weight before now → IsAdded hit.rank hit.ends hit.writes_on grid weight now after → (rank : ℕ)
         → (HasHit (hits ++ hit ∷ []) rank
         × ((sum : Sum) × (sum_of after rank ≡ Some sum) × (sum.last ≡ grid) × (sum.weight ≡ weight_of before rank + weight)))
         ⊎ ((HasHit (hits ++ hit ∷ []) rank → ⊥) × (sum_of after rank ≡ sum_of before rank))
@@ -324,7 +332,7 @@ module _ (grid weight : ℕ) (before : List Sum) where
           ],
         )
 
-    supports-more : (now after : List Sum) (hits : List Hit) (hit : Hit) → HaveAdded hits grid weight before now → IsAdded hit.rank hit.ends grid weight now after → (rank : ℕ)
+    supports-more : (now after : List Sum) (hits : List Hit) (hit : Hit) → HaveAdded hits grid weight before now → IsAdded hit.rank hit.ends hit.writes_on grid weight now after → (rank : ℕ)
         → (HasEnd (hits ++ hit ∷ []) rank × (ended_of after rank ≡ grid + 1) × (support_of after rank ≡ support_of before rank + weight))
         ⊎ ((HasEnd (hits ++ hit ∷ []) rank → ⊥) × (ended_of after rank ≡ ended_of before rank) × (support_of after rank ≡ support_of before rank))
     supports-more now after hits hit have added rank = elim (cases_eq rank hit.rank) [
@@ -355,10 +363,38 @@ module _ (grid weight : ℕ) (before : List Sum) where
           ]
     ]
 
-    pub added-more : (now after : List Sum) (hits : List Hit) (hit : Hit) → HaveAdded hits grid weight before now → IsAdded hit.rank hit.ends grid weight now after
+    stops-more : (now after : List Sum) (hits : List Hit) (hit : Hit) → HaveAdded hits grid weight before now → IsAdded hit.rank hit.ends hit.writes_on grid weight now after
+        → StopBy (hits ++ hit ∷ []) before after
+    stops-more now after hits hit have added rank off = elim (cases_eq rank hit.rank) [
+      | inl same ↦
+          let this : goes_of after rank ≡ added.sum.goes_on = ap goes_in (ap (sum_of after) same ∙ added.this) in
+          let both : (goes_of now hit.rank || hit.writes_on) ≡ false = sym added.goes_is ∙ sym this ∙ off in
+          let (old, new) = neither (goes_of now hit.rank) hit.writes_on both in
+          let (early, none) = have.stops rank (ap (goes_of now) same ∙ old) in (
+            early,
+            (λ other held has. elim (Contains-push_cases hits hit other held) [
+              | inl stands ↦ none other stands has
+              | inr one ↦ ap (λ (h : Hit). h.writes_on) (sym one) ∙ new
+            ]),
+          )
+      | inr apart ↦
+          let (early, none) = have.stops rank (ap goes_in (sym (added.others rank apart)) ∙ off) in (
+            early,
+            (λ other held has. elim (Contains-push_cases hits hit other held) [
+              | inl stands ↦ none other stands has
+              | inr one ↦ absurd (apart (sym has ∙ sym (ap (λ (h : Hit). h.rank) one)))
+            ]),
+          )
+    ]
+
+    pub added-more : (now after : List Sum) (hits : List Hit) (hit : Hit) → HaveAdded hits grid weight before now → IsAdded hit.rank hit.ends hit.writes_on grid weight now after
         → HaveAdded (hits ++ hit ∷ []) grid weight before after
     added-more now after hits hit have added =
-        record { weights = weights-more now after hits hit have added; supports = supports-more now after hits hit have added }
+        record {
+          weights = weights-more now after hits hit have added;
+          supports = supports-more now after hits hit have added;
+          stops = stops-more now after hits hit have added;
+        }
 
   pub added-all : (now : List Sum) (hits : List Hit) → HaveAdded hits grid weight before now → AreAdded hits weight before now
   added-all now hits have = record {
@@ -370,6 +406,7 @@ module _ (grid weight : ℕ) (before : List Sum) where
       | inl (has, is, w) ↦ inl (has, w)
       | inr (no', is, w) ↦ inr (no', w)
     ];
+    stops = have.stops;
   }
 
 -- sums of earlier sequences were not met in this one

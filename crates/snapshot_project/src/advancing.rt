@@ -1,9 +1,9 @@
 //! The snapshots of the prefixes that are longer by one.
 
-ghost use Rattle.std.specs.Prelude.{◌≡◌, ℕ, ◌≤◌, ◌<◌, List, [], ◌∷◌, ◌++◌, length, map, All, AllPairs, IfOk, OnOk, Some, slice_get};
+ghost use Rattle.std.specs.Prelude.{◌≡◌, ◌↔◌, ℕ, ◌≤◌, ◌<◌, List, [], ◌∷◌, ◌++◌, length, map, All, AllPairs, Contains, IsTrue, IfOk, OnOk, Some, slice_get};
 ghost use Rattle.snapshot_project.specs.declared.next_rank.NextRank.{NextRank as Next};
 ghost use Rattle.snapshot_project.specs.Snapshots.{SnapshotList, AreSnapshots};
-ghost use Rattle.snapshot_project.specs.Extensions.{IsSupportOf};
+ghost use Rattle.snapshot_project.specs.Extensions.{IsTold};
 ghost use Rattle.snapshot_project.specs.Sums.{ArePlaced};
 ghost use Rattle.snapshot_project.specs.Files.{empty_for};
 
@@ -71,8 +71,8 @@ pub fn advance_all(
     ensures all { IfOk result (λ longer. length longer.items ≡ length next.now) }
     ensures each { IfOk result (λ longer. (ranks : List ℕ) → AreSnapshots part.now ranks snapshots.now
         → (i : ℕ) (n : Next) (list : SnapshotList) → slice_get next.now i ≡ Some n
-        → IsSupportOf part.now (ranks ++ n.rank ∷ []) n.support
-        → slice_get longer.items i ≡ Some list → AreSnapshots part.now (ranks ++ n.rank ∷ []) list) }
+        → IsTold part.now ranks n → slice_get longer.items i ≡ Some list
+        → AreSnapshots part.now (ranks ++ n.rank ∷ []) list) }
 {
     // Nothing follows a leaf, so no walk is made.
     if next.is_empty() {
@@ -80,8 +80,12 @@ pub fn advance_all(
     }
     // Its contract also says that the ranks up to the top have room.
     let need = part.need();
-    place_ranks(next, &mut room.places)?;
     let mut longer = empty_lists(alloc, next, snapshots.seen(), need)?;
+    // Nor where nothing follows the longer prefixes.
+    if !goes_on(next) {
+        return Ok(longer);
+    }
+    place_ranks(next, &mut room.places)?;
     fill_lists(
         part,
         snapshots,
@@ -113,6 +117,18 @@ fn empty_lists(
     Ok(lists)
 }
 
+/// Whether more can follow a prefix with one of these ranks.
+fn goes_on(next: &[NextRank]) -> bool
+    ensures { IsTrue result ↔ ((n : Next) × Contains next.now n × IsTrue n.goes_on) }
+{
+    for n in next {
+        if n.goes_on {
+            return true;
+        }
+    }
+    false
+}
+
 /// Fills the lists of these ranks.
 fn fill_lists(
     part: &Part,
@@ -130,8 +146,8 @@ fn fill_lists(
     ensures all { OnOk result (length longer.new.items ≡ length next.now) }
     ensures each { OnOk result ((ranks : List ℕ) → AreSnapshots part.now ranks snapshots.now
         → (i : ℕ) (n : Next) (list : SnapshotList) → slice_get next.now i ≡ Some n
-        → IsSupportOf part.now (ranks ++ n.rank ∷ []) n.support
-        → slice_get longer.new.items i ≡ Some list → AreSnapshots part.now (ranks ++ n.rank ∷ []) list) }
+        → IsTold part.now ranks n → slice_get longer.new.items i ≡ Some list
+        → AreSnapshots part.now (ranks ++ n.rank ∷ []) list) }
 {
     let mut read = 0;
     let mut grid = 0;

@@ -1,6 +1,6 @@
 //! Weights by rank, each sequence counted once.
 
-ghost use Rattle.std.specs.Prelude.{◌≡◌, ℕ, ◌+◌, ◌*◌, ◌^◌, ◌≤◌, ◌<◌, length, Some, All, IfOk, OnOk};
+ghost use Rattle.std.specs.Prelude.{◌≡◌, ℕ, ◌+◌, ◌*◌, ◌^◌, ◌≤◌, ◌<◌, ◌||◌, length, Some, All, IfOk, OnOk};
 ghost use Rattle.mine_model.specs.Limits.{most_sequences, most_weight};
 ghost use Rattle.snapshot_project.specs.Hits.{HasHit};
 ghost use Rattle.snapshot_project.specs.Sums.{AreSums, AreAdded, IsAdded, Adds, AddsSupport};
@@ -9,13 +9,15 @@ use super::hit::Hit;
 use mine_model::NoMemory;
 
 /// What a rank weighs in the sequences up to the grid of the last one that it was met in; what it weighs in
-/// the sequences before a grid in which a hit of it ends; and how many of its hits write on.
+/// the sequences before a grid in which a hit of it ends; how many of its hits write on, and whether one
+/// does.
 #[derive(Clone, Copy, Debug)]
 pub(crate) struct Sum {
     pub(crate) rank: u32,
     pub(crate) last: u32,
     pub(crate) weight: u64,
     pub(crate) ended: u32,
+    pub(crate) goes_on: bool,
     pub(crate) support: u64,
     pub(crate) snapshots: usize,
 }
@@ -56,7 +58,8 @@ fn add_hit(
     requires sums { AreSums (grid + 1) places.old.items sums.old.items }
     ensures room { length places.new.items ≡ length places.old.items }
     ensures sums { OnOk result (AreSums (grid + 1) places.new.items sums.new.items) }
-    ensures added { OnOk result (IsAdded hit.rank hit.ends grid weight sums.old.items sums.new.items) }
+    ensures added { OnOk result
+        (IsAdded hit.rank hit.ends hit.writes_on grid weight sums.old.items sums.new.items) }
 {
     let place = places[hit.rank as usize] as usize;
     if place < sums.len() {
@@ -79,6 +82,7 @@ fn met_first(hit: Hit, grid: u32, weight: u64) -> Sum
     ensures last { result.last ≡ grid }
     ensures weight { result.weight ≡ weight }
     ensures support { AddsSupport hit.ends grid weight 0 0 result }
+    ensures goes_on { result.goes_on ≡ hit.writes_on }
 {
     Sum {
         rank: hit.rank,
@@ -87,6 +91,7 @@ fn met_first(hit: Hit, grid: u32, weight: u64) -> Sum
         ended: if hit.ends { grid + 1 } else { 0 },
         support: if hit.ends { weight } else { 0 },
         snapshots: hit.writes_on as usize,
+        goes_on: hit.writes_on,
     }
 }
 
@@ -101,9 +106,11 @@ fn met_again(sum: Sum, hit: Hit, grid: u32, weight: u64) -> Sum
     ensures last { result.last ≡ grid }
     ensures weight { Adds grid weight (Some sum) result.weight }
     ensures support { AddsSupport hit.ends grid weight sum.ended sum.support result }
+    ensures goes_on { result.goes_on ≡ (sum.goes_on || hit.writes_on) }
 {
     let mut now = sum;
     now.snapshots = now.snapshots.wrapping_add(hit.writes_on as usize);
+    now.goes_on = sum.goes_on || hit.writes_on;
     if sum.last != grid {
         now.last = grid;
         now.weight += weight;

@@ -1,11 +1,11 @@
 //! What may follow a prefix.
 
-ghost use Rattle.std.specs.Prelude.{◌≡◌, ℕ, ◌-◌, ◌≤◌, ◌<◌, List, [], ◌∷◌, ◌++◌, length, AllPairs, Contains, IfOk, OnOk};
+ghost use Rattle.std.specs.Prelude.{◌≡◌, ℕ, ◌-◌, ◌≤◌, ◌<◌, List, [], ◌∷◌, ◌++◌, false, length, AllPairs, Contains, IfOk, OnOk};
 ghost use Rattle.mine_model.specs.Support.{Counts};
 ghost use Rattle.snapshot_project.specs.declared.next_rank.NextRank.{NextRank as Next};
 ghost use Rattle.snapshot_project.specs.Snapshots.{AreSnapshots};
-ghost use Rattle.snapshot_project.specs.Extensions.{AreNextRanks, CanFollow, IsSupportOf};
-ghost use Rattle.snapshot_project.specs.Sums.{AreSums, AreEnough, weight_of, support_of};
+ghost use Rattle.snapshot_project.specs.Extensions.{AreNextRanks, CanFollow, IsSupportOf, NothingFollows};
+ghost use Rattle.snapshot_project.specs.Sums.{AreSums, AreEnough, weight_of, support_of, goes_of};
 
 use super::counting::{Sum, add_hits};
 use super::grouping::next_group;
@@ -19,7 +19,7 @@ use mine_model::NoMemory;
 use std::alloc::Global;
 
 /// The ranks that can follow in sequences that weigh at least `least`, rising, with the supports of the
-/// prefix with each of them.
+/// prefix with each of them, and where nothing follows that.
 pub fn next_ranks(
     alloc: Global,
     part: &Part,
@@ -44,7 +44,7 @@ pub fn next_ranks(
 }
 
 /// Sums up by rank what the sequences weigh in which the rank can follow, and those that generate the prefix
-/// with it.
+/// with it, and whether more can follow that.
 fn count(
     part: &Part,
     snapshots: &Snapshots,
@@ -59,6 +59,9 @@ fn count(
         → (rank : ℕ) → CanFollow part.now ranks rank (weight_of sums.new.items rank)) }
     ensures supports { OnOk result ((ranks : List ℕ) → AreSnapshots part.now ranks snapshots.now
         → (rank : ℕ) → IsSupportOf part.now (ranks ++ rank ∷ []) (support_of sums.new.items rank)) }
+    ensures ends { OnOk result ((ranks : List ℕ) → AreSnapshots part.now ranks snapshots.now
+        → (rank : ℕ) → goes_of sums.new.items rank ≡ false
+        → NothingFollows part.now (ranks ++ rank ∷ [])) }
 {
     let sequences = part.sequences();
     sums.clear();
@@ -88,6 +91,7 @@ fn enough(alloc: Global, sums: &[Sum], least: u64) -> Result<Vec<NextRank>, NoMe
                 weight: sum.weight,
                 support: sum.support,
                 snapshots: sum.snapshots,
+                goes_on: sum.goes_on,
             })?;
         }
     }

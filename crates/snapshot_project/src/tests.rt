@@ -236,12 +236,14 @@ const FIRST: [NextRank; 2] = [
         weight: 0,
         support: 0,
         snapshots: 0,
+        goes_on: true,
     },
     NextRank {
         rank: 2,
         weight: 0,
         support: 0,
         snapshots: 1,
+        goes_on: true,
     },
 ];
 

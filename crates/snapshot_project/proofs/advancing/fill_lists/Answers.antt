@@ -67,7 +67,7 @@ returns-clause-each c =
     let part = c.args.part.now in
     let list = c.args.snapshots.now in
     let none = none-shown part.sequences c.sequences.result.now list.snapshots c.as_slice.result.now c.groups.read c.groups.grid c.sequences.ensures.numbers c.as_slice.ensures c.in_default.ensures.none in
-    λ ranks are i n longer at_n support at_list.
+    λ ranks are i n longer at_n (support, ends) at_list.
     let (so_far, found) = c.groups.invariant.found ranks are in
     let (least, most) = subst (λ (m : NextRank). (1 ≤ m.rank) × (m.rank ≤ part.bound.top)) (get_or_from_slice_get c.args.next.now i n n at_n)
     (c.requires.ranks i n (slice_get_within c.args.next.now i n at_n)) in

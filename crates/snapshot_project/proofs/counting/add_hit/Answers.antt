@@ -31,13 +31,13 @@ pub returns-then-sum-hit-clause-sums : goal.returns-then-sum-hit-clause-sums
 returns-then-sum-hit-clause-sums c =
     again-sums c.args.grid c.args.places.now.items c.args.sums.now.items c.requires.sums c.args.hit.rank c.args.weight c.requires.weight c.index.result.now c.index-sum.result.now c.met_again.result
     (slice_get_read c.args.sums.now.items c.len.result c.index.result.now c.index-sum.result.now (search rules) c.if-place-len.true c.index-sum.ensures)
-    c.if-sum-hit.true c.met_again.ensures.rank c.met_again.ensures.last c.met_again.ensures.weight c.args.hit.ends c.met_again.ensures.support
+    c.if-sum-hit.true c.met_again.ensures.rank c.met_again.ensures.last c.met_again.ensures.weight c.args.hit.ends c.met_again.ensures.support c.args.hit.writes_on c.met_again.ensures.goes_on
 
 pub returns-then-sum-hit-clause-added : goal.returns-then-sum-hit-clause-added
 returns-then-sum-hit-clause-added c =
     again-added c.args.grid c.args.places.now.items c.args.sums.now.items c.requires.sums c.args.hit.rank c.args.weight c.requires.weight c.index.result.now c.index-sum.result.now c.met_again.result
     (slice_get_read c.args.sums.now.items c.len.result c.index.result.now c.index-sum.result.now (search rules) c.if-place-len.true c.index-sum.ensures)
-    c.if-sum-hit.true c.met_again.ensures.rank c.met_again.ensures.last c.met_again.ensures.weight c.args.hit.ends c.met_again.ensures.support
+    c.if-sum-hit.true c.met_again.ensures.rank c.met_again.ensures.last c.met_again.ensures.weight c.args.hit.ends c.met_again.ensures.support c.args.hit.writes_on c.met_again.ensures.goes_on
 
 pub returns : goal.returns
 returns c =
@@ -62,8 +62,8 @@ returns c =
       room = search rules;
       sums = subst (AreSums (c.args.grid + 1) (set c.args.places.now.items c.args.hit.rank c.in_ok-place.place)) (sym pushed)
           (first-sums c.args.grid c.args.places.now.items c.args.sums.now.items c.requires.sums c.args.hit.rank c.args.weight c.requires.weight
-          c.requires.rank none sum c.met_first.ensures.rank c.met_first.ensures.last c.met_first.ensures.weight c.args.hit.ends c.met_first.ensures.support c.in_ok-place.place end);
-      added = subst (IsAdded c.args.hit.rank c.args.hit.ends c.args.grid c.args.weight c.args.sums.now.items) (sym pushed)
+          c.requires.rank none sum c.met_first.ensures.rank c.met_first.ensures.last c.met_first.ensures.weight c.args.hit.ends c.met_first.ensures.support c.args.hit.writes_on c.met_first.ensures.goes_on c.in_ok-place.place end);
+      added = subst (IsAdded c.args.hit.rank c.args.hit.ends c.args.hit.writes_on c.args.grid c.args.weight c.args.sums.now.items) (sym pushed)
           (first-added c.args.grid c.args.places.now.items c.args.sums.now.items c.requires.sums c.args.hit.rank c.args.weight c.requires.weight
-          c.requires.rank none sum c.met_first.ensures.rank c.met_first.ensures.last c.met_first.ensures.weight c.args.hit.ends c.met_first.ensures.support c.in_ok-place.place end);
+          c.requires.rank none sum c.met_first.ensures.rank c.met_first.ensures.last c.met_first.ensures.weight c.args.hit.ends c.met_first.ensures.support c.args.hit.writes_on c.met_first.ensures.goes_on c.in_ok-place.place end);
     }

@@ -12,7 +12,7 @@ use Rattle.snapshot_project.specs.Sums.{AreAdded}
 use Rattle.snapshot_project.proofs.ListedLemmas.{snapshots-of}
 use Rattle.snapshot_project.proofs.TallyLemmas.{sums-later}
 use Rattle.snapshot_project.proofs.ReadLemmas.{next-shown, none-shown, read-next, read-walk}
-use Rattle.snapshot_project.proofs.CountLemmas.{counted-next, counted-all, supports-all}
+use Rattle.snapshot_project.proofs.CountLemmas.{counted-next, counted-all, supports-all, ends-all}
 use Rattle.snapshot_project.proofs.extending.count.Goals as goal
 
 pub add_hits-requires-clause-ranks : goal.add_hits-requires-clause-ranks
@@ -77,6 +77,13 @@ returns-clause-weights c = λ ranks are.
 pub returns-clause-supports : goal.returns-clause-supports
 returns-clause-supports c = λ ranks are.
     supports-all c.args.part.now c.sequences-sequences.ensures.part ranks c.args.snapshots.now are c.groups.read c.groups.grid (c.groups.invariant.read ranks are)
+    c.groups.sums.items (c.groups.invariant.counted ranks are)
+    (none-shown c.args.part.now.sequences c.sequences-sequences.result.now c.args.snapshots.now.snapshots c.as_slice.result.now c.groups.read c.groups.grid
+    c.sequences-sequences.ensures.numbers c.as_slice.ensures c.in_default.ensures.none) c.groups.invariant.within
+
+pub returns-clause-ends : goal.returns-clause-ends
+returns-clause-ends c = λ ranks are.
+    ends-all c.args.part.now c.sequences-sequences.ensures.part ranks c.args.snapshots.now are c.groups.read c.groups.grid (c.groups.invariant.read ranks are)
     c.groups.sums.items (c.groups.invariant.counted ranks are)
     (none-shown c.args.part.now.sequences c.sequences-sequences.result.now c.args.snapshots.now.snapshots c.as_slice.result.now c.groups.read c.groups.grid
     c.sequences-sequences.ensures.numbers c.as_slice.ensures c.in_default.ensures.none) c.groups.invariant.within

@@ -12,6 +12,6 @@ returns-clause-next c =
     IfOk-weaker c.enough.result (λ found. AreEnough c.args.least c.as_slice.result.now found.items)
     (λ found. (ranks : List ℕ) → AreSnapshots c.args.part.now ranks c.args.snapshots.now → AreNextRanks c.args.part.now ranks c.args.least found.items)
     (λ found enough ranks are.
-    next-enough c.args.part.now ranks c.args.least c.requires.least c.count.new.sums.items (c.in_ok-count.ensures.weights ranks are) (c.in_ok-count.ensures.supports ranks are) found.items
+    next-enough c.args.part.now ranks c.args.least c.requires.least c.count.new.sums.items (c.in_ok-count.ensures.weights ranks are) (c.in_ok-count.ensures.supports ranks are) (c.in_ok-count.ensures.ends ranks are) found.items
     (subst (λ (sums : List Sum). AreEnough c.args.least sums found.items) c.as_slice.ensures.value enough))
     c.enough.ensures

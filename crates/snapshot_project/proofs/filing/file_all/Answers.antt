@@ -13,7 +13,7 @@ use Rattle.snapshot_project.proofs.filing.file_all.Goals.{then-hit+then-place-ne
 
 pub loop-hit-preserved : goal.loop-hit-preserved
 loop-hit-preserved c =
-    let none : NextRank = record { rank = 0; weight = 0; support = 0; snapshots = 0 } in
+    let none : NextRank = record { rank = 0; weight = 0; support = 0; snapshots = 0; goes_on = false } in
     let blank : Hit = record { rank = 0; position = 0; state = 0; ends = false; writes_on = false } in
     let hits : List Hit = c.args.hits.now in
     let done : List Hit = take c.loop-hit.hit-index hits in
