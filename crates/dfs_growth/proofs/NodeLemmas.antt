@@ -23,6 +23,14 @@ pub label-at : (problem : Problem) (label : List ℕ) → 1 ≤ length label →
 label-at problem [] some = absurd (omega (arith, some))
 label-at problem (pivot ∷ ranks) some = refl
 
+-- a node is one of the problem that it keeps
+pub problem-of : (problem : Problem) (label : List ℕ) (node : Prefix) → prefix_at problem label ≡ node → problem ≡ node.problem
+problem-of problem label node is = sym (problem-at problem label) ∙ ap (λ (p : Prefix). p.problem) is
+
+-- the node with the label of a node of the same problem is that node
+pub prefix-at : (node : Prefix) (problem : Problem) (label : List ℕ) → problem ≡ node.problem → label ≡ label_at node → prefix_at problem label ≡ node
+prefix-at node problem label same is = ap (λ (p : Problem). prefix_at p label) same ∙ ap (prefix_at node.problem) is
+
 pub longer-at : (problem : Problem) (label : List ℕ) (rank : ℕ) → 1 ≤ length label → prefix_at problem (label ++ rank ∷ []) ≡ longer_by (prefix_at problem label) rank
 longer-at problem [] rank some = absurd (omega (arith, some))
 longer-at problem (pivot ∷ ranks) rank some = refl

@@ -7,7 +7,7 @@ ghost use Rattle.fst_simulate.specs.Problems.{data_of};
 ghost use Rattle.snapshot_project.specs.declared.next_rank.NextRank.{NextRank as Next};
 ghost use Rattle.snapshot_project.specs.Snapshots.{SnapshotList};
 ghost use Rattle.dfs_growth.specs.Nodes.{Prefix, label_at, prefix_at, longer_by};
-ghost use Rattle.dfs_growth.specs.Projections.{IsProjection, IsStateOf};
+ghost use Rattle.dfs_growth.specs.Projections.{IsProjection};
 
 use super::node::Node;
 use super::state::State;
@@ -36,8 +36,8 @@ pub fn expand<'a>(
     ensures ground { IfOk result (λ grown.
         All (λ (kid : Prefix). kid.problem ≡ node.entry.problem) grown.kids.items) }
 {
-    let Node { job, label, state } = node;
-    let (part, snapshots) = projection(alloc, job, label.as_slice(), state)?;
+    let job = node.job;
+    let (label, part, snapshots) = projection(alloc, node)?;
     let row = row_of(alloc, job, label.as_slice(), &part, &snapshots)?;
     let kids = kids_of(alloc, job, label.as_slice(), &part, &snapshots, room)?;
     Ok(Grown {
@@ -47,24 +47,22 @@ pub fn expand<'a>(
     })
 }
 
-// The part of the node with this label, and the snapshots of its prefix.
+// The label of the node, its part, and the snapshots of its prefix.
 fn projection<'a>(
     alloc: Global,
-    job: &'a Job,
-    label: &[u32],
-    state: State<'a>,
-) -> Result<(Arc<Part<'a>>, Snapshots), NoMemory>
-    requires { IsStateOf (prefix_at job.now label.now) state }
-    ensures { IfOk result (λ p. IsProjection (prefix_at job.now label.now) (arc_value p.0) p.1) }
+    node: Node<'a>,
+) -> Result<(Vec<u32>, Arc<Part<'a>>, Snapshots), NoMemory>
+    ensures label { IfOk result (λ p. p.0.items ≡ label_at node.entry) }
+    ensures projection { IfOk result (λ p. IsProjection node.entry (arc_value p.1) p.2) }
 {
-    let _ = label;
+    let Node { job, label, state } = node;
     match state {
         State::Root(seed) => {
             let part = Part::new(alloc, job, seed.pivot, seed.sequences.as_slice())?;
             let snapshots = start(alloc, &part)?;
-            Ok((Arc::new(alloc, part)?, snapshots))
+            Ok((label, Arc::new(alloc, part)?, snapshots))
         }
-        State::Projected(part, snapshots) => Ok((part, snapshots)),
+        State::Projected(part, snapshots) => Ok((label, part, snapshots)),
     }
 }
 

@@ -1,15 +1,54 @@
-use Rattle.std.proofs.Common.{◌≡◌, ◌≤◌, length, ap, sym, ◌∙◌, subst, All}
-use Rattle.fst_simulate.specs.Problems.{Problem}
-use Rattle.dfs_growth.specs.Nodes.{Prefix}
-use Rattle.dfs_growth.proofs.NodeLemmas.{problem-at}
+use Rattle.std.proofs.Common.{◌≡◌, ◌≤◌, map, length, sym, ◌∙◌, subst, All}
+use Rattle.std.specs.Arc.{arc_value}
+use Rattle.mine_model.specs.SearchTree.{IsRowOf, AreKids}
+use Rattle.fst_simulate.specs.Problems.{Problem, data_of}
+use Rattle.dfs_growth.specs.Nodes.{Prefix, label_at, prefix_at}
+use Rattle.dfs_growth.specs.Projections.{IsProjection}
+use Rattle.dfs_growth.proofs.NodeLemmas.{problem-of, prefix-at}
 use Rattle.dfs_growth.proofs.growing.expand.Goals as goal
+
+pub row_of-requires-clause-projection : goal.row_of-requires-clause-projection
+row_of-requires-clause-projection c =
+    let node = c.args.node in
+    let job = c.node.inside.job.now in
+    let same : job ≡ node.problem = problem-of job c.node.inside.label.items c.args.node c.node.view_is in
+    let is : prefix_at job c.as_slice.result.now ≡ node = prefix-at node job c.as_slice.result.now same (c.as_slice.ensures.value ∙ c.in_ok-label.ensures.label) in
+    rw c.deref.ensures (subst (λ p. IsProjection p (arc_value c.in_ok-label.part) c.in_ok-label.snapshots) (sym is) c.in_ok-label.ensures.projection)
+
+pub kids_of-requires-clause-projection : goal.kids_of-requires-clause-projection
+kids_of-requires-clause-projection c =
+    let node = c.args.node in
+    let job = c.node.inside.job.now in
+    let same : job ≡ node.problem = problem-of job c.node.inside.label.items c.args.node c.node.view_is in
+    let is : prefix_at job c.as_slice-2.result.now ≡ node = prefix-at node job c.as_slice-2.result.now same (c.as_slice-2.ensures.value ∙ c.in_ok-label.ensures.label) in
+    subst (λ p. IsProjection p (arc_value c.in_ok-label.part) c.in_ok-label.snapshots) (sym is) c.in_ok-label.ensures.projection
 
 pub kids_of-requires-clause-room : goal.kids_of-requires-clause-room
 kids_of-requires-clause-room c =
-    let same : c.args.node.problem ≡ c.node.inside.job.now = ap (λ (p : Prefix). p.problem) (sym c.node.view_is) ∙ problem-at c.node.inside.job.now c.node.inside.label.items in
-    subst (λ (p : Problem). length p.ranking.order ≤ c.args.room.now) same c.requires.room
+    let job = c.node.inside.job.now in
+    let same : job ≡ c.args.node.problem = problem-of job c.node.inside.label.items c.args.node c.node.view_is in
+    subst (λ (p : Problem). length p.ranking.order ≤ c.args.room.now) (sym same) c.requires.room
+
+pub returns-clause-row : goal.returns-clause-row
+returns-clause-row c =
+    let node = c.args.node in
+    let job = c.node.inside.job.now in
+    let same : job ≡ node.problem = problem-of job c.node.inside.label.items c.args.node c.node.view_is in
+    let is : prefix_at job c.as_slice.result.now ≡ node = prefix-at node job c.as_slice.result.now same (c.as_slice.ensures.value ∙ c.in_ok-label.ensures.label) in
+    subst (λ (q : Problem). IsRowOf (data_of q) q.ranking.order node.pivot node.ranks c.in_ok-row.row) same
+    (subst (λ (p : Prefix). IsRowOf (data_of job) job.ranking.order p.pivot p.ranks c.in_ok-row.row) is c.in_ok-row.ensures)
+
+pub returns-clause-kids : goal.returns-clause-kids
+returns-clause-kids c =
+    let node = c.args.node in
+    let job = c.node.inside.job.now in
+    let same : job ≡ node.problem = problem-of job c.node.inside.label.items c.args.node c.node.view_is in
+    let is : prefix_at job c.as_slice-2.result.now ≡ node = prefix-at node job c.as_slice-2.result.now same (c.as_slice-2.ensures.value ∙ c.in_ok-label.ensures.label) in
+    subst (λ (q : Problem). AreKids (data_of q) q.ranking.order node.pivot node.ranks (map label_at c.in_ok-kids.kids.items)) same
+    (subst (λ (p : Prefix). AreKids (data_of job) job.ranking.order p.pivot p.ranks (map label_at c.in_ok-kids.kids.items)) is c.in_ok-kids.ensures.kids)
 
 pub returns-clause-ground : goal.returns-clause-ground
 returns-clause-ground c =
-    let same : c.args.node.problem ≡ c.node.inside.job.now = ap (λ (p : Prefix). p.problem) (sym c.node.view_is) ∙ problem-at c.node.inside.job.now c.node.inside.label.items in
-    subst (λ (p : Problem). All (λ (kid : Prefix). kid.problem ≡ p) c.in_ok-kids.kids.items) (sym same) c.in_ok-kids.ensures.problem
+    let job = c.node.inside.job.now in
+    let same : job ≡ c.args.node.problem = problem-of job c.node.inside.label.items c.args.node c.node.view_is in
+    subst (λ (p : Problem). All (λ (kid : Prefix). kid.problem ≡ p) c.in_ok-kids.kids.items) same c.in_ok-kids.ensures.problem
