@@ -1,14 +1,10 @@
 -- The roots of seeds, and the seed without a pivot.
 use Rattle.std.proofs.Common.{◌≡◌, ◌≢◌, ◌↔◌, ℕ, ◌+◌, ◌≤◌, ◌<◌, inl, inr, false, Option, None, IfSome, List, [], ◌∷◌, ◌++◌, map, length, get_or, refl, sym, ap, ◌∙◌, subst, arith, sum_by}
 use Rattle.std.specs.List.{All, AllByRecursion, AllPairs, Contains}
-use Rattle.std.proofs.lemmas.Bool.{false≢true, eqb-true, cases_eq}
+use Rattle.std.proofs.lemmas.Bool.{false≢true, cases_eq}
 use Rattle.std.proofs.lemmas.List.{map-append}
 use Rattle.std.proofs.lemmas.List.Elements.{All-contains, Contains-get_or, Contains-append_left, Contains-append_right, Contains-push, Contains-push_cases, recursion_from_All}
 use Rattle.std.proofs.lemmas.List.Quantifiers.{all_pairs_push}
-use Rattle.std.proofs.lemmas.Bool.Decides.{Decides-eqb}
-use Rattle.std.proofs.lemmas.Map.Steps.{length-le_from_distinct_below}
-use Rattle.std.proofs.lemmas.Map.Made.{IsDistinct-from_AllPairs}
-use Rattle.std.proofs.lemmas.Map.Views.{Contains-from_any}
 use Rattle.std.proofs.lemmas.List.Sums.{sum_by-cons}
 use Rattle.mine_model.specs.declared.item.Item.{Item}
 use Rattle.mine_model.specs.Answer.{Data}
@@ -16,7 +12,7 @@ use Rattle.mine_model.specs.Database.{sequence_at}
 use Rattle.mine_model.specs.Support.{Sequence, Counts}
 use Rattle.mine_model.specs.Growth.{HasPatternBehind, IsAlive}
 use Rattle.mine_model.specs.SearchTree.{IsWithinPivot, label_of, IsAliveLabel, AreRootsOf}
-use Rattle.mine_model.proofs.ListLemmas.{AllByRecursion-contained, Contains-first, Contains-other, Contains-none}
+use Rattle.mine_model.proofs.ListLemmas.{Contains-first, Contains-other, Contains-none}
 use Rattle.mine_model.proofs.RankedLemmas.{ranked-same}
 use Rattle.mine_model.proofs.AliveLemmas.{IsAlive-counted}
 use Rattle.fst_simulate.specs.declared.part_seed.PartSeed.{PartSeed}
@@ -134,13 +130,6 @@ module _ (Has : ℕ → Type 0) (numbers : List ℕ) (count : ℕ) (exact : (i :
   rising-push rising =
       all_pairs_push (λ low high. low < high) numbers count rising
       (λ k d below. ((exact (get_or numbers k d)).0 (Contains-get_or numbers k d below)).0)
-
--- rising numbers below n are at most n
-pub length-le_from_rising : (numbers : List ℕ) (n : ℕ) → AllPairs (λ low high. low < high) numbers → AllByRecursion (λ i. i < n) numbers → length numbers ≤ n
-length-le_from_rising numbers n rising within =
-    let apart : AllPairs (λ i j. i ≢ j) numbers = λ i j d less inside same. (let lower = rising i j d less inside in omega (arith, lower, same)) in
-    length-le_from_distinct_below numbers n (IsDistinct-from_AllPairs Decides-eqb numbers apart)
-    (λ q found. AllByRecursion-contained (λ i. i < n) numbers q within (Contains-from_any (λ x y. eqb-true x y) q numbers found))
 
 -- Seeds
 
