@@ -1,5 +1,6 @@
--- What a node keeps of its prefix: a part and the snapshots in it, the projected database of the DESQ article.
-use Rattle.std.specs.Prelude.{◌≡◌, ℕ, [], length}
+-- What a node keeps of its prefix: a part and the snapshots in it, the projected database of the DESQ
+-- article.
+use Rattle.std.specs.Prelude.{◌≡◌, ℕ, ◌≤◌, List, [], length}
 use Rattle.std.specs.Arc.{arc_value}
 use Rattle.fst_simulate.specs.declared.part_seed.PartSeed.{PartSeed}
 use Rattle.fst_simulate.specs.Problems.{Problem}
@@ -8,7 +9,7 @@ use Rattle.fst_simulate.specs.Parts.{pivot_of, IsComplete}
 use Rattle.snapshot_project.specs.Snapshots.{SnapshotList, AreSnapshots, bound_of}
 use Rattle.dfs_growth.specs.declared.state.State.{State}
 use Rattle.dfs_growth.specs.declared.state.State.TheVariants.{Root, Projected}
-use Rattle.dfs_growth.specs.Nodes.{Prefix}
+use Rattle.dfs_growth.specs.Nodes.{Prefix, prefix_at}
 
 -- the part of the sequences of the seed
 abbrev pub part_of : Problem → PartSeed → GridList
@@ -40,3 +41,7 @@ pub record IsRootOf (prefix : Prefix) (seed : PartSeed) : Type 0 where
 abbrev pub IsStateOf : Prefix → State → Type 0
 IsStateOf prefix (Root seed) = IsRootOf prefix seed
 IsStateOf prefix (Projected part list) = IsProjection prefix (arc_value part) list
+
+-- the label has a pivot, or 0, in front, and the state is that of the node with the label
+abbrev pub IsNode : Problem → List ℕ → State → Type 0
+IsNode problem label state = (1 ≤ length label) × IsStateOf (prefix_at problem label) state

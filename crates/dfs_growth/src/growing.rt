@@ -6,7 +6,7 @@ ghost use Rattle.mine_model.specs.SearchTree.{IsRowOf, AreKids};
 ghost use Rattle.fst_simulate.specs.Problems.{data_of};
 ghost use Rattle.snapshot_project.specs.declared.next_rank.NextRank.{NextRank as Next};
 ghost use Rattle.snapshot_project.specs.Snapshots.{SnapshotList};
-ghost use Rattle.dfs_growth.specs.Nodes.{Prefix, label_at, prefix_at, longer_by};
+ghost use Rattle.dfs_growth.specs.Nodes.{Prefix, HasRow, HasKids, label_at, prefix_at, longer_by};
 ghost use Rattle.dfs_growth.specs.Projections.{IsProjection};
 
 use super::node::Node;
@@ -27,12 +27,8 @@ pub fn expand<'a>(
     requires room { length node.problem.ranking.order ≤ room.old }
     ensures room { room.new ≡ room.old }
     ensures label { IfOk result (λ grown. grown.label ≡ label_at node.entry) }
-    ensures row { IfOk result (λ grown.
-        IsRowOf (data_of node.entry.problem) node.entry.problem.ranking.order node.entry.pivot node.entry.ranks
-        grown.row) }
-    ensures kids { IfOk result (λ grown.
-        AreKids (data_of node.entry.problem) node.entry.problem.ranking.order node.entry.pivot node.entry.ranks
-        (map label_at grown.kids.items)) }
+    ensures row { IfOk result (λ grown. HasRow node.entry grown.row) }
+    ensures kids { IfOk result (λ grown. HasKids node.entry (map label_at grown.kids.items)) }
     ensures ground { IfOk result (λ grown.
         All (λ (kid : Prefix). kid.problem ≡ node.entry.problem) grown.kids.items) }
 {

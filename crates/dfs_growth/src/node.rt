@@ -13,7 +13,6 @@ pub struct Node<'a> {
 }
 
 impl<'a> Model for Node<'a> {
-    ghost use Rattle.std.specs.Prelude.{◌≤◌, length};
     ghost use Rattle.dfs_growth.specs.Nodes.{Prefix, prefix_at};
 
     ghost Value = { Prefix };
@@ -23,11 +22,11 @@ impl<'a> Model for Node<'a> {
 
     ghost coded = { Prim.hlevel (codes, e.the_row.coded) };
 
-    ghost use Rattle.dfs_growth.specs.Projections.{IsStateOf};
+    ghost use Rattle.dfs_growth.specs.Projections.{IsNode};
 
     ghost view = { λ n. prefix_at n.job.now n.label.items };
 
-    ghost invariant = { λ n. (1 ≤ length n.label.items) × IsStateOf (prefix_at n.job.now n.label.items) n.state };
+    ghost invariant = { λ n. IsNode n.job.now n.label.items n.state };
 }
 
 impl<'a> Task for Node<'a> {

@@ -48,8 +48,8 @@ fn with_patterns(alloc: Global, grids: &mut Grids, count: u32) -> Result<Vec<u32
     Ok(numbers)
 }
 
-// Whether the sequence has a pattern within the bound of the grids. What they found out stays, the grid of the
-// sequence does not.
+// Whether the sequence has a pattern within the bound of the grids. What they found out stays, the grid of
+// the sequence does not.
 fn has_pattern(grids: &mut Grids, number: u32) -> Result<bool, NoMemory>
     requires none { grids.old.sequences ≡ [] }
     requires within { number < length grids.old.problem.sequences }

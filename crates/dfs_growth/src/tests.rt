@@ -158,7 +158,8 @@ fn told<T: Threads + Sync>(
     Ok(told_of(alloc, &job, path)?)
 }
 
-/// The sequences of the seed without a pivot; then what each of the nodes grows into that lead along the path.
+/// The sequences of the seed without a pivot; then what each of the nodes grows into that lead along the
+/// path.
 fn told_of(alloc: Global, job: &Job, path: &[u32]) -> Result<String, NoMemory> {
     let seed = whole(alloc, job)?;
     let mut text = String::new(alloc);
