@@ -1,5 +1,4 @@
 pub mod Growing
 pub mod FieldLemmas
 mod KeyLemmas
-mod TableLemmas
 mod TextLemmas

@@ -4,4 +4,3 @@ pub mod Fields
 -- what the proofs keep
 pub mod Texts
 pub mod Table
-pub mod Searching

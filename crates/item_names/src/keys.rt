@@ -1,8 +1,8 @@
 //! Keys of names: of a fixed size, and for short names as good as the name itself.
 
-ghost use Rattle.std.specs.Prelude.{◌≡◌, ◌+◌, ◌≤◌, ◌<◌, ◌↔◌, length, IsTrue, slice_range, bit_xor};
+ghost use Rattle.std.specs.Prelude.{◌≡◌, ◌+◌, ◌≤◌, ◌<◌, ◌↔◌, length, IsTrue, slice_range};
 ghost use Rattle.std.specs.Hash.FoldHasher.{folded_multiply};
-ghost use Rattle.item_names.specs.Table.{number_of, key_of};
+ghost use Rattle.item_names.specs.Table.{number_of, key_of, mixed};
 
 use std::hash::{FoldHasher, Hasher};
 
@@ -34,8 +34,7 @@ impl Key {
 
     /// A number that hangs on each bit of the key.
     pub(crate) fn mixed(self) -> u64
-        ensures { result
-            ≡ folded_multiply (bit_xor self.low self.size) (bit_xor 0x9e37_79b9_7f4a_7c15 self.high) }
+        ensures { result ≡ mixed self }
     {
         folded_multiply(self.low ^ u64::from(self.size), MULTIPLIER ^ self.high)
     }

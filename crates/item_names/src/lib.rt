@@ -36,14 +36,15 @@ impl Model for Names {
     ghost use Rattle.std.specs.Prelude.{List, ℕ, map};
     ghost use Rattle.std.specs.List.{AllByRecursion};
     ghost use Rattle.mine_model.specs.Names.{AreDistinct};
-    ghost use Rattle.item_names.specs.Table.{key_of, AreBytes, IsTable};
+    ghost use Rattle.open_addressing.specs.Table.{IsTable};
+    ghost use Rattle.item_names.specs.Table.{key_of, layout, AreBytes};
 
     ghost Value = { List (List ℕ) };
 
     ghost view = { λ n. n.texts };
 
     ghost invariant = { λ n. AreDistinct n.texts × AllByRecursion AreBytes n.texts
-        × IsTable (map key_of n.texts) n.slots.items };
+        × IsTable layout (map key_of n.texts) n.slots.items };
 }
 
 impl Names {

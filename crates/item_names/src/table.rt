@@ -1,18 +1,17 @@
 //! A table that finds the number of a name by its key.
 
-ghost use Rattle.std.specs.Prelude.{◌≡◌, ℕ, ◌+◌, ◌-◌, ◌≤◌, ◌<◌, ◌↔◌, List, [], ◌∷◌, ◌++◌, map, length, slice_get, slice_index_or, Contains, Some, IsNone, IsTrue, IfSome, IfOk, OnOk, MatchOption};
-ghost use Rattle.item_names.specs.Table.{key_of, home_of, slot_at, key_in, AreBytes, IsSlot, IsTable};
+ghost use Rattle.std.specs.Prelude.{◌≡◌, ◌-◌, ◌≤◌, ◌<◌, ◌↔◌, List, [], ◌∷◌, ◌++◌, map, length, slice_get, slice_index_or, Contains, Some, IsNone, IsTrue, IfSome, IfOk, OnOk};
 ghost use Rattle.std.specs.List.{AllByRecursion};
+ghost use Rattle.open_addressing.specs.Table.{home_of, IsSlot, IsTable};
+ghost use Rattle.open_addressing.specs.Searching.{Ends};
 ghost use Rattle.item_names.specs.declared.keys.Key.{Key};
-ghost use Rattle.item_names.specs.Searching.{Ends, IsFirstFree};
+ghost use Rattle.item_names.specs.Table.{key_of, mixed, key_in, layout, AreBytes};
 
 use super::keys::{Key, key_of};
 use super::texts::Texts;
 use mine_model::{Item, NoMemory};
+use open_addressing::{Outcome, free_slot, home, slots_for};
 use std::alloc::Global;
-
-/// The fewest slots of a table that has any.
-const FEWEST_SLOTS: usize = 16;
 
 /// A place of the table. `held` is the number of a name, counted from 1, and 0 where the slot is free. The
 /// other fields are the key of the name.
@@ -31,21 +30,22 @@ const FREE: Slot = Slot {
     held: 0,
 };
 
-/// How a search through some slots ends.
-#[derive(Clone, Copy, Debug)]
-enum Outcome {
-    /// At the slot of the name.
-    Held(Item),
-    /// At a free slot.
-    Free,
-    /// Behind the last one.
-    Passed,
+impl open_addressing::Slot for Slot {
+    type Key = Key;
+
+    ghost use Rattle.item_names.specs.Table.{layout};
+
+    ghost layout = { layout };
+
+    fn is_free(self) -> bool {
+        self.held == 0
+    }
 }
 
 /// The number of the name with this key, if it stands at its home, as most names do.
 #[inline(always)]
 pub(crate) fn at_home(texts: &Texts, slots: &[Slot], key: Key, name: &[u8]) -> Option<Item>
-    requires table { IsTable (map key_of texts.now) slots.now }
+    requires table { IsTable layout (map key_of texts.now) slots.now }
     requires key { key ≡ key_of name.now }
     requires bytes { AllByRecursion AreBytes texts.now }
     ensures { IfSome result (λ item. slice_get texts.now item.0 ≡ Some name.now) }
@@ -53,7 +53,7 @@ pub(crate) fn at_home(texts: &Texts, slots: &[Slot], key: Key, name: &[u8]) -> O
     if slots.is_empty() {
         return None;
     }
-    let slot = slots[home_in(slots, key)];
+    let slot = slots[home(slots.len(), key.mixed())];
     if slot.held > 0 && is_of(texts, slot, key, name) {
         return Some(Item(slot.held - 1));
     }
@@ -62,7 +62,7 @@ pub(crate) fn at_home(texts: &Texts, slots: &[Slot], key: Key, name: &[u8]) -> O
 
 /// The number of the name with this key, if it is held.
 pub(crate) fn find(texts: &Texts, slots: &[Slot], key: Key, name: &[u8]) -> Option<Item>
-    requires table { IsTable (map key_of texts.now) slots.now }
+    requires table { IsTable layout (map key_of texts.now) slots.now }
     requires key { key ≡ key_of name.now }
     requires bytes { AllByRecursion AreBytes texts.now }
     ensures none { IsNone result ↔ ¬ Contains texts.now name.now }
@@ -71,24 +71,24 @@ pub(crate) fn find(texts: &Texts, slots: &[Slot], key: Key, name: &[u8]) -> Opti
     if slots.is_empty() {
         return None;
     }
-    find_from(texts, slots, key, name, home_in(slots, key))
+    find_from(texts, slots, key, name, home(slots.len(), key.mixed()))
 }
 
 /// The same by a search from the home of the key on.
 fn find_from(texts: &Texts, slots: &[Slot], key: Key, name: &[u8], home: usize) -> Option<Item>
-    requires table { IsTable (map key_of texts.now) slots.now }
+    requires table { IsTable layout (map key_of texts.now) slots.now }
     requires key { key ≡ key_of name.now }
     requires bytes { AllByRecursion AreBytes texts.now }
-    requires home { home ≡ home_of (length slots.now) key }
+    requires home { home ≡ home_of (length slots.now) (mixed key) }
     requires within { home < length slots.now }
     ensures none { IsNone result ↔ ¬ Contains texts.now name.now }
     ensures number { IfSome result (λ item. slice_get texts.now item.0 ≡ Some name.now) }
 {
     match search(texts, slots, key, name, home, slots.len()) {
-        Outcome::Held(item) => Some(item),
+        Outcome::Held(number) => Some(Item(number)),
         Outcome::Free => None,
         Outcome::Passed => match search(texts, slots, key, name, 0, home) {
-            Outcome::Held(item) => Some(item),
+            Outcome::Held(number) => Some(Item(number)),
             Outcome::Free => None,
             Outcome::Passed => None,
         },
@@ -97,11 +97,11 @@ fn find_from(texts: &Texts, slots: &[Slot], key: Key, name: &[u8], home: usize) 
 
 /// Looks for the name in the slots from `from` to before `to`, up to the first that is free.
 fn search(texts: &Texts, slots: &[Slot], key: Key, name: &[u8], from: usize, to: usize) -> Outcome
-    requires table { IsTable (map key_of texts.now) slots.now }
+    requires table { IsTable layout (map key_of texts.now) slots.now }
     requires key { key ≡ key_of name.now }
     requires bytes { AllByRecursion AreBytes texts.now }
     requires within { to ≤ length slots.now }
-    ensures { Ends texts.now slots.now name.now from to result }
+    ensures { Ends layout texts.now slots.now name.now from to result }
 {
     for at in from..to {
         let slot = slots[at];
@@ -109,20 +109,10 @@ fn search(texts: &Texts, slots: &[Slot], key: Key, name: &[u8], from: usize, to:
             return Outcome::Free;
         }
         if is_of(texts, slot, key, name) {
-            return Outcome::Held(Item(slot.held - 1));
+            return Outcome::Held(slot.held - 1);
         }
     }
     Outcome::Passed
-}
-
-/// Where a search for the key begins.
-#[inline(always)]
-fn home_in(slots: &[Slot], key: Key) -> usize
-    requires { 0 < length slots.now }
-    ensures home { result ≡ home_of (length slots.now) key }
-    ensures within { result < length slots.now }
-{
-    key.mixed() as usize & (slots.len() - 1)
 }
 
 #[inline(always)]
@@ -135,7 +125,7 @@ fn has_key(slot: Slot, key: Key) -> bool
 /// Whether the slot, which is taken, has the number of the name with this key.
 #[inline(always)]
 fn is_of(texts: &Texts, slot: Slot, key: Key, name: &[u8]) -> bool
-    requires slot { IsSlot (map key_of texts.now) slot }
+    requires slot { IsSlot layout (map key_of texts.now) slot }
     requires taken { 0 < slot.held }
     requires key { key ≡ key_of name.now }
     requires bytes { AllByRecursion AreBytes texts.now }
@@ -146,8 +136,8 @@ fn is_of(texts: &Texts, slot: Slot, key: Key, name: &[u8]) -> bool
 
 /// Has a free slot for one more name, in a new table where more than three of four slots are taken.
 pub(crate) fn make_room(texts: &Texts, slots: &mut Vec<Slot>) -> Result<(), NoMemory>
-    requires { IsTable (map key_of texts.now) slots.old.items }
-    ensures table { IsTable (map key_of texts.now) slots.new.items }
+    requires { IsTable layout (map key_of texts.now) slots.old.items }
+    ensures table { IsTable layout (map key_of texts.now) slots.new.items }
     ensures room { OnOk result (length texts.now < length slots.new.items) }
 {
     if slots.len() / 4 * 3 <= texts.count() as usize {
@@ -158,14 +148,11 @@ pub(crate) fn make_room(texts: &Texts, slots: &mut Vec<Slot>) -> Result<(), NoMe
 
 /// A table of all the names, in which at least half of the slots are free.
 fn table_of(alloc: Global, texts: &Texts) -> Result<Vec<Slot>, NoMemory>
-    ensures table { IfOk result (λ slots. IsTable (map key_of texts.now) slots.items) }
+    ensures table { IfOk result (λ slots. IsTable layout (map key_of texts.now) slots.items) }
     ensures room { IfOk result (λ slots. length texts.now < length slots.items) }
 {
     let count = texts.count();
-    let size = (2 * (count as usize + 1))
-        .max(FEWEST_SLOTS)
-        .next_power_of_two();
-    let mut slots = vec![in alloc; FREE; size]?;
+    let mut slots = vec![in alloc; FREE; slots_for(count as usize)]?;
     for number in 0..count {
         let key = key_of(texts.text(Item(number)));
         place(&mut slots, key, number);
@@ -177,10 +164,10 @@ fn table_of(alloc: Global, texts: &Texts) -> Result<Vec<Slot>, NoMemory>
 pub(crate) fn place(slots: &mut Vec<Slot>, key: Key, number: u32)
     requires { number < 4294967295 }
     ensures size { length slots.new.items ≡ length slots.old.items }
-    ensures table { (keys : List Key) → IsTable keys slots.old.items → length keys ≡ number
-        → number < length slots.old.items → IsTable (keys ++ key ∷ []) slots.new.items }
+    ensures table { (keys : List Key) → IsTable layout keys slots.old.items → length keys ≡ number
+        → number < length slots.old.items → IsTable layout (keys ++ key ∷ []) slots.new.items }
 {
-    if let Some(at) = free_slot(slots.as_slice(), key) {
+    if let Some(at) = free_slot(slots.as_slice(), key.mixed()) {
         slots[at] = Slot {
             low: key.low,
             high: key.high,
@@ -188,34 +175,4 @@ pub(crate) fn place(slots: &mut Vec<Slot>, key: Key, number: u32)
             held: number + 1,
         };
     }
-}
-
-/// The free slot that a search for the key meets first.
-fn free_slot(slots: &[Slot], key: Key) -> Option<usize>
-    ensures { MatchOption result ((at : ℕ) → at < length slots.now → 0 < (slot_at slots.now at).held)
-        (IsFirstFree slots.now key) }
-{
-    if slots.is_empty() {
-        return None;
-    }
-    let home = home_in(slots, key);
-    match first_free(slots, home, slots.len()) {
-        Some(at) => Some(at),
-        None => first_free(slots, 0, home),
-    }
-}
-
-/// The first free slot from `from` to before `to`.
-fn first_free(slots: &[Slot], from: usize, to: usize) -> Option<usize>
-    requires { to ≤ length slots.now }
-    ensures { MatchOption result ((at : ℕ) → from ≤ at → at < to → 0 < (slot_at slots.now at).held)
-        (λ at. (from ≤ at) × (at < to) × ((slot_at slots.now at).held ≡ 0)
-        × ((other : ℕ) → from ≤ other → other < at → 0 < (slot_at slots.now other).held)) }
-{
-    for at in from..to {
-        if slots[at].held == 0 {
-            return Some(at);
-        }
-    }
-    None
 }

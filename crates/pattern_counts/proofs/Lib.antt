@@ -1,4 +1,3 @@
 mod HashLemmas
 mod ListsLemmas
 mod SumLemmas
-mod TableLemmas

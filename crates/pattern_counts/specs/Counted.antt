@@ -1,10 +1,11 @@
 -- Lists with sums, and how many of them the memory holds that was taken.
 use Rattle.std.specs.Prelude.{◌≡◌, ℕ, ◌+◌, ◌≤◌, List, map, length}
+use Rattle.open_addressing.specs.Table.{IsTable}
 use Rattle.pattern_counts.specs.declared.table.Slot.{Slot}
 use Rattle.pattern_counts.specs.Tally.{Tally, IsTally}
 use Rattle.pattern_counts.specs.Lists.{ranks_of}
 use Rattle.pattern_counts.specs.Hashes.{hash_of}
-use Rattle.pattern_counts.specs.Table.{IsTable}
+use Rattle.pattern_counts.specs.Table.{layout}
 
 pub record Counted : Type 0 where
   pub tally : Tally
@@ -21,4 +22,4 @@ pub record AreCounts (tally : Tally) (hashes : List ℕ) (slots : List Slot) : T
   pub are : IsTally tally
   pub few : length tally.lists ≤ 4294967295
   pub hashed : hashes ≡ map hash_of tally.lists
-  pub table : IsTable hashes slots
+  pub table : IsTable layout hashes slots

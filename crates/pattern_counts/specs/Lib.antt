@@ -4,5 +4,4 @@ pub mod Tally
 pub mod Lists
 pub mod Hashes
 pub mod Table
-pub mod Searching
 pub mod Counted

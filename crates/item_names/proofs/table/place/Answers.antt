@@ -1,17 +1,19 @@
 use Rattle.std.proofs.Common.{refl, subst, List, ◌<◌, arith, ℕ, length}
+use Rattle.open_addressing.specs.Table.{held_at}
+use Rattle.open_addressing.specs.Searching.{IsFirstFree}
+use Rattle.open_addressing.proofs.TableLemmas.{IsTable-placed, no_room}
 use Rattle.item_names.specs.declared.table.Slot.{Slot}
-use Rattle.item_names.specs.Table.{slot_at}
-use Rattle.item_names.specs.Searching.{IsFirstFree}
-use Rattle.item_names.proofs.TableLemmas.{IsTable-placed, no_room}
+use Rattle.item_names.specs.Table.{mixed, layout}
 use Rattle.item_names.proofs.table.place.Goals as goal
 
 pub returns-in-Some-clause-table : goal.returns-in-Some-clause-table
 returns-in-Some-clause-table c keys table number room =
-    let first : IsFirstFree c.args.slots.now.items c.args.key c.in-Some.at =
-    subst (λ (slots : List Slot). IsFirstFree slots c.args.key c.in-Some.at) c.as_slice.ensures.value c.in-Some.ensures in
-    IsTable-placed keys c.args.slots.now.items c.args.key c.in-Some.at _ table first refl (omega (arith, number))
+    let First : List Slot → ℕ → Type 0 = λ slots hash. IsFirstFree layout slots hash c.in-Some.at in
+    let met : First c.args.slots.now.items c.mixed.result = subst (λ slots. First slots c.mixed.result) c.as_slice.ensures.value c.in-Some.ensures in
+    let first : First c.args.slots.now.items (mixed c.args.key) = subst (First c.args.slots.now.items) c.mixed.ensures met in
+    IsTable-placed layout keys c.args.slots.now.items c.args.key c.in-Some.at _ table first refl (omega (arith, number))
 
 pub returns-in_default-clause-table : goal.returns-in_default-clause-table
 returns-in_default-clause-table c keys table number room =
-    let All : List Slot → Type 0 = λ slots. (at : ℕ) → at < length slots → 0 < (slot_at slots at).held in
-    absurd (no_room keys c.args.slots.now.items table (omega (arith, number, room)) (subst All c.as_slice.ensures.value c.in_default.ensures))
+    let All : List Slot → Type 0 = λ slots. (at : ℕ) → at < length slots → 0 < held_at layout slots at in
+    absurd (no_room layout keys c.args.slots.now.items table (omega (arith, number, room)) (subst All c.as_slice.ensures.value c.in_default.ensures))

@@ -3,7 +3,8 @@ use Rattle.std.proofs.lemmas.List.{map_push, length-map, length_push}
 use Rattle.pattern_counts.specs.Tally.{Tally, IsTally}
 use Rattle.pattern_counts.specs.Hashes.{hash_of}
 use Rattle.pattern_counts.specs.Counted.{Counted}
-use Rattle.pattern_counts.specs.Table.{IsTable}
+use Rattle.open_addressing.specs.Table.{IsTable}
+use Rattle.pattern_counts.specs.Table.{layout}
 use Rattle.pattern_counts.proofs.SumLemmas.{adds_new, tally_new}
 use Rattle.pattern_counts.proofs.ListsLemmas.{ranks_of-push}
 use Rattle.pattern_counts.proofs.counts.Counts.append.Goals as goal
@@ -39,7 +40,7 @@ module _ (c : After-place) where
   few : length c.push.new.self.lists ≤ 4294967295
   few = omega (arith, most, ap length c.push.ensures.lists, length_push c.self.inside.lists.lists c.args.list.now)
 
-  table : IsTable c.push_reserved-2.new.self.items c.place.new.slots.items
+  table : IsTable layout c.push_reserved-2.new.self.items c.place.new.slots.items
   table =
       rw c.push_reserved-2.ensures.items (c.place.ensures.table c.self.inside.hashes.items c.self.invariant.table (omega (arith, count, c.len-number.ensures)) (omega (arith, room, c.len-number.ensures)))
 

@@ -1,6 +1,6 @@
 use Rattle.std.proofs.Common.{rules}
-use Rattle.pattern_counts.specs.Table.{home_of}
-use Rattle.pattern_counts.proofs.table.home_in.Goals as goal
+use Rattle.open_addressing.specs.Table.{home_of}
+use Rattle.open_addressing.proofs.home.Goals as goal
 
 pub returns-clause-home : goal.returns-clause-home
 unfolding home_of

@@ -1,6 +1,0 @@
-use Rattle.std.proofs.Common.{ℕ, ◌≤◌, ◌<◌}
-use Rattle.pattern_counts.specs.Table.{slot_at}
-use Rattle.pattern_counts.proofs.table.first_free.Given as goal
-
-abbrev pub invariant-loop-at : goal.invariant-loop-at
-invariant-loop-at l = (other : ℕ) → l.from ≤ other → other < l.at → 0 < (slot_at l.slots other).held
