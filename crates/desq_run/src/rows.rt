@@ -21,8 +21,8 @@ use frequency_list::count;
 use fst_compile::compile;
 use fst_simulate::Job;
 use item_names::Names;
-use mine_model::{Db, Expr, Fault, Gate, Hierarchy, Mined, NoMemory};
-use patex_parser::{Parsed, parse, resolve};
+use mine_model::{Db, Expr, Fault, Gate, Hierarchy, Item, Mined, NoMemory};
+use patex_parser::{FindName, Parsed, parse, resolve};
 use pattern_writer::order;
 use search_engine::simulate;
 use std::alloc::Global;
@@ -104,6 +104,18 @@ fn ordered_rows<R: Threads + Wait + Sync, G: Gate>(
     Ok(Mined { rows, work })
 }
 
+/// The names of items, to look up those of an expression.
+#[derive(Drop)]
+struct HeldNames<'a>(&'a Names);
+
+impl<'a> FindName for HeldNames<'a> {
+    ghost names_of = { λ held. held.0.now };
+
+    fn find(&self, name: &[u8]) -> Option<Item> {
+        self.0.find(name)
+    }
+}
+
 /// The rows of the answer, and the work of finding them.
 pub(crate) fn rows_of<R: Threads + Wait + Sync, G: Gate>(
     rt: &R,
@@ -132,6 +144,6 @@ pub(crate) fn rows_of<R: Threads + Wait + Sync, G: Gate>(
     ensures refused { IfErr result (λ fault. (fault ≡ OutOfMemory)
         ⊎ IsUnknown names.now (map use_view parsed.now.uses.items) fault) }
 {
-    let expression = resolve(parsed, names)?;
+    let expression = resolve(parsed, &HeldNames(names))?;
     Ok(ordered_rows(rt, alloc, names, hierarchy, db, &expression, command, gate)?)
 }

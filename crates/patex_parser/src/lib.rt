@@ -4,6 +4,7 @@
 mod bounds;
 mod bytes;
 mod checks;
+mod find_name;
 mod lexeme;
 mod machine;
 mod parsed;
@@ -13,6 +14,7 @@ mod resolving;
 mod scan;
 mod token;
 
+pub use find_name::FindName;
 pub use parsed::{NameUse, Parsed};
 pub use parser::parse;
 pub use resolving::resolve;

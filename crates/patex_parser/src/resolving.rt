@@ -8,15 +8,20 @@ ghost use Rattle.mine_model.specs.Refusal.{IsUnknown};
 ghost use Rattle.patex_parser.specs.Parsing.{use_view, IsRefused, named_tree, AreWithin};
 ghost use Rattle.patex_parser.specs.Resolving.{AreItemsOf, item_at};
 
+use super::find_name::FindName;
 use super::parsed::{NameUse, Parsed};
-use item_names::Names;
 use mine_model::{Expr, Item, Leaf, NoMemory, PatexFault};
 use std::alloc::Global;
 
 // The items of uses.
-fn items_of(alloc: Global, uses: &[NameUse], names: &Names) -> Result<Vec<Item>, PatexFault>
-    ensures ok { IfOk result (λ items. AreItemsOf names.now (map use_view uses.now) items.items) }
-    ensures err { IfErr result (IsRefused (IsUnknown names.now (map use_view uses.now))) }
+fn items_of<N: FindName>(
+    alloc: Global,
+    uses: &[NameUse],
+    names: &N,
+) -> Result<Vec<Item>, PatexFault>
+    ensures ok { IfOk result
+        (λ items. AreItemsOf (N.names_of names.now) (map use_view uses.now) items.items) }
+    ensures err { IfErr result (IsRefused (IsUnknown (N.names_of names.now) (map use_view uses.now))) }
 {
     let mut items = Vec::new(alloc);
     for name_use in uses {
@@ -91,14 +96,16 @@ fn tree_with(alloc: Global, tree: &Expr, items: &[Item]) -> Result<Expr, NoMemor
 
 /// The expression with the items of its names in place of the numbers of its uses. A name that is not held is
 /// refused at the column of its first use.
-pub fn resolve(parsed: &Parsed, names: &Names) -> Result<Expr, PatexFault>
+pub fn resolve<N: FindName>(parsed: &Parsed, names: &N) -> Result<Expr, PatexFault>
     requires { AreWithin (length (map use_view parsed.now.uses.items)) (named_in (tree_of parsed.now.tree)) }
-    ensures names { IfOk result (λ tree. tree_by (name_of names.now) (tree_of tree)
+    ensures names { IfOk result (λ tree. tree_by (name_of (N.names_of names.now)) (tree_of tree)
         ≡ named_tree (map use_view parsed.now.uses.items) (tree_of parsed.now.tree)) }
-    ensures held { IfOk result (λ tree. AllByRecursion (HasName names.now) (named_in (tree_of tree))) }
+    ensures held { IfOk result
+        (λ tree. AllByRecursion (HasName (N.names_of names.now)) (named_in (tree_of tree))) }
     ensures known { OnOk result ((fault : Fault)
-        → IsUnknown names.now (map use_view parsed.now.uses.items) fault → ⊥) }
-    ensures refused { IfErr result (IsRefused (IsUnknown names.now (map use_view parsed.now.uses.items))) }
+        → IsUnknown (N.names_of names.now) (map use_view parsed.now.uses.items) fault → ⊥) }
+    ensures refused { IfErr result
+        (IsRefused (IsUnknown (N.names_of names.now) (map use_view parsed.now.uses.items))) }
 {
     let alloc = *parsed.uses.allocator();
     let items = items_of(alloc, parsed.uses.as_slice(), names)?;

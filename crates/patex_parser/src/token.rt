@@ -8,7 +8,7 @@ pub(crate) enum Bracket {
 }
 
 /// What a token is to the grammar.
-#[derive(Clone, Copy, PartialEq, Eq)]
+#[derive(Clone, Copy)]
 pub(crate) enum Mark {
     /// A name, by its number: how many names stand before it.
     Name(Item),
@@ -24,7 +24,7 @@ pub(crate) enum Mark {
 }
 
 /// What a token is: a mark, or a repeat that is refused.
-#[derive(Clone, Copy, PartialEq, Eq)]
+#[derive(Clone, Copy)]
 pub(crate) enum Kind {
     Mark(Mark),
     /// A repeat of no right form, or with its bounds the wrong way round.

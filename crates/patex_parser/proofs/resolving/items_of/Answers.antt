@@ -6,15 +6,15 @@ use Rattle.patex_parser.proofs.ResolveLemmas.{unknown-here, items-on}
 use Rattle.patex_parser.proofs.resolving.items_of.Goals as goal
 
 pub returns-in_default-clause-err : goal.returns-in_default-clause-err
-returns-in_default-clause-err c =
-    let names = c.args.names.now in
+returns-in_default-clause-err g c =
+    let names = g.N.FindName.names_of c.args.names.now in
     let u = c.name_use-item.result in
     inr (unknown-here names c.args.uses.now c.loop-name_use.items.items c.loop-name_use.name_use-index u c.loop-name_use-test.true c.name_use-item.is
     c.loop-name_use.invariant (subst (λ text. Contains names text → ⊥) c.bytes.ensures (c.in_default.ensures.none.0 refl)))
 
 pub loop-name_use-preserved : goal.loop-name_use-preserved
-loop-name_use-preserved c =
-    let names = c.args.names.now in
+loop-name_use-preserved g c =
+    let names = g.N.FindName.names_of c.args.names.now in
     let u = c.name_use-item.result in
     let on = items-on names c.args.uses.now c.loop-name_use.items.items c.loop-name_use.name_use-index u c.in-Some.item c.loop-name_use-test.true c.name_use-item.is
     c.loop-name_use.invariant (c.in-Some.ensures.number ∙ ap (λ text. Some text) c.bytes.ensures) in
