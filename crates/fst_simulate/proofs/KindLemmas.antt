@@ -28,7 +28,7 @@ use Rattle.fst_simulate.specs.declared.kinds.Kinds.{Kinds}
 use Rattle.fst_simulate.specs.Problems.{Problem, IsWhole}
 use Rattle.fst_simulate.specs.Grids.{Reads, WritesRank}
 use Rattle.fst_simulate.specs.Tables.{ClassSets, IsClassOf, LeadsInto, unknown}
-use Rattle.fst_simulate.specs.Kinds.{IsNeededRank, Writes, Goes, Needs, IsTarget, IsClassFor, IsCell, IsRow, AreEntered, Extends, IsKind, HasKind, AreKinds, KindsGrow}
+use Rattle.fst_simulate.specs.Kinds.{IsNeededRank, Writes, Goes, Needs, IsTarget, IsClassFor, IsCell, IsRow, AreEntered, Extends, IsKind, HasKind, AreKinds, KindsGrow, AreRows, row_at}
 
 -- ---- ranks
 
@@ -434,3 +434,37 @@ KindsGrow-twice a b c first second = record {
   ends = Extends-twice a.ends.items b.ends.items c.ends.items first.ends second.ends;
   ranks = Extends-twice a.ranks.items b.ranks.items c.ranks.items first.ranks second.ranks;
 }
+
+-- ---- kinds that are alike
+
+-- the rows of a kind may be read
+pub AreRows-of : (problem : Problem) (bound : Bound) (classes : List ClassSets) (ends ranks : List ℕ) (t : Item) (kind : Kind) (count : ℕ)
+    → count ≡ length problem.machine.labels + 1 → IsKind problem bound classes ends ranks t kind → AreRows ends ranks kind.base count
+AreRows-of problem bound classes ends ranks t kind count all is = record {
+  room = λ k some below. let room = is.room in omega arith;
+  forward = λ k some below. (is.cells k (some, omega arith)).forward;
+  within = λ k some below. (is.cells k (some, omega arith)).within;
+}
+
+-- a kind of the same class with the same outputs serves as well
+pub IsKind-alike : (problem : Problem) (bound : Bound) (classes : List ClassSets) (ends ranks : List ℕ) (t u : Item) (kind met : Kind) (count : ℕ)
+    → count ≡ length problem.machine.labels + 1 → IsKind problem bound classes ends ranks t kind → IsKind problem bound classes ends ranks u met → met.class ≡ kind.class
+    → ((k : ℕ) → 1 ≤ k → k < count → row_at ends ranks kind.base k ≡ row_at ends ranks met.base k) → IsKind problem bound classes ends ranks t met
+IsKind-alike problem bound classes ends ranks t u kind met count all is other class same = record {
+  class = let (c, found, right) = is.class in (c, ap (slice_get classes) class ∙ found, right);
+  room = other.room;
+  cells = λ k target.
+      let row : row_at ends ranks kind.base k ≡ row_at ends ranks met.base k = same k target.0 (let high = target.1 in omega arith) in
+      record {
+        forward = (other.cells k target).forward;
+        within = (other.cells k target).within;
+        outputs = λ rank. subst (λ (xs : List ℕ). Contains xs rank ↔ WritesRank problem bound t k rank) row ((is.cells k target).outputs rank);
+        once = subst (λ (xs : List ℕ). AllPairs (λ one other. one ≢ other) xs) row (is.cells k target).once;
+      };
+}
+
+-- the kind of an item that has one
+pub HasKind-at : (problem : Problem) (bound : Bound) (classes : List ClassSets) (kinds : Kinds) → AreKinds problem bound classes kinds
+    → (i number : ℕ) → i < length kinds.numbers.items → number ≡ slice_index kinds.numbers.items i → number ≢ unknown
+    → HasKind problem bound classes kinds (record { 0 = i }) number
+HasKind-at problem bound classes kinds are i number inside is some = rw is (are.right (record { 0 = i }) inside (λ none. some (is ∙ none)))

@@ -5,6 +5,7 @@ use Rattle.mine_model.specs.declared.item.Item.{Item}
 use Rattle.mine_model.specs.Numbered.{leaf_of}
 use Rattle.mine_model.specs.Generation.{Matches, WritesAt}
 use Rattle.mine_model.specs.Ranks.{Ranking, HasRank}
+use Rattle.mine_model.specs.SearchTree.{IsRankedUpTo}
 use Rattle.fst_compile.specs.declared.edge.Label.{Label}
 use Rattle.fst_compile.specs.Transducer.{IsPath}
 use Rattle.fst_simulate.specs.declared.bound.Bound.{Bound}
@@ -12,7 +13,7 @@ use Rattle.fst_simulate.specs.Problems.{Problem, items_of}
 
 -- the item has a rank up to the top
 abbrev pub IsAllowed : Ranking → Bound → Item → Type 0
-IsAllowed ranking bound v = (rank : ℕ) × HasRank ranking.order v rank × (rank ≤ bound.top)
+IsAllowed ranking bound v = IsRankedUpTo ranking.order bound.top v
 
 -- the item is the one that is needed; where none is, any is
 abbrev pub IsNeeded : Ranking → Option ℕ → Item → Type 0

@@ -57,11 +57,21 @@ pub record IsRow (problem : Problem) (bound : Bound) (t : Item) (base : ℕ) (en
   pub cells : (k : ℕ) → 1 ≤ k → k < count → IsCell problem bound t base ends ranks k
 
 -- the lists have the states below the count into which the item leads
-pub record AreEntered (problem : Problem) (bound : Bound) (t : Item) (count : ℕ) (silent writes needs : List ℕ)
-    : Type 0 where
+pub record AreEntered (problem : Problem) (bound : Bound) (t : Item) (count : ℕ)
+    (silent writes needs : List ℕ) : Type 0 where
   pub silent_are : (k : ℕ) → Contains silent k ↔ ((1 ≤ k) × (k < count) × Reads problem t k [])
   pub writes_are : (k : ℕ) → Contains writes k ↔ ((1 ≤ k) × (k < count) × Writes problem bound t k)
   pub needs_are : (k : ℕ) → Contains needs k ↔ ((1 ≤ k) × (k < count) × Needs problem bound t k)
+
+-- the ranks between the ends of the state before and of this one
+abbrev pub row_at : List ℕ → List ℕ → ℕ → ℕ → List ℕ
+row_at ends ranks base k = slice_range ranks (slice_index ends (base + k - 1)) (slice_index ends (base + k))
+
+-- from the base on the rows of the states below the count stand where they may be read
+pub record AreRows (ends ranks : List ℕ) (base count : ℕ) : Type 0 where
+  pub room : (k : ℕ) → 1 ≤ k → k < count → base + k < length ends
+  pub forward : (k : ℕ) → 1 ≤ k → k < count → slice_index ends (base + k - 1) ≤ slice_index ends (base + k)
+  pub within : (k : ℕ) → 1 ≤ k → k < count → slice_index ends (base + k) ≤ length ranks
 
 -- the list stays or grows at its end
 abbrev pub Extends : {A : Type 0} → List A → List A → Type 0

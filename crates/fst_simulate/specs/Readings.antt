@@ -19,11 +19,11 @@ abbrev pub outputs_at : Reading → ℕ → List ℕ
 outputs_at reading k =
     slice_range reading.ranks.now (slice_index reading.ends.now (k - 1)) (slice_index reading.ends.now k)
 
--- What edges into the state do at t: whether they read it and write nothing, or may write something that the
--- bound allows; whether the state completes, and whether it ends, over the rest; what they may write, each rank
--- once.
-pub record IsReadAt (problem : Problem) (bound : Bound) (t : Item) (rest : List Item) (reading : Reading) (k : ℕ)
-    : Type 0 where
+-- What edges into the state do at t: whether they read it and write nothing, or may write something that
+-- the bound allows; whether the state completes, and whether it ends, over the rest; what they may write,
+-- each rank once.
+pub record IsReadAt (problem : Problem) (bound : Bound) (t : Item) (rest : List Item) (reading : Reading)
+    (k : ℕ) : Type 0 where
   pub silent : HasBit reading.silent.now k ↔ Reads problem t k []
   pub writing : HasBit reading.writing.now k ↔ ((rank : ℕ) × WritesRank problem bound t k rank)
   pub seen : HasBit reading.seen.now k ↔ Completes problem bound rest k true

@@ -1,12 +1,12 @@
 //! What items may do under a bound, found out when they are first met.
 
-ghost use Rattle.std.specs.Prelude.{◌≡◌, ◌≢◌, ℕ, ◌+◌, ◌≤◌, ◌<◌, ◌⊎◌, ◌↔◌, AllPairs, ◌-◌, [], drop, length, slice_index, slice_get, slice_range, Some, Contains, IfOk, OnOk, IsTrue};
+ghost use Rattle.std.specs.Prelude.{◌≡◌, ◌≢◌, ℕ, ◌+◌, ◌≤◌, ◌<◌, ◌⊎◌, ◌↔◌, AllPairs, ◌-◌, [], drop, length, slice_index, slice_get, slice_range, Some, Contains, IfOk, IfSome, OnOk, IsTrue};
 ghost use Rattle.mine_model.specs.declared.item.Item.{Item};
 ghost use Rattle.mine_model.specs.Ancestry.{AreRising};
 ghost use Rattle.mine_model.specs.Ranks.{HasRank};
 ghost use Rattle.fst_simulate.specs.Grids.{Reads, WritesRank};
 ghost use Rattle.fst_simulate.specs.Tables.{Grows, unknown};
-ghost use Rattle.fst_simulate.specs.Kinds.{IsTarget, IsNeededRank, IsRow, AreEntered, Extends, HasKind, HasCell, AreKinds, KindsGrow};
+ghost use Rattle.fst_simulate.specs.Kinds.{IsTarget, IsNeededRank, IsRow, AreEntered, Extends, HasKind, HasCell, AreKinds, KindsGrow, IsKind, AreRows, row_at};
 ghost use Rattle.fst_simulate.specs.declared.kinds.Kind.{Kind};
 
 use super::bound::Bound;
@@ -34,6 +34,8 @@ pub(crate) struct Kinds {
     pub(crate) kinds: Vec<Kind>,
     pub(crate) ends: Vec<u32>,
     pub(crate) ranks: Vec<u32>,
+    // By a hash of its outputs an item that may have the same ones: no more than a hint.
+    pub(crate) hints: Vec<u32>,
 }
 
 /// Room for what is found out of one item: the states that it leads into without an output, with one, and
@@ -71,6 +73,7 @@ impl Kinds {
             kinds: Vec::new(alloc),
             ends: Vec::new(alloc),
             ranks: Vec::new(alloc),
+            hints: vec![in alloc; NONE; HINTS]?,
         })
     }
 }
@@ -96,7 +99,8 @@ pub(crate) fn ends_from(ends: &[u32], base: usize) -> &[u32]
     &ends[base..]
 }
 
-/// The number of the kind of an item, which is found out if it was not yet met.
+/// The number of the kind of an item, which is found out if it was not yet met. Items that do the same share
+/// one where a hint leads to it.
 pub(crate) fn kind_of(
     job: &Job,
     bound: Bound,
@@ -118,16 +122,114 @@ pub(crate) fn kind_of(
         return Ok(known);
     }
     let base = kinds.ends.len();
+    let first = kinds.ranks.len();
     push_outputs(job, bound, t, &mut kinds.ends, &mut kinds.ranks, scratch)?;
     let class = tables.class_number(
         scratch.silent.as_slice(),
         scratch.writes.as_slice(),
         scratch.needs.as_slice(),
     )?;
+    let hint = hint_of(class, &kinds.ranks.as_slice()[first..]);
+    if let Some(number) = alike(job, bound, tables, kinds, t, Kind { class, base }, hint) {
+        kinds.numbers[t.0 as usize] = number;
+        return Ok(number);
+    }
     let number = to_number(kinds.kinds.len())?;
     kinds.kinds.push(Kind { class, base })?;
     kinds.numbers[t.0 as usize] = number;
+    keep_hint(&mut kinds.hints, hint, t);
     Ok(number)
+}
+
+// How many hints there are.
+const HINTS: usize = 65_521;
+
+// Where the hint stands for outputs of a class.
+fn hint_of(class: u32, ranks: &[u32]) -> usize {
+    let mut hash = u64::from(class);
+    for rank in ranks {
+        hash = hash
+            .wrapping_add(u64::from(*rank))
+            .wrapping_mul(0x9E37_79B9_7F4A_7C15);
+    }
+    ((hash >> 16) % 65_521) as usize
+}
+
+// Keeps the item as a hint.
+fn keep_hint(hints: &mut Vec<u32>, hint: usize, t: Item) {
+    if hint < hints.len() {
+        hints[hint] = t.0;
+    }
+}
+
+// The number of the kind of the item that a hint names, where it has the class and the outputs of this one,
+// which are those of item t.
+fn alike(
+    job: &Job,
+    bound: Bound,
+    tables: &Tables,
+    kinds: &Kinds,
+    t: Item,
+    kind: Kind,
+    hint: usize,
+) -> Option<u32>
+    requires kinds { AreKinds job.now bound tables.now.classes kinds.now }
+    requires kind { IsKind job.now bound tables.now.classes kinds.now.ends.items kinds.now.ranks.items t kind }
+    ensures { IfSome result (HasKind job.now bound tables.now.classes kinds.now t) }
+{
+    let _tables = tables;
+    let _bound = bound;
+    let _t = t;
+    let other = *kinds.hints.get(hint)?;
+    if other as usize >= kinds.numbers.len() {
+        return None;
+    }
+    let number = kinds.numbers[other as usize];
+    if number == NONE {
+        return None;
+    }
+    let states = job.fst().states();
+    let met = kinds.kinds[number as usize];
+    if met.class == kind.class
+        && same_outputs(
+            kinds.ends.as_slice(),
+            kinds.ranks.as_slice(),
+            met.base,
+            kind.base,
+            states,
+        )
+    {
+        Some(number)
+    } else {
+        None
+    }
+}
+
+// Whether the outputs of the states below the count are the same from one base on and from another.
+fn same_outputs(ends: &[u32], ranks: &[u32], one: usize, other: usize, count: u32) -> bool
+    requires one { AreRows ends.now ranks.now one count }
+    requires other { AreRows ends.now ranks.now other count }
+    ensures { IsTrue result → (k : ℕ) → 1 ≤ k → k < count
+        → row_at ends.now ranks.now other k ≡ row_at ends.now ranks.now one k }
+{
+    for k in 1..count {
+        if outputs_from(ends, ranks, one, k) != outputs_from(ends, ranks, other, k) {
+            return false;
+        }
+    }
+    true
+}
+
+// The outputs of state k from a base on.
+fn outputs_from<'a>(ends: &[u32], ranks: &'a [u32], base: usize, k: u32) -> &'a [u32]
+    requires state { 1 ≤ k }
+    requires room { base + k < length ends.now }
+    requires forward { slice_index ends.now (base + k - 1) ≤ slice_index ends.now (base + k) }
+    requires within { slice_index ends.now (base + k) ≤ length ranks.now }
+    ensures { result.now ≡ row_at ends.now ranks.now base k }
+{
+    let end = base + k as usize;
+    &ranks[ends[end - 1] as usize..ends[end] as usize]
 }
 
 // The outputs of an item at all states behind the others, and the states that it leads into.

@@ -4,8 +4,8 @@ ghost use Rattle.fst_simulate.specs.Readings.{HasOutputs, outputs_at};
 use fst_compile::State;
 
 /// What reading the item at a position of a sequence may do, where the place was looked up once: the states
-/// whose edges read it and write nothing, those whose edges may write something, those that complete behind it
-/// where what is needed was seen and where it was not, and those that end behind it, each as words of 64
+/// whose edges read it and write nothing, those whose edges may write something, those that complete behind
+/// it where what is needed was seen and where it was not, and those that end behind it, each as words of 64
 /// states; and what may be written, as ranks, state by state.
 #[derive(Clone, Copy, Debug)]
 pub struct Reading<'a> {

@@ -34,8 +34,8 @@ pub(crate) struct Triple<const W: usize> {
     pub(crate) ends: StateSet<W>,
 }
 
-/// The states that an item leads into without an output and with one, those that complete behind it where what
-/// is needed was seen and where it was not, and those that end there, as words.
+/// The states that an item leads into without an output and with one, those that complete behind it where
+/// what is needed was seen and where it was not, and those that end there, as words.
 #[derive(Clone, Copy, Debug)]
 pub(crate) struct Words<'a> {
     pub(crate) silent: &'a [u64],

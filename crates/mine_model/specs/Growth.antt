@@ -27,7 +27,8 @@ IsAlive d IsWithin prefix = WeighAtLeast (HasPatternBehind d IsWithin prefix) d.
 abbrev pub AreFrequentItems : {A : Type 0} → Data A → List A → Type 0
 AreFrequentItems d items = AllByRecursion (IsFrequentItem d.links d.sequences d.threshold) items
 
--- the work of a search by prefixes: its nodes are the alive prefixes, and it has one root where there is a node
+-- the work of a search by prefixes: its nodes are the alive prefixes, and it has one root where there is a
+-- node
 pub record IsSearchWork {A : Type 0} (d : Data A) (work : Work) : Type 0 where
   pub prefixes : List (List A)
   pub once : AllPairs (λ first second. first ≢ second) prefixes

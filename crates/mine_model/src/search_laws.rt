@@ -12,7 +12,8 @@ ghost use Rattle.mine_model.specs.Numbered.{AreFrequent};
 ghost use Rattle.mine_model.specs.Cover.{Covers};
 ghost use Rattle.mine_model.specs.SearchTree.{IsAliveLabel, SearchTree, IsSearchTree};
 
-/// What begins an alive prefix is alive, among the patterns of frequent items and within the bound of a pivot.
+/// What begins an alive prefix is alive, among the patterns of frequent items and within the bound of a
+/// pivot.
 pub fn prefixes_of_alive_prefixes_are_alive()
     ensures prefixes { (data_of_run : Data (List ℕ)) (prefix more : List (List ℕ))
         → IsAlive data_of_run (AreFrequentItems data_of_run) (prefix ++ more)

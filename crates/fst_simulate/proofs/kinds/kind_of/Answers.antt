@@ -1,6 +1,7 @@
 use Rattle.std.proofs.Common.{◌≡◌, ◌∙◌, ◌+◌, sym, arith, refl, length, []}
 use Rattle.std.proofs.lemmas.List.{append-nil}
 use Rattle.fst_simulate.specs.declared.kinds.Kind.{Kind}
+use Rattle.fst_simulate.specs.declared.kinds.Kinds.{Kinds}
 use Rattle.fst_simulate.specs.Grids.{Reads}
 use Rattle.fst_simulate.specs.Tables.{IsClassOf}
 use Rattle.fst_simulate.specs.Kinds.{Writes, Needs, AreKinds}
@@ -67,3 +68,35 @@ returns-clause-kinds c =
     AreKinds-more c.args.job.now c.args.bound c.class_number.new.self.classes c.args.kinds.now _ c.args.t c.in_ok-number.number grown
     (record { kinds = (_, c.in_ok-push.ensures.items); ends = c.push_outputs.ensures.ends; ranks = c.push_outputs.ensures.ranks })
     (omega (arith, c.requires.item, c.requires.kinds.all)) refl (returns-clause-kind c)
+
+pub alike-requires-clause-kinds : goal.alike-requires-clause-kinds
+alike-requires-clause-kinds c =
+    AreKinds-grow c.args.job.now c.args.bound c.args.tables.now.classes c.class_number.new.self.classes c.args.kinds.now _ c.requires.kinds c.class_number.ensures.grows.classes
+    (record { kinds = Extends-nothing c.args.kinds.now.kinds.items; ends = c.push_outputs.ensures.ends; ranks = c.push_outputs.ensures.ranks }) refl
+
+pub alike-requires-clause-kind : goal.alike-requires-clause-kind
+alike-requires-clause-kind c =
+    let (class, found, are) = c.in_ok-class.ensures.class in
+    let of : IsClassOf class c.push_outputs.new.scratch.silent.items c.push_outputs.new.scratch.writes.items c.push_outputs.new.scratch.needs.items =
+    rw (c.as_slice.ensures.value, c.as_slice-2.ensures.value, c.as_slice-3.ensures.value) at are in
+    let base : c.len-base.result ≡ length c.args.kinds.now.ends.items = omega (arith, c.len-base.ensures) in
+    IsKind-of c.args.job.now c.args.bound c.class_number.new.self.classes c.push_outputs.new.ends.items c.push_outputs.new.ranks.items c.args.t
+    (record { class = c.in_ok-class.class; base = c.len-base.result }) (length c.args.kinds.now.ends.items) base c.in_ok-push_outputs.ensures.row class found
+    (IsClassFor-of c.args.job.now c.args.bound c.args.t class c.push_outputs.new.scratch.silent.items c.push_outputs.new.scratch.writes.items c.push_outputs.new.scratch.needs.items of
+    c.in_ok-push_outputs.ensures.entered)
+
+pub returns-in-Some-clause-kinds : goal.returns-in-Some-clause-kinds
+returns-in-Some-clause-kinds c =
+    let kinds : Kinds = record {
+      numbers = c.args.kinds.now.numbers;
+      kinds = c.args.kinds.now.kinds;
+      ends = c.push_outputs.new.ends;
+      ranks = c.push_outputs.new.ranks;
+      hints = c.args.kinds.now.hints;
+    } in
+    let grown : AreKinds c.args.job.now c.args.bound c.class_number.new.self.classes kinds =
+    AreKinds-grow c.args.job.now c.args.bound c.args.tables.now.classes c.class_number.new.self.classes c.args.kinds.now kinds c.requires.kinds c.class_number.ensures.grows.classes
+    (record { kinds = Extends-nothing c.args.kinds.now.kinds.items; ends = c.push_outputs.ensures.ends; ranks = c.push_outputs.ensures.ranks }) refl in
+    AreKinds-more c.args.job.now c.args.bound c.class_number.new.self.classes kinds _ c.args.t c.in-Some.number grown
+    (record { kinds = Extends-nothing kinds.kinds.items; ends = Extends-nothing kinds.ends.items; ranks = Extends-nothing kinds.ranks.items })
+    (omega (arith, c.requires.item, c.requires.kinds.all)) refl c.in-Some.ensures
