@@ -16,6 +16,7 @@ pub mod StartLemmas
 pub mod TallyLemmas
 pub mod LongerLemmas
 pub mod HitLemmas
+pub mod SpanLemmas
 pub mod WayLemmas
 pub mod StepLemmas
 pub mod SearchLemmas

@@ -7,6 +7,7 @@ pub mod Live
 pub mod Parts
 pub mod Aims
 pub mod Hits
+pub mod Spans
 pub mod Joins
 pub mod Walks
 pub mod Groups

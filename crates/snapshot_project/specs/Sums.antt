@@ -56,6 +56,11 @@ pub record AreSums (grid : ℕ) (places : List ℕ) (sums : List Sum) : Type 0 w
   pub ended : (sum : Sum) → Contains sums sum → sum.ended ≤ grid
   pub support : (sum : Sum) → Contains sums sum → sum.support ≤ sum.ended * most_weight
 
+-- the sums were last added to, and last counted for the support, before the grid
+pub record AreBefore (grid : ℕ) (sums : List Sum) : Type 0 where
+  pub last : (sum : Sum) (rank : ℕ) → sum_of sums rank ≡ Some sum → sum.last ≢ grid
+  pub ended : (rank : ℕ) → ended_of sums rank ≤ grid
+
 -- the weight now, where the sequence of the grid was counted before or not
 abbrev pub Adds : ℕ → ℕ → Option Sum → ℕ → Type 0
 Adds grid weight None now = now ≡ weight

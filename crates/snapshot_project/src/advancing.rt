@@ -15,7 +15,7 @@ use super::next_rank::NextRank;
 use super::part::Part;
 use super::room::Room;
 use super::snapshots::Snapshots;
-use super::walking::walk;
+use super::walking::walk_hits;
 use mine_model::NoMemory;
 use std::alloc::Global;
 
@@ -31,6 +31,7 @@ pub fn advance(
     ensures { IfOk result (λ longer. (ranks : List ℕ) → AreSnapshots part.now ranks snapshots.now
         → AreSnapshots part.now (ranks ++ rank ∷ []) longer) }
 {
+    let mut spans = Vec::new(alloc);
     let mut hits = Vec::new(alloc);
     let mut longer = Snapshots::new(alloc, sees(snapshots.seen(), part.need(), rank), 0, 0)?;
     let mut support = 0;
@@ -43,7 +44,14 @@ pub fn advance(
         grid,
     ) {
         let stretch = &snapshots.as_slice()[read..group.end];
-        walk(part, group.grid, stretch, snapshots.seen(), &mut hits)?;
+        walk_hits(
+            part,
+            group.grid,
+            stretch,
+            snapshots.seen(),
+            &mut spans,
+            &mut hits,
+        )?;
         let sequence = part.sequences()[group.grid as usize];
         file_rank(hits.as_slice(), sequence, rank, &mut longer)?;
         if has_end(hits.as_slice(), rank) {
@@ -87,6 +95,7 @@ pub fn advance_all(
     }
     place_ranks(next, &mut room.places)?;
     fill_lists(
+        alloc,
         part,
         snapshots,
         next,
@@ -131,6 +140,7 @@ fn goes_on(next: &[NextRank]) -> bool
 
 /// Fills the lists of these ranks.
 fn fill_lists(
+    alloc: Global,
     part: &Part,
     snapshots: &Snapshots,
     next: &[NextRank],
@@ -149,6 +159,7 @@ fn fill_lists(
         → IsTold part.now ranks n → slice_get longer.new.items i ≡ Some list
         → AreSnapshots part.now (ranks ++ n.rank ∷ []) list) }
 {
+    let mut spans = Vec::new(alloc);
     let mut read = 0;
     let mut grid = 0;
     'groups: while let Some(group) = next_group(
@@ -158,7 +169,14 @@ fn fill_lists(
         grid,
     ) {
         let stretch = &snapshots.as_slice()[read..group.end];
-        walk(part, group.grid, stretch, snapshots.seen(), hits)?;
+        walk_hits(
+            part,
+            group.grid,
+            stretch,
+            snapshots.seen(),
+            &mut spans,
+            hits,
+        )?;
         let sequence = part.sequences()[group.grid as usize];
         file_all(hits.as_slice(), sequence, next, places, longer)?;
         read = group.end;

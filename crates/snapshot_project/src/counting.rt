@@ -1,11 +1,15 @@
 //! Weights by rank, each sequence counted once.
 
-ghost use Rattle.std.specs.Prelude.{◌≡◌, ℕ, ◌+◌, ◌*◌, ◌^◌, ◌≤◌, ◌<◌, ◌||◌, length, Some, All, IfOk, OnOk};
+ghost use Rattle.std.specs.Prelude.{◌≡◌, ℕ, ◌+◌, ◌*◌, ◌^◌, ◌≤◌, ◌<◌, ◌||◌, ◌++◌, List, length, Some, All, IfOk, OnOk};
 ghost use Rattle.mine_model.specs.Limits.{most_sequences, most_weight};
-ghost use Rattle.snapshot_project.specs.Hits.{HasHit};
-ghost use Rattle.snapshot_project.specs.Sums.{AreSums, AreAdded, IsAdded, Adds, AddsSupport};
+ghost use Rattle.snapshot_project.specs.declared.hit.Hit.{Hit as Found};
+ghost use Rattle.snapshot_project.specs.declared.counting.Sum.{Sum as Summed};
+ghost use Rattle.snapshot_project.specs.Spans.{hits_in, hits_of};
+ghost use Rattle.snapshot_project.specs.Sums.{AreSums, AreBefore, AreAdded, HaveAdded, IsAdded, Adds, AddsSupport};
 
+use super::aim::Aim;
 use super::hit::Hit;
+use super::span::Span;
 use mine_model::NoMemory;
 
 /// What a rank weighs in the sequences up to the grid of the last one that it was met in; what it weighs in
@@ -23,23 +27,49 @@ pub(crate) struct Sum {
 }
 
 /// Adds the weight of the sequence of a grid to the sum of each rank that was hit in it, once.
-pub(crate) fn add_hits(
-    hits: &[Hit],
+pub(crate) fn add_spans(
+    spans: &[Span],
+    aim: Aim,
     grid: u32,
     weight: u64,
     places: &mut Vec<u32>,
     sums: &mut Vec<Sum>,
 ) -> Result<(), NoMemory>
-    requires ranks { All (λ hit. hit.rank < length places.old.items) hits.now }
+    requires ranks { All (λ hit. hit.rank < length places.old.items) (hits_of aim spans.now) }
     requires weight { weight ≤ most_weight }
     requires grid { grid < most_sequences }
     requires sums { AreSums grid places.old.items sums.old.items }
     ensures room { length places.new.items ≡ length places.old.items }
     ensures sums { OnOk result (AreSums (grid + 1) places.new.items sums.new.items) }
-    ensures added { OnOk result (AreAdded hits.now weight sums.old.items sums.new.items) }
+    ensures added { OnOk result (AreAdded (hits_of aim spans.now) weight sums.old.items sums.new.items) }
 {
-    for hit in hits {
-        add_hit(*hit, grid, weight, places, sums)?;
+    for span in spans {
+        add_span(span, aim, grid, weight, places, sums)?;
+    }
+    Ok(())
+}
+
+/// The same for the ranks of one span, where it is done for those before it.
+fn add_span(
+    span: &Span,
+    aim: Aim,
+    grid: u32,
+    weight: u64,
+    places: &mut Vec<u32>,
+    sums: &mut Vec<Sum>,
+) -> Result<(), NoMemory>
+    requires ranks { All (λ rank. rank < length places.old.items) span.now.ranks.now }
+    requires weight { weight ≤ most_weight }
+    requires grid { grid < most_sequences }
+    requires sums { AreSums (grid + 1) places.old.items sums.old.items }
+    ensures room { length places.new.items ≡ length places.old.items }
+    ensures sums { OnOk result (AreSums (grid + 1) places.new.items sums.new.items) }
+    ensures added { OnOk result ((before : List Summed) (hits : List Found) → AreBefore grid before
+        → HaveAdded hits grid weight before sums.old.items
+        → HaveAdded (hits ++ hits_in aim span.now) grid weight before sums.new.items) }
+{
+    for rank in span.ranks {
+        add_hit(span.hit(aim, *rank), grid, weight, places, sums)?;
     }
     Ok(())
 }

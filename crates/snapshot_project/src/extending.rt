@@ -7,9 +7,9 @@ ghost use Rattle.snapshot_project.specs.Snapshots.{AreSnapshots};
 ghost use Rattle.snapshot_project.specs.Extensions.{AreNextRanks, CanFollow, IsSupportOf, NothingFollows};
 ghost use Rattle.snapshot_project.specs.Sums.{AreSums, AreEnough, weight_of, support_of, goes_of};
 
-use super::counting::{Sum, add_hits};
+use super::aim::Aim;
+use super::counting::{Sum, add_spans};
 use super::grouping::next_group;
-use super::hit::Hit;
 use super::next_rank::NextRank;
 use super::part::Part;
 use super::room::Room;
@@ -33,22 +33,16 @@ pub fn next_ranks(
     ensures next { IfOk result (λ found. (ranks : List ℕ) → AreSnapshots part.now ranks snapshots.now
         → AreNextRanks part.now ranks least found.items) }
 {
-    count(
-        part,
-        snapshots,
-        &mut room.hits,
-        &mut room.places,
-        &mut room.sums,
-    )?;
+    count(alloc, part, snapshots, &mut room.places, &mut room.sums)?;
     enough(alloc, room.sums.as_slice(), least)
 }
 
 /// Sums up by rank what the sequences weigh in which the rank can follow, and those that generate the prefix
 /// with it, and whether more can follow that.
 fn count(
+    alloc: Global,
     part: &Part,
     snapshots: &Snapshots,
-    hits: &mut Vec<Hit>,
     places: &mut Vec<u32>,
     sums: &mut Vec<Sum>,
 ) -> Result<(), NoMemory>
@@ -64,14 +58,18 @@ fn count(
         → NothingFollows part.now (ranks ++ rank ∷ [])) }
 {
     let sequences = part.sequences();
+    let seen = snapshots.seen();
+    let need = part.need();
+    let aim = Aim { seen, need };
+    let mut spans = Vec::new(alloc);
     sums.clear();
     let mut read = 0;
     let mut grid = 0;
     'groups: while let Some(group) = next_group(sequences, snapshots.as_slice(), read, grid) {
         let stretch = &snapshots.as_slice()[read..group.end];
-        walk(part, group.grid, stretch, snapshots.seen(), hits)?;
+        walk(part, group.grid, stretch, aim, &mut spans)?;
         let weight = part.weight(group.grid);
-        add_hits(hits.as_slice(), group.grid, weight, places, sums)?;
+        add_spans(spans.as_slice(), aim, group.grid, weight, places, sums)?;
         read = group.end;
         grid = group.grid + 1;
     }

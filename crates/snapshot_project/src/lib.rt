@@ -15,6 +15,7 @@ mod part;
 mod room;
 mod snapshot;
 mod snapshots;
+mod span;
 mod starting;
 mod stepping;
 mod supporting;

@@ -2,17 +2,20 @@
 
 ghost use Rattle.std.specs.Prelude.{[], ◌≡◌, ◌≢◌, ℕ, ◌+◌, ◌*◌, ◌≤◌, ◌<◌, ◌⊎◌, ◌↔◌, ◌++◌, length, map, IsTrue, Contains, AllPairs, Some, IfOk, OnOk, slice_get};
 ghost use Rattle.state_bits.specs.Members.{Has, HasBit};
+ghost use Rattle.mine_model.specs.Limits.{most_length};
 ghost use Rattle.mine_model.specs.declared.item.Item.{Item};
 ghost use Rattle.fst_simulate.specs.Grids.{Completes, Reads, items_at, rest_at};
 ghost use Rattle.fst_simulate.specs.Readings.{HasOutputs, outputs_at};
 ghost use Rattle.fst_simulate.specs.Successors.{AreSuccessors, LeadsFrom};
+ghost use Rattle.snapshot_project.specs.declared.aim.Aim.{Aim as Aimed};
 ghost use Rattle.snapshot_project.specs.declared.hit.Hit.{Hit as Found};
 ghost use Rattle.snapshot_project.specs.Aims.{goes, sees_all};
 ghost use Rattle.snapshot_project.specs.Hits.{AreInOrder, AreRanksWithin, IsWritten, Passes, IsHitOf, WritesFrom, HasHitAt, AreWritable, words_of, hit_of};
+ghost use Rattle.snapshot_project.specs.Spans.{hits_of};
 
 use super::aim::Aim;
-use super::hit::Hit;
 use super::part::Part;
+use super::span::Span;
 use fst_compile::State;
 use fst_simulate::{Reading, neighbours};
 use mine_model::NoMemory;
@@ -20,19 +23,21 @@ use state_bits::StateSet;
 
 /// Goes over the item at a position of a grid from the live states: those that are live behind it, and,
 /// appended, what may be written there.
-pub(crate) fn step<const W: usize>(
-    part: &Part,
+pub(crate) fn step<'p, const W: usize>(
+    part: &'p Part,
     successors: &[StateSet<W>],
     grid: u32,
     at: u32,
     live: &StateSet<W>,
     aim: Aim,
-    hits: &mut Vec<Hit>,
+    spans: &mut Vec<Span<'p>>,
 ) -> Result<StateSet<W>, NoMemory>
     requires width { W ≤ 17 }
     requires successors { AreSuccessors W part.now.problem.machine successors.now }
     requires grid { grid < length part.now.sequences }
     requires at { at < length (items_at part.now grid) }
+    requires short { length (items_at part.now grid) ≤ most_length }
+    requires few { length part.now.problem.machine.labels ≤ 1024 }
     requires states { (state : ℕ) → Has live.now state → state ≤ length part.now.problem.machine.labels }
     requires need { aim.need ≡ part.now.bound.need }
     ensures live { IfOk result (λ after. (t : Item) → slice_get (items_at part.now grid) at ≡ Some t
@@ -43,22 +48,22 @@ pub(crate) fn step<const W: usize>(
     ensures states { IfOk result (λ after. (state : ℕ) → Has after state
         → state ≤ length part.now.problem.machine.labels) }
     ensures hits { OnOk result ((t : Item) → slice_get (items_at part.now grid) at ≡ Some t
-        → (hit : Found) → Contains hits.new.items hit ↔ (Contains hits.old.items hit
+        → (hit : Found) → Contains (hits_of aim spans.new.items) hit
+        ↔ (Contains (hits_of aim spans.old.items) hit
         ⊎ IsHitOf part.now.problem part.now.bound live.now t (rest_at part.now grid (at + 1)) aim.seen
         (at + 1) hit)) }
     ensures all { OnOk result ((t : Item) → slice_get (items_at part.now grid) at ≡ Some t
         → (rank state : ℕ) → WritesFrom part.now.problem part.now.bound live.now t
         (rest_at part.now grid (at + 1)) aim.seen rank state
-        → HasHitAt hits.new.items rank (at + 1) state) }
-    ensures order { OnOk result (AreInOrder at hits.old.items → AreInOrder (at + 1) hits.new.items) }
-    ensures ranks { OnOk result (AreRanksWithin part.now.problem hits.old.items
-        → AreRanksWithin part.now.problem hits.new.items) }
+        → HasHitAt (hits_of aim spans.new.items) rank (at + 1) state) }
+    ensures order { OnOk result (AreInOrder at (hits_of aim spans.old.items)
+        → AreInOrder (at + 1) (hits_of aim spans.new.items)) }
+    ensures ranks { OnOk result (AreRanksWithin part.now.problem (hits_of aim spans.old.items)
+        → AreRanksWithin part.now.problem (hits_of aim spans.new.items)) }
 {
-    // The contract of `length` says that positions and states are small.
-    let _length = part.length(grid);
     let reading = part.grids().reading(grid, at);
     let targets = neighbours(successors, live);
-    write(&reading, &targets, aim, (at + 1) as u16, hits)?;
+    write(&reading, &targets, aim, (at + 1) as u16, spans)?;
     Ok(silent(&reading, &targets, aim.goes()))
 }
 
@@ -75,19 +80,19 @@ fn silent<const W: usize>(reading: &Reading, targets: &StateSet<W>, goes: bool) 
 }
 
 /// Appends what edges into these states may write, where a path completes behind it.
-fn write<const W: usize>(
-    reading: &Reading,
+fn write<'p, const W: usize>(
+    reading: &Reading<'p>,
     targets: &StateSet<W>,
     aim: Aim,
     position: u16,
-    hits: &mut Vec<Hit>,
+    spans: &mut Vec<Span<'p>>,
 ) -> Result<(), NoMemory>
     requires width { W ≤ 17 }
     requires targets { (state : ℕ) → Has targets.now state → AreWritable reading.now state }
-    ensures hits { OnOk result ((hit : Found) → Contains hits.new.items hit
-        ↔ (Contains hits.old.items hit ⊎ IsWritten reading.now targets.now aim position hit)) }
-    ensures order { OnOk result ((before : ℕ) → before < position → AreInOrder before hits.old.items
-        → AreInOrder position hits.new.items) }
+    ensures hits { OnOk result ((hit : Found) → Contains (hits_of aim spans.new.items) hit
+        ↔ (Contains (hits_of aim spans.old.items) hit ⊎ IsWritten reading.now targets.now aim position hit)) }
+    ensures order { OnOk result ((before : ℕ) → before < position
+        → AreInOrder before (hits_of aim spans.old.items) → AreInOrder position (hits_of aim spans.new.items)) }
 {
     let mut writers = *targets;
     writers.intersect_with_words(reading.writing);
@@ -104,7 +109,7 @@ fn write<const W: usize>(
             aim.takes_any(unseen),
             aim.need,
         );
-        push_hits(hits, ranks, aim, position, state as u16, unseen, ending)?;
+        push_span(spans, ranks, position, state as u16, unseen, ending)?;
     }
     Ok(())
 }
@@ -138,28 +143,24 @@ fn only(ranks: &[u32], need: u32) -> &[u32]
     &ranks[..0]
 }
 
-/// Appends a hit for each of the ranks, at a state that completes unseen or not, and that ends or not.
-fn push_hits(
-    hits: &mut Vec<Hit>,
-    ranks: &[u32],
-    aim: Aim,
+/// Appends the span of these ranks, at a state that completes unseen or not, and that ends or not.
+fn push_span<'p>(
+    spans: &mut Vec<Span<'p>>,
+    ranks: &'p [u32],
     position: u16,
     state: u16,
     unseen: bool,
     ending: bool,
 ) -> Result<(), NoMemory>
-    ensures { OnOk result (hits.new.items
-        ≡ hits.old.items ++ map (hit_of aim position state unseen ending) ranks.now) }
+    ensures { OnOk result ((aim : Aimed) → hits_of aim spans.new.items
+        ≡ hits_of aim spans.old.items ++ map (hit_of aim position state unseen ending) ranks.now) }
 {
-    for rank in ranks {
-        let behind = aim.with(*rank);
-        hits.push(Hit {
-            rank: *rank,
-            position,
-            state,
-            ends: behind.seen && ending,
-            writes_on: behind.goes() || unseen,
-        })?;
-    }
+    spans.push(Span {
+        ranks,
+        position,
+        state,
+        unseen,
+        ending,
+    })?;
     Ok(())
 }

@@ -1,12 +1,13 @@
 //! The way of a prefix through one sequence: what may follow it is found position by position, from all its
 //! snapshots at once.
 
-ghost use Rattle.std.specs.Prelude.{◌≡◌, ℕ, ◌≤◌, ◌<◌, ◌⊎◌, ◌∷◌, List, length, Some, IfSome, IfNone, OnOk, slice_get, slice_index};
+ghost use Rattle.std.specs.Prelude.{◌≡◌, ℕ, ◌≤◌, ◌<◌, ◌⊎◌, ◌∷◌, ◌++◌, List, length, Some, IfSome, IfNone, OnOk, slice_get, slice_index};
 ghost use Rattle.mine_model.specs.declared.item.Item.{Item};
 ghost use Rattle.fst_simulate.specs.Grids.{items_at};
 ghost use Rattle.fst_simulate.specs.Successors.{AreSuccessors};
 ghost use Rattle.snapshot_project.specs.declared.snapshot.Snapshot.{Snapshot as Taken};
 ghost use Rattle.snapshot_project.specs.Hits.{AreInOrder, AreRanksWithin, AreHits};
+ghost use Rattle.snapshot_project.specs.Spans.{hits_in, hits_of};
 ghost use Rattle.snapshot_project.specs.Walks.{AreGroupOf, IsNextAt};
 ghost use Rattle.state_bits.specs.Members.{Has};
 
@@ -15,6 +16,7 @@ use super::hit::Hit;
 use super::joining::join;
 use super::part::Part;
 use super::snapshot::Snapshot;
+use super::span::Span;
 use super::stepping::step;
 use fst_simulate::Successors;
 use mine_model::NoMemory;
@@ -22,11 +24,37 @@ use state_bits::StateSet;
 
 /// Finds what may be written behind the prefix of these snapshots, all of one sequence, the one of the grid,
 /// and among them all from which more can be written.
-pub(crate) fn walk(
-    part: &Part,
+pub(crate) fn walk<'p>(
+    part: &'p Part,
+    grid: u32,
+    group: &[Snapshot],
+    aim: Aim,
+    spans: &mut Vec<Span<'p>>,
+) -> Result<(), NoMemory>
+    requires grid { grid < length part.now.sequences }
+    requires need { aim.need ≡ part.now.bound.need }
+    ensures order { OnOk result
+        (AreInOrder (length (items_at part.now grid)) (hits_of aim spans.new.items)) }
+    ensures ranks { OnOk result (AreRanksWithin part.now.problem (hits_of aim spans.new.items)) }
+    ensures hits { OnOk result ((prefix : List Item)
+        → AreGroupOf part.now.problem part.now.bound (items_at part.now grid) prefix aim.seen group.now
+        → AreHits part.now.problem part.now.bound (items_at part.now grid) prefix aim.seen
+        (hits_of aim spans.new.items)) }
+{
+    match part.successors() {
+        Successors::One(sets) => walk_over(part, sets.as_slice(), grid, group, aim, spans),
+        Successors::Four(sets) => walk_over(part, sets.as_slice(), grid, group, aim, spans),
+        Successors::Wide(sets) => walk_over(part, sets.as_slice(), grid, group, aim, spans),
+    }
+}
+
+/// The same, as hits.
+pub(crate) fn walk_hits<'p>(
+    part: &'p Part,
     grid: u32,
     group: &[Snapshot],
     seen: bool,
+    spans: &mut Vec<Span<'p>>,
     hits: &mut Vec<Hit>,
 ) -> Result<(), NoMemory>
     requires grid { grid < length part.now.sequences }
@@ -38,40 +66,60 @@ pub(crate) fn walk(
 {
     let need = part.need();
     let aim = Aim { seen, need };
-    match part.successors() {
-        Successors::One(sets) => walk_over(part, sets.as_slice(), grid, group, aim, hits),
-        Successors::Four(sets) => walk_over(part, sets.as_slice(), grid, group, aim, hits),
-        Successors::Wide(sets) => walk_over(part, sets.as_slice(), grid, group, aim, hits),
+    walk(part, grid, group, aim, spans)?;
+    list_hits(spans.as_slice(), aim, hits)?;
+    Ok(())
+}
+
+/// The hits of these spans.
+fn list_hits(spans: &[Span], aim: Aim, hits: &mut Vec<Hit>) -> Result<(), NoMemory>
+    ensures { OnOk result (hits.new.items ≡ hits_of aim spans.now) }
+{
+    hits.clear();
+    for span in spans {
+        push_hits(span, aim, hits)?;
     }
+    Ok(())
+}
+
+/// Appends the hits of a span.
+fn push_hits(span: &Span, aim: Aim, hits: &mut Vec<Hit>) -> Result<(), NoMemory>
+    ensures { OnOk result (hits.new.items ≡ hits.old.items ++ hits_in aim span.now) }
+{
+    for rank in span.ranks {
+        hits.push(span.hit(aim, *rank))?;
+    }
+    Ok(())
 }
 
 /// The same with sets of one width.
-fn walk_over<const W: usize>(
-    part: &Part,
+fn walk_over<'p, const W: usize>(
+    part: &'p Part,
     successors: &[StateSet<W>],
     grid: u32,
     group: &[Snapshot],
     aim: Aim,
-    hits: &mut Vec<Hit>,
+    spans: &mut Vec<Span<'p>>,
 ) -> Result<(), NoMemory>
     requires width { W ≤ 17 }
     requires successors { AreSuccessors W part.now.problem.machine successors.now }
     requires grid { grid < length part.now.sequences }
     requires need { aim.need ≡ part.now.bound.need }
-    ensures order { OnOk result (AreInOrder (length (items_at part.now grid)) hits.new.items) }
-    ensures ranks { OnOk result (AreRanksWithin part.now.problem hits.new.items) }
+    ensures order { OnOk result (AreInOrder (length (items_at part.now grid)) (hits_of aim spans.new.items)) }
+    ensures ranks { OnOk result (AreRanksWithin part.now.problem (hits_of aim spans.new.items)) }
     ensures hits { OnOk result ((prefix : List Item)
         → AreGroupOf part.now.problem part.now.bound (items_at part.now grid) prefix aim.seen group.now
-        → AreHits part.now.problem part.now.bound (items_at part.now grid) prefix aim.seen hits.new.items) }
+        → AreHits part.now.problem part.now.bound (items_at part.now grid) prefix aim.seen
+        (hits_of aim spans.new.items)) }
 {
     let end = part.length(grid);
-    hits.clear();
+    spans.clear();
     let mut live = StateSet::<W>::new();
     let mut taken = 0;
     let mut position = 0;
     'positions: while let Some(at) = next_position(group, taken, position, end, &live) {
         taken = join(part, grid, group, taken, at, aim.goes(), &mut live);
-        live = step(part, successors, grid, at, &live, aim, hits)?;
+        live = step(part, successors, grid, at, &live, aim, spans)?;
         position = at + 1;
     }
     Ok(())

@@ -31,10 +31,10 @@ groups-preserved c =
     let next : IsNextGroup part.sequences list.snapshots c.groups.read c.groups.grid group =
     next-shown part.sequences c.sequences.result.now list.snapshots c.as_slice.result.now c.groups.read c.groups.grid group c.sequences.ensures.numbers c.as_slice.ensures c.in-Some.ensures.some in
     let inside : group.grid < length part.sequences = slice_get_within part.sequences group.grid next.sequence next.at in
-    let hits : List Hit = c.walk.new.hits.items in
-    let order : AreInOrder (length (items_at part group.grid)) hits = c.in_ok-walk.ensures.order in
+    let hits : List Hit = c.walk_hits.new.hits.items in
+    let order : AreInOrder (length (items_at part group.grid)) hits = c.in_ok-walk_hits.ensures.order in
     let walked : AreWalked part group.grid list.seen (slice_range list.snapshots c.groups.read group.end) hits =
-    walked-shown part group.grid c.groups.read group.end hits list.seen c.seen-in-Some.result list.snapshots c.as_slice-in-Some.result.now c.seen-in-Some.ensures c.as_slice-in-Some.ensures c.in_ok-walk.ensures.hits in
+    walked-shown part group.grid c.groups.read group.end hits list.seen c.seen-in-Some.result list.snapshots c.as_slice-in-Some.result.now c.seen-in-Some.ensures c.as_slice-in-Some.ensures c.in_ok-walk_hits.ensures.hits in
     let put : c.file_rank.new.longer ≡ with_more c.groups.longer (filed (get_or c.sequences-in-Some.result.now group.grid 0) c.args.rank c.as_slice-in-Some-2.result.now) = c.in_ok-file_rank.ensures in
     let longer : c.file_rank.new.longer ≡ with_more c.groups.longer (filed (slice_index part.sequences group.grid) c.args.rank hits) =
     put ∙ ap (λ (l : List ℕ). with_more c.groups.longer (filed (get_or l group.grid 0) c.args.rank c.as_slice-in-Some-2.result.now)) c.sequences-in-Some.ensures.numbers

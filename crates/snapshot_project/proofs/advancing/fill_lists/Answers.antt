@@ -17,10 +17,10 @@ use Rattle.snapshot_project.proofs.advancing.fill_lists.Goals as goal
 
 pub file_all-requires-clause-ranks : goal.file_all-requires-clause-ranks
 file_all-requires-clause-ranks c =
-    let ranks : AreRanksWithin c.args.part.now.problem c.walk.new.hits.items = c.in_ok-walk.ensures.ranks in
+    let ranks : AreRanksWithin c.args.part.now.problem c.walk_hits.new.hits.items = c.in_ok-walk_hits.ensures.ranks in
     let room : length c.args.part.now.problem.ranking.order < length c.args.places.now = c.requires.room in
     subst (λ (l : List Hit). (k : ℕ) (d : Hit) → k < length l → (get_or l k d).rank < length c.args.places.now) (sym c.as_slice-in-Some-2.ensures.value)
-    (λ k d inside. let few = (ranks (get_or c.walk.new.hits.items k d) (Contains-get_or c.walk.new.hits.items k d inside)).1 in omega arith)
+    (λ k d inside. let few = (ranks (get_or c.walk_hits.new.hits.items k d) (Contains-get_or c.walk_hits.new.hits.items k d inside)).1 in omega arith)
 
 pub overflow_add-grid : goal.overflow_add-grid
 overflow_add-grid c =
@@ -40,10 +40,10 @@ groups-preserved c =
     let next : IsNextGroup part.sequences list.snapshots c.groups.read c.groups.grid group =
     next-shown part.sequences c.sequences.result.now list.snapshots c.as_slice.result.now c.groups.read c.groups.grid group c.sequences.ensures.numbers c.as_slice.ensures c.in-Some.ensures.some in
     let inside : group.grid < length part.sequences = slice_get_within part.sequences group.grid next.sequence next.at in
-    let hits : List Hit = c.walk.new.hits.items in
-    let order : AreInOrder (length (items_at part group.grid)) hits = c.in_ok-walk.ensures.order in
+    let hits : List Hit = c.walk_hits.new.hits.items in
+    let order : AreInOrder (length (items_at part group.grid)) hits = c.in_ok-walk_hits.ensures.order in
     let walked : AreWalked part group.grid list.seen (slice_range list.snapshots c.groups.read group.end) hits =
-    walked-shown part group.grid c.groups.read group.end hits list.seen c.seen.result list.snapshots c.as_slice-in-Some.result.now c.seen.ensures c.as_slice-in-Some.ensures c.in_ok-walk.ensures.hits in
+    walked-shown part group.grid c.groups.read group.end hits list.seen c.seen.result list.snapshots c.as_slice-in-Some.result.now c.seen.ensures c.as_slice-in-Some.ensures c.in_ok-walk_hits.ensures.hits in
     let number : ℕ = slice_index part.sequences group.grid in
     let put : AreFiled (get_or c.sequences-in-Some.result.now group.grid 0) c.args.next.now c.as_slice-in-Some-2.result.now c.groups.longer.items c.file_all.new.longer.items = c.in_ok-file_all.ensures.filed in
     let filed : AreFiled number c.args.next.now hits c.groups.longer.items c.file_all.new.longer.items =

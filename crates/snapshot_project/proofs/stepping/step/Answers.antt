@@ -20,7 +20,7 @@ module _ (g : Over) (c : After-neighbours-targets g) where
   leads = leads-from g.row.W c.args.part.now.problem.machine c.args.successors.now c.args.live.now c.neighbours-targets.result c.requires.successors c.requires.states c.neighbours-targets.ensures
 
   within : (state : ℕ) → LeadsFrom c.args.part.now.problem.machine c.args.live.now state → (0 < state) × (state ≤ length c.args.part.now.problem.machine.labels)
-  within = leads-within c.args.part.now.problem.machine c.length-length.ensures.part.whole.automaton.labelled c.args.live.now
+  within = leads-within c.args.part.now.problem.machine c.grids.ensures.part.whole.automaton.labelled c.args.live.now
 
   reads : (t : Item) → slice_get (items_at c.args.part.now c.args.grid) c.args.at ≡ Some t
       → IsReading c.args.part.now.problem c.args.part.now.bound t (rest_at c.args.part.now c.args.grid (c.args.at + 1)) c.reading-reading.result
@@ -33,7 +33,7 @@ write-requires g c =
     let writable : (state : ℕ) → Has c.neighbours-targets.result state → AreWritable c.reading-reading.result state = λ state has.
     (let (start, inside) = within g there state ((leads g there state).0 has) in
     let at = reads g there t here state start inside in
-    record { kept = at.kept; once = at.once; small = omega (arith, inside, c.length-length.ensures.states) }) in
+    record { kept = at.kept; once = at.once; small = omega (arith, inside, c.requires.few) }) in
     let width = c.requires.width in
     search rules
 

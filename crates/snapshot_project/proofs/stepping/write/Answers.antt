@@ -6,6 +6,7 @@ use Rattle.state_bits.specs.Members.{Has, HasBit}
 use Rattle.snapshot_project.specs.Aims.{sees_all}
 use Rattle.fst_simulate.specs.Readings.{outputs_at}
 use Rattle.snapshot_project.specs.Hits.{AreWritable, Passes, hit_of}
+use Rattle.snapshot_project.specs.Spans.{hits_of}
 use Rattle.snapshot_project.proofs.HitLemmas.{IsWriter, one-state, state-written, written-none, next-writer, written-more, written-all, written-order}
 use Rattle.snapshot_project.proofs.stepping.write.Given.{Over}
 use Rattle.snapshot_project.proofs.stepping.write.Goals as goal
@@ -28,7 +29,7 @@ module _ (g : Over) (c : In-Some g) where
   writer : IsWriter c.args.reading.now c.args.targets.now c.in-Some.state
   writer =
       next-writer c.args.reading.now c.args.targets.now c.args.aim c.args.position c.loop-state.yielded c.loop-state.state-iterator
-      c.args.hits.now.items c.loop-state.hits.items c.loop-state.invariant c.in-Some.state c.next.new.self c.in-Some.ensures.steps
+      (hits_of c.args.aim c.args.spans.now.items) (hits_of c.args.aim c.loop-state.spans.items) c.loop-state.invariant c.in-Some.state c.next.new.self c.in-Some.ensures.steps
 
   writable : AreWritable c.args.reading.now c.in-Some.state
   writable = c.requires.targets c.in-Some.state writer.0.0
@@ -37,7 +38,7 @@ pub loop-state-init : goal.loop-state-init
 loop-state-init g c =
     let there : After-iter-state-items g = (goal.at.loop-state-init g c).After-iter-state-items in
     rw c.into_iter-state-iterator.ensures.into_iter_gives
-    (written-none c.args.reading.now c.args.targets.now c.args.aim c.args.position c.iter-state-items.result c.args.hits.now.items (listed g there)
+    (written-none c.args.reading.now c.args.targets.now c.args.aim c.args.position c.iter-state-items.result (hits_of c.args.aim c.args.spans.now.items) (listed g there)
     (AllPairs-from_increasing c.iter-state-items.result c.iter-state-items.ensures.rising))
 
 pub outputs-requires : goal.outputs-requires
@@ -83,17 +84,17 @@ loop-state-preserved g c =
     ↔ (Contains (outputs_at c.args.reading.now state) rank × Passes (sees_all c.args.aim.seen c.args.aim.need || c.has-unseen.result) c.args.aim.need rank) =
     rw (c.outputs.ensures, c.takes_any.ensures) at c.allowed-ranks.ensures.ranks in
     written-more c.args.reading.now c.args.targets.now c.args.aim c.args.position c.loop-state.yielded c.loop-state.state-iterator
-    c.args.hits.now.items c.loop-state.hits.items c.loop-state.invariant state c.next.new.self c.in-Some.ensures.steps
-    c.push_hits.new.hits.items (map (hit_of c.args.aim c.args.position state c.has-unseen.result c.has-ending.result) c.allowed-ranks.result.now) c.in_ok-push_hits.ensures
+    (hits_of c.args.aim c.args.spans.now.items) (hits_of c.args.aim c.loop-state.spans.items) c.loop-state.invariant state c.next.new.self c.in-Some.ensures.steps
+    (hits_of c.args.aim c.push_span.new.spans.items) (map (hit_of c.args.aim c.args.position state c.has-unseen.result c.has-ending.result) c.allowed-ranks.result.now) (c.in_ok-push_span.ensures c.args.aim)
     (one-state c.args.aim c.args.position state c.has-unseen.result c.has-ending.result c.allowed-ranks.result.now once)
     (state-written c.args.reading.now c.args.targets.now c.args.aim c.args.position state is c.has-unseen.result c.has-ending.result unseen ending c.allowed-ranks.result.now picks)
 
 pub returns-clause-hits : goal.returns-clause-hits
 returns-clause-hits g c =
     written-all c.args.reading.now c.args.targets.now c.args.aim c.args.position c.loop-state.yielded c.loop-state.state-iterator
-    c.args.hits.now.items c.loop-state.hits.items c.loop-state.invariant c.in-None.ensures.steps.0
+    (hits_of c.args.aim c.args.spans.now.items) (hits_of c.args.aim c.loop-state.spans.items) c.loop-state.invariant c.in-None.ensures.steps.0
 
 pub returns-clause-order : goal.returns-clause-order
 returns-clause-order g c =
     written-order c.args.reading.now c.args.targets.now c.args.aim c.args.position c.loop-state.yielded c.loop-state.state-iterator
-    c.args.hits.now.items c.loop-state.hits.items c.loop-state.invariant
+    (hits_of c.args.aim c.args.spans.now.items) (hits_of c.args.aim c.loop-state.spans.items) c.loop-state.invariant

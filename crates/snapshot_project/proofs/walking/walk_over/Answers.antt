@@ -1,11 +1,13 @@
 use Rattle.std.proofs.Common.{◌≡◌, ◌↔◌, ◌+◌, ◌*◌, ◌<◌, ◌≤◌, ℕ, Bool, inl, inr, [], length, sym, ap, ◌∙◌, subst, arith, rules}
 use Rattle.state_bits.specs.Members.{Has}
+use Rattle.mine_model.specs.Limits.{most_length}
 use Rattle.fst_compile.proofs.RowLemmas.{Has-none}
 use Rattle.mine_model.proofs.ListLemmas.{Contains-none}
 use Rattle.fst_simulate.specs.Grids.{Completes, Reads, items_at, rest_at}
 use Rattle.fst_simulate.specs.Successors.{LeadsFrom}
 use Rattle.fst_simulate.proofs.GridLemmas.{item_there}
 use Rattle.snapshot_project.specs.Aims.{goes}
+use Rattle.snapshot_project.specs.Spans.{hits_of}
 use Rattle.snapshot_project.proofs.WayLemmas.{next-forward, useful-next, order-later, way-first, way-more, way-all}
 use Rattle.snapshot_project.proofs.walking.walk_over.Given.{Over}
 use Rattle.snapshot_project.proofs.walking.walk_over.Goals as goal
@@ -64,6 +66,8 @@ step-requires g c =
       | inr (k, snapshot, low, high, here, of, small) ↦ small
     ]) in
     let need = c.requires.need in
+    let short : length (items_at c.args.part.now c.args.grid) ≤ most_length = subst (λ (n : ℕ). n ≤ most_length) c.length-end.ensures.length c.length-end.ensures.short in
+    let few : length c.args.part.now.problem.machine.labels ≤ 1024 = c.length-end.ensures.states in
     search rules
 
 pub positions-smaller : goal.positions-smaller
@@ -87,18 +91,18 @@ positions-preserved g c =
       next = λ snapshot at. let far = c.join-taken.ensures.taken.left snapshot at in omega arith;
       states = c.in_ok-live.ensures.states;
       useful = λ state has. ((steps state).0 has).2;
-      order = c.in_ok-live.ensures.order (order-later c.positions.position c.in-Some.at c.positions.hits.items (forward g some) c.positions.invariant.order);
+      order = c.in_ok-live.ensures.order (order-later c.positions.position c.in-Some.at (hits_of c.args.aim c.positions.spans.items) (forward g some) c.positions.invariant.order);
       ranks = c.in_ok-live.ensures.ranks c.positions.invariant.ranks;
       way = λ prefix are.
           way-more c.args.part.now.problem c.length-end.ensures.part.whole c.args.part.now.bound (items_at c.args.part.now c.args.grid) prefix c.args.aim.seen c.args.group.now are
-          c.positions.taken c.positions.position c.positions.live c.positions.hits.items (c.positions.invariant.way prefix are) c.length-end.result c.in-Some.at c.in-Some.ensures.some (forward g some)
+          c.positions.taken c.positions.position c.positions.live (hits_of c.args.aim c.positions.spans.items) (c.positions.invariant.way prefix are) c.length-end.result c.in-Some.at c.in-Some.ensures.some (forward g some)
           c.join-taken.result c.join-taken.ensures.taken c.join-taken.new.live (rw (c.goes.ensures, c.requires.need) at c.join-taken.ensures.live)
-          t here c.in_ok-live.live steps c.step.new.hits.items (c.in_ok-live.ensures.hits t here) (c.in_ok-live.ensures.all t here);
+          t here c.in_ok-live.live steps (hits_of c.args.aim c.step.new.spans.items) (c.in_ok-live.ensures.hits t here) (c.in_ok-live.ensures.all t here);
     }
 
 pub returns-clause-order : goal.returns-clause-order
 returns-clause-order g c =
-    order-later c.positions.position (length (items_at c.args.part.now c.args.grid)) c.positions.hits.items
+    order-later c.positions.position (length (items_at c.args.part.now c.args.grid)) (hits_of c.args.aim c.positions.spans.items)
     (omega (arith, c.positions.invariant.inside, c.length-end.ensures.length)) c.positions.invariant.order
 
 pub returns-clause-ranks : goal.returns-clause-ranks
@@ -107,4 +111,4 @@ returns-clause-ranks g c = c.positions.invariant.ranks
 pub returns-clause-hits : goal.returns-clause-hits
 returns-clause-hits g c prefix are =
     way-all c.args.part.now.problem c.length-end.ensures.part.whole c.args.part.now.bound (items_at c.args.part.now c.args.grid) prefix c.args.aim.seen c.args.group.now are
-    c.positions.taken c.positions.position c.positions.live c.positions.hits.items (c.positions.invariant.way prefix are) c.length-end.result c.length-end.ensures.length c.in_default.ensures.none
+    c.positions.taken c.positions.position c.positions.live (hits_of c.args.aim c.positions.spans.items) (c.positions.invariant.way prefix are) c.length-end.result c.length-end.ensures.length c.in_default.ensures.none

@@ -1,6 +1,0 @@
-use Rattle.std.proofs.Common.{◌≡◌, ◌++◌, map, take}
-use Rattle.snapshot_project.specs.Hits.{hit_of}
-use Rattle.snapshot_project.proofs.stepping.push_hits.Given as goal
-
-abbrev pub invariant-loop-rank : goal.invariant-loop-rank
-invariant-loop-rank l = l.hits.items ≡ l.initial.hits.items ++ map (hit_of l.aim l.position l.state l.unseen l.ending) (take l.rank-index l.ranks)
