@@ -1,0 +1,13 @@
+pub mod NumberLemmas
+pub mod LeastLemmas
+pub mod EdgeLemmas
+pub mod RowLemmas
+pub mod TopLemmas
+pub mod TableLemmas
+pub mod FrontLemmas
+pub mod FindLemmas
+pub mod MergeLemmas
+pub mod MarkLemmas
+pub mod KeptLemmas
+pub mod PairLemmas
+pub mod SeedLemmas

@@ -1,0 +1,8 @@
+use Rattle.std.proofs.Common.{◌≡◌, ◌<◌, ◌≢◌, ℕ, length, arith, get_or-set_other, get_or-set_same, below_more}
+use Rattle.pivot_partition.proofs.edges.clear.Goals as goal
+
+pub loop-top-preserved : goal.loop-top-preserved
+loop-top-preserved c =
+    below_more _ _
+    (λ k h. let ne : k ≢ c.loop-top.top-index = omega arith in rw get_or-set_other (c.loop-top.invariant k h))
+    (let lt : c.loop-top.top-index < length c.loop-top.row = omega arith in rw get_or-set_same)
