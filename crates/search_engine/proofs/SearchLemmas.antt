@@ -20,6 +20,7 @@ use Rattle.fst_simulate.specs.Problems.{Problem, IsWhole, data_of, items_of}
 use Rattle.dfs_growth.specs.Nodes.{Prefix, label_at}
 use Rattle.dfs_growth.specs.Tree.{search_tree, roots_by, kids_by, row_by}
 use Rattle.dfs_growth.proofs.TreeLemmas.{search_tree-is}
+use Rattle.result_board.specs.Board.{HasRow}
 use Rattle.search_engine.specs.Searches.{Search, tree_of}
 
 -- a seed with the pivot takes the sequence
@@ -67,6 +68,14 @@ module _ (problem : Problem) (whole : IsWhole problem) where
 pub walks-finite : (problem : Problem) → IsWhole problem → (search : Search) → search.problem ≡ problem
     → Covers (tree_of search).roots (tree_of search).kids (down_to (tree_of search).roots (tree_of search).kids (suc (suc (longest search.problem.sequences))))
 walks-finite problem whole search same = search-finite search.problem (subst IsWhole (sym same) whole) search.pivots
+
+-- each label of a pivot has the row that the tree has there
+pub walks-rows : (problem : Problem) → IsWhole problem → (search : Search) → search.problem ≡ problem → (label : List ℕ) → 1 ≤ length label
+    → HasRow problem label ((tree_of search).row label)
+walks-rows problem whole search same [] long = absurd (omega (arith, long))
+walks-rows problem whole search same (pivot ∷ ranks) long =
+    subst (λ (p : Problem). IsRowOf (data_of problem) problem.ranking.order pivot ranks (row_by p (pivot ∷ ranks))) (sym same)
+    ((search_tree-is problem whole []).row pivot ranks)
 
 -- a search of the problem without pivots
 module _ (problem : Problem) (whole : IsWhole problem) (search : Search) (same : search.problem ≡ problem) (one : search.pivots ≡ 0 ∷ []) where

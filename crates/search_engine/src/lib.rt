@@ -2,9 +2,17 @@
 #![tactic(auto)]
 
 mod choices;
+mod hand;
 mod search;
+mod seats;
 mod simulating;
+mod steer;
 #[cfg(test)]
 mod tests;
+mod workers;
+mod working;
 
 pub use simulating::simulate;
+pub use steer::Steer;
+pub use workers::posted;
+pub use working::work;

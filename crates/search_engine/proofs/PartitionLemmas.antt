@@ -1,0 +1,151 @@
+-- The rows of the search by pivots are the frequent patterns, and its labels are the counted nodes.
+use Rattle.std.proofs.Common.{◌≡◌, ◌≢◌, ◌⊎◌, ◌↔◌, ℕ, zero, suc, ◌-◌, ◌+◌, ◌≤◌, ◌<◌, inl, inr, Some, List, [], ◌∷◌, map, length, refl, sym, ap, ◌∙◌, subst, arith}
+use Rattle.std.specs.List.{AllByRecursion, AllPairs, Contains, filter_map}
+use Rattle.std.proofs.lemmas.Bool.{cases_lt}
+use Rattle.mine_model.specs.declared.item.Item.{Item}
+use Rattle.mine_model.specs.declared.row.Row.{Row}
+use Rattle.mine_model.specs.Support.{HasFrequency}
+use Rattle.mine_model.specs.Answer.{Data, IsFrequent}
+use Rattle.mine_model.specs.Ranks.{Ranking, HasRank, AreRanked, AreRanks}
+use Rattle.mine_model.specs.Numbered.{AreFrequent}
+use Rattle.mine_model.specs.Cover.{Covers}
+use Rattle.mine_model.specs.SearchTree.{IsRankedUpTo, HoldsRank, IsWithin, IsWithinPivot, label_of, IsAliveLabel, IsRowAt, IsRowOf, AreRootsOf, SearchTree, IsSearchTree}
+use Rattle.mine_model.proofs.ListLemmas.{Contains-cases, Contains-none, Contains-first, Contains-other, AllByRecursion-contained, filter_map-forth, filter_map-back, filter_map-pairs}
+use Rattle.mine_model.proofs.RankLemmas.{HasRank-held}
+use Rattle.mine_model.proofs.RankedLemmas.{item_rank, same_ranks, ranked-bounds}
+use Rattle.mine_model.proofs.FrequencyLemmas.{frequent-items}
+use Rattle.mine_model.proofs.AliveLemmas.{IsAlive-frequent}
+use Rattle.mine_model.proofs.OnceLemmas.{once-apart}
+use Rattle.mine_model.proofs.SearchAnswerLemmas.{frequent-ranks}
+use Rattle.mine_model.proofs.SearchTreeLemmas.{IsAliveLabel-shorter, IsRowOf-same, search-members, search-once}
+use Rattle.search_engine.specs.Partition.{AreAlivePivots, IsPartitionWork}
+
+raised : (order : List Item) (low high : ℕ) → low ≤ high → (items : List Item) → AllByRecursion (IsRankedUpTo order low) items → AllByRecursion (IsRankedUpTo order high) items
+raised order low high less [] all = tt
+raised order low high less (v ∷ items) ((rank, has, most), all) = ((rank, has, omega (arith, less, most)), raised order low high less items all)
+
+-- the greatest rank of items that have ranks, and where it stands
+greatest : (order : List Item) (v : Item) (items : List Item) (r : ℕ) (ranks : List ℕ) → AreRanked order (v ∷ items) (r ∷ ranks)
+    → (top : ℕ) × AllByRecursion (IsRankedUpTo order top) (v ∷ items) × HoldsRank order (v ∷ items) top
+greatest order v [] r ranks ranked = (r, ((r, ranked.0, omega arith), tt), (v, Contains-first v [], ranked.0))
+greatest order v (w ∷ items) r [] ranked = absurd ranked.1
+greatest order v (w ∷ items) r (s ∷ ranks) ranked =
+    let (top, all, (holder, held, has)) = greatest order w items s ranks ranked.1 in
+    elim (cases_lt top r) [
+      | inl more ↦ (r, ((r, ranked.0, omega arith), raised order top r (omega arith) (w ∷ items) all), (v, Contains-first v (w ∷ items), ranked.0))
+      | inr most ↦ (top, ((r, ranked.0, most), all), (holder, Contains-other v (w ∷ items) holder held, has))
+    ]
+
+-- the bound of a pivot, put together and taken apart
+bound-made : (order : List Item) (top : ℕ) → 1 ≤ top → (items : List Item) → AllByRecursion (IsRankedUpTo order top) items → HoldsRank order items top → IsWithinPivot order top items
+bound-made order zero least items all holds = absurd (omega (arith, least))
+bound-made order (suc before) least items all holds = record { ranked = all; needed = holds }
+
+bound-taken : (order : List Item) (top : ℕ) → 1 ≤ top → (items : List Item) → IsWithinPivot order top items → AllByRecursion (IsRankedUpTo order top) items × HoldsRank order items top
+bound-taken order zero least items within = absurd (omega (arith, least))
+bound-taken order (suc before) least items within = (within.ranked, within.needed)
+
+module _ (order : List Item) (once : AllPairs (λ v w. v ≢ w) order) where
+  pivot-most : (first second : ℕ) → 1 ≤ first → 1 ≤ second → (items : List Item) → IsWithinPivot order first items → IsWithinPivot order second items → first ≤ second
+  pivot-most first second one two items within also =
+      let (all, (v, held, has)) = bound-taken order first one items within in
+      let (rank, ranked, most) = AllByRecursion-contained (IsRankedUpTo order second) items v (bound-taken order second two items also).0 held in
+      omega (arith, item_rank order once v first rank has ranked, most)
+
+  -- a pattern has one pivot
+  pivot-same : (first second : ℕ) → 1 ≤ first → 1 ≤ second → (items : List Item) → IsWithinPivot order first items → IsWithinPivot order second items → first ≡ second
+  pivot-same first second one two items within also = omega (arith, pivot-most first second one two items within also, pivot-most second first two one items also within)
+
+rising-apart : (pivots : List ℕ) → AllPairs (λ low high. low < high) pivots → AllPairs (λ p q. p ≢ q) pivots
+rising-apart pivots rising i j e less inside = λ same. absurd (omega (arith, rising i j e less inside, same))
+
+module _ (d : Data Item) (ranking : Ranking) (are : AreRanks d.links d.sequences d.threshold ranking) (pivots : List ℕ) (alive_are : AreAlivePivots d ranking.order pivots)
+    (tree : SearchTree) (is : IsSearchTree d ranking.order pivots tree) (labels : List (List ℕ)) (covers : Covers tree.roots tree.kids labels) where
+  -- the labels of the cover are the alive ones
+  members : (label : List ℕ) → Contains labels label
+      ↔ ((pivot : ℕ) × (ranks : List ℕ) × (1 ≤ pivot) × (label ≡ label_of pivot ranks) × IsAliveLabel d ranking.order pivot ranks)
+  members label = (
+    (λ held.
+        let (pivot, ranks, inside, same, alive) = (search-members d ranking.order pivots tree is labels covers label).0 held in
+        (pivot, ranks, ((alive_are.exact pivot).0 inside).0, same, alive)),
+    (λ h.
+        let (pivot, ranks, least, same, alive) = h in
+        let inside : Contains pivots pivot = (alive_are.exact pivot).1 (least, IsAliveLabel-shorter d ranking.order pivot [] ranks alive) in
+        (search-members d ranking.order pivots tree is labels covers label).1 (pivot, ranks, inside, same, alive)),
+  )
+
+  apart : AllPairs (λ first second. first ≢ second) labels
+  apart = once-apart labels (search-once d ranking.order pivots tree is (rising-apart pivots alive_are.rising) labels covers)
+
+  row_of : (label : List ℕ) (row : Row) → Contains labels label → tree.row label ≡ Some row
+      → (pivot : ℕ) × (ranks : List ℕ) × (1 ≤ pivot) × (label ≡ label_of pivot ranks) × IsRowAt d ranking.order pivot ranks row
+  row_of label row held gives =
+      let (pivot, ranks, least, same, alive) = (members label).0 held in
+      (pivot, ranks, least, same, subst (IsRowOf d ranking.order pivot ranks) (ap tree.row (sym same) ∙ gives) (is.row pivot ranks))
+
+  -- where a frequent pattern stands
+  place_of : (items : List Item) (ranks : List ℕ) → items ≢ [] → AreRanked ranking.order items ranks → (pivot : ℕ) × (1 ≤ pivot) × IsWithinPivot ranking.order pivot items
+  place_of [] ranks some ranked = absurd (some refl)
+  place_of (v ∷ items) [] some ranked = absurd ranked
+  place_of (v ∷ items) (r ∷ ranks) some ranked =
+      let (top, all, holds) = greatest ranking.order v items r ranks ranked in
+      let (holder, held, has) = holds in
+      let least : 1 ≤ top = has.least in
+      (top, least, bound-made ranking.order top least (v ∷ items) all holds)
+
+  row_back : ((w : Item) → (m : ℕ) × HasFrequency d.links d.sequences w m) → (row : Row) → IsFrequent d row.pattern row.support
+      → Contains (filter_map tree.row labels) row
+  row_back known row frequent =
+      let items = frequent-items d.links d.sequences known d.threshold d.expression row.pattern row.support frequent.exact frequent.enough in
+      let (ranks, ranked) = frequent-ranks d ranking are row.pattern items in
+      let (pivot, least, within) = place_of row.pattern ranks frequent.not_empty ranked in
+      let alive : IsAliveLabel d ranking.order pivot ranks = record {
+        prefix = row.pattern;
+        ranked = ranked;
+        alive = IsAlive-frequent d (IsWithinPivot ranking.order pivot) row.pattern row.support frequent within;
+      } in
+      let at : IsRowAt d ranking.order pivot ranks row = record { ranked = ranked; within = within; frequent = frequent } in
+      filter_map-back tree.row labels (label_of pivot ranks) row ((members (label_of pivot ranks)).1 (pivot, ranks, least, refl, alive))
+      (IsRowOf-same d ranking.order pivot ranks (tree.row (label_of pivot ranks)) (Some row) (is.row pivot ranks) at)
+
+  -- THE ROWS of the search by pivots are the frequent patterns
+  pub partition-rows : ((w : Item) → (m : ℕ) × HasFrequency d.links d.sequences w m) → AreFrequent d (filter_map tree.row labels)
+  partition-rows known = record {
+    once = filter_map-pairs (λ first second. first ≢ second) (λ (first : Row) (second : Row). first.pattern ≢ second.pattern) tree.row labels
+        (λ first second row other here there gives also differ same.
+        let (pivot, ranks, least, is_first, at) = row_of first row here gives in
+        let (pivot2, others, least2, is_second, at2) = row_of second other there also in
+        let one : ranks ≡ others = same_ranks ranking.order are.once row.pattern ranks others at.ranked
+        (subst (λ p. AreRanked ranking.order p others) (sym same) at2.ranked) in
+        let top : pivot ≡ pivot2 = pivot-same ranking.order are.once pivot pivot2 least least2 row.pattern at.within
+        (subst (IsWithinPivot ranking.order pivot2) (sym same) at2.within) in
+        differ (is_first ∙ (λ i. label_of (top i) (one i)) ∙ sym is_second))
+        apart;
+    frequent = λ row. (
+      (λ held.
+          let (label, inside, gives) = filter_map-forth tree.row labels row held in
+          let (pivot, ranks, least, same, at) = row_of label row inside gives in at.frequent),
+      row_back known row,
+    );
+  }
+
+  -- one root for each pivot
+  roots-long : (some : List ℕ) (roots : List (List ℕ)) → AreRootsOf d ranking.order some roots
+      → ((pivot : ℕ) → Contains some pivot → IsAliveLabel d ranking.order pivot []) → length roots ≡ length some
+  roots-long [] roots none each = ap length none
+  roots-long (pivot ∷ some) roots (inl (alive, (others, same, rest))) each =
+      ap length same ∙ ap suc (roots-long some others rest (λ other held. each other (Contains-other pivot some other held)))
+  roots-long (pivot ∷ some) roots (inr (dead, rest)) each = absurd (dead (each pivot (Contains-first pivot some)))
+
+  -- ITS NODES are the alive labels
+  pub partition-work : IsPartitionWork d ranking.order (record { nodes = length labels; parts = length tree.roots; candidates = 0 })
+  partition-work = record {
+    labels = labels;
+    once = apart;
+    alive = members;
+    nodes = refl;
+    pivots = pivots;
+    are_alive = alive_are;
+    parts = roots-long pivots tree.roots is.roots (λ pivot held. ((alive_are.exact pivot).0 held).1);
+    candidates = refl;
+  }

@@ -1,0 +1,356 @@
+-- The runs of all workers add up.
+use Rattle.std.proofs.Common.{◌≡◌, ℕ, zero, suc, ◌+◌, ◌<◌, List, [], ◌∷◌, ◌++◌, length, refl, sym, ap, subst, ◌∙◌, arith, sum_by, flat_map, map, All, Option, Some, slice_get, slice_index_or, get_or, Result, Ok, IfOk, length-append, ◌≤◌}
+use Rattle.std.specs.List.{AllByRecursion, remove}
+use Rattle.std.proofs.lemmas.List.{map-append}
+use Rattle.std.proofs.lemmas.List.Elements.{All-nil, All-cons, All-head, All-tail, All-push, All-weaker}
+use Rattle.std.proofs.lemmas.List.Sums.{sum_by-append}
+use Rattle.std.proofs.lemmas.Option.{same_Some}
+use Rattle.mine_model.specs.declared.memory.NoMemory.{NoMemory}
+use Rattle.mine_model.specs.Cover.{Covers, Shift, IsEven, all_made, all_given, all_got}
+use Rattle.mine_model.specs.Labels.{SameLabels}
+use Rattle.mine_model.proofs.CoverLemmas.{kids_weight, flat-weight, sum_by-flat_map}
+use Rattle.mine_model.proofs.ShiftLemmas.{shifts_cover}
+use Rattle.node_pool.specs.Deques.{Deque}
+use Rattle.node_pool.specs.Pool.{seat_ground, given, got, IsSeatAt, IsWholePool}
+use Rattle.node_pool.specs.declared.seat.Seat.{Seat}
+use Rattle.node_pool.proofs.Steps.{sum_by_map}
+use Rattle.turn_lock.specs.History.{Made}
+use Rattle.turn_lock.specs.Passes.{IsPassOf, AreAllPasses, made}
+use Rattle.result_board.specs.Board.{labels_of}
+use Rattle.search_engine.specs.declared.hand.Hand.{Hand}
+use Rattle.search_engine.specs.Workers.{BoardPass, BoardLock}
+use Rattle.search_engine.specs.Shifts.{PostedFrom}
+use Rattle.search_engine.specs.Hands.{AreHandsOf, AreGivenBack, IsMannedHand, IsDone, AreTried, AreDone, AreManned, AreRuns, AreOpened}
+
+module _ {T G : Type 0} where
+  abbrev seats_in : List (Hand T G) → List (Seat T G)
+  seats_in hands = map (λ (hand : Hand T G). hand.seat) hands
+
+  abbrev passes_in : List (Hand T G) → List BoardPass
+  passes_in hands = map (λ (hand : Hand T G). hand.pass) hands
+
+-- what all workers posted, put and got, by their seats and passes before and behind
+pub record Adds {T G : Type 0} (kids : List ℕ → List (List ℕ)) (seats later : List (Seat T G)) (passes after : List BoardPass) : Type 0 where
+  pub shifts : List Shift
+  pub even : AllByRecursion (IsEven kids) shifts
+  pub posted : SameLabels (flat_map made after) (flat_map made passes ++ all_made shifts)
+  pub put : SameLabels (flat_map given later) (flat_map given seats ++ all_given shifts)
+  pub taken : SameLabels (flat_map got later) (flat_map got seats ++ all_got shifts)
+
+-- one list in front of each
+front-sums : (first rest more others : List (List ℕ)) (all : List (List ℕ)) → SameLabels rest (more ++ others) → (weight : List ℕ → ℕ)
+    → (one : List (List ℕ)) → sum_by weight all ≡ sum_by weight first + sum_by weight one
+    → sum_by weight (all ++ rest) ≡ sum_by weight ((first ++ more) ++ (one ++ others))
+front-sums first rest more others all same weight one is = omega (
+  arith,
+  same weight,
+  is,
+  sum_by-append weight all rest,
+  sum_by-append weight more others,
+  sum_by-append weight (first ++ more) (one ++ others),
+  sum_by-append weight first more,
+  sum_by-append weight one others,
+)
+
+module _ {T G : Type 0} (kids : List ℕ → List (List ℕ)) (board : BoardLock) where
+  pub runs-add : (hands dones : List (Hand T G)) → AreDone kids board hands dones
+      → Adds kids (seats_in hands) (seats_in dones) (passes_in hands) (passes_in dones)
+  runs-add [] [] are = record {
+    shifts = [];
+    even = tt;
+    posted = λ weight. refl;
+    put = λ weight. refl;
+    taken = λ weight. refl;
+  }
+  runs-add [] (done ∷ dones) are = absurd are
+  runs-add (hand ∷ hands) [] are = absurd are
+  runs-add (hand ∷ hands) (done ∷ dones) are =
+      let rest = runs-add hands dones are.1 in
+      let run = are.0.run in
+      record {
+        shifts = run.shift ∷ rest.shifts;
+        even = (run.even, rest.even);
+        posted = λ weight. front-sums (made hand.pass) (flat_map made (passes_in dones)) (flat_map made (passes_in hands)) (all_made rest.shifts) (made done.pass) rest.posted weight run.shift.made
+            (ap (sum_by weight) run.is_shift.posted ∙ sum_by-append weight (made hand.pass) run.shift.made);
+        put = λ weight. front-sums (given hand.seat) (flat_map given (seats_in dones)) (flat_map given (seats_in hands)) (all_given rest.shifts) (given done.seat) rest.put weight run.shift.given
+            (ap (sum_by weight) run.is_shift.put ∙ sum_by-append weight (given hand.seat) run.shift.given);
+        taken = λ weight. front-sums (got hand.seat) (flat_map got (seats_in dones)) (flat_map got (seats_in hands)) (all_got rest.shifts) (got done.seat) rest.taken weight run.shift.got
+            (run.is_shift.taken weight ∙ sum_by-append weight (got hand.seat) run.shift.got);
+      }
+
+  -- the seats are still those of the pool
+  seats-stay : (pool : List Deque) (known_ground : Option G) (hands dones : List (Hand T G)) → AreDone kids board hands dones → (from : ℕ)
+      → ((k : ℕ) (s : Seat T G) → slice_get (seats_in hands) k ≡ Some s → IsSeatAt known_ground pool (from + k) s)
+      → (k : ℕ) (s : Seat T G) → slice_get (seats_in dones) k ≡ Some s → IsSeatAt known_ground pool (from + k) s
+  seats-stay pool known_ground [] [] are from each k s at = each k s at
+  seats-stay pool known_ground [] (done ∷ dones) are from each k s at = absurd are
+  seats-stay pool known_ground (hand ∷ hands) [] are from each k s at = absurd are
+  seats-stay pool known_ground (hand ∷ hands) (done ∷ dones) are from each zero s at =
+      let (number, of, ground) = each 0 hand.seat refl in
+      let (same_number, same_pool, same_ground) = are.0.same in
+      subst (IsSeatAt known_ground pool (from + 0)) (same_Some done.seat s at) (same_number ∙ number, same_pool ∙ of, same_ground ∙ ground)
+  seats-stay pool known_ground (hand ∷ hands) (done ∷ dones) are from each (suc k) s at =
+      subst (λ n. IsSeatAt known_ground pool n s) (omega arith)
+      (seats-stay pool known_ground hands dones are.1 (suc from) (λ j t there. subst (λ n. IsSeatAt known_ground pool n t) (omega arith) (each (suc j) t there)) k s at)
+
+  hands-long : (hands dones : List (Hand T G)) → AreDone kids board hands dones → length (seats_in dones) ≡ length (seats_in hands)
+  hands-long [] [] are = refl
+  hands-long [] (done ∷ dones) are = absurd are
+  hands-long (hand ∷ hands) [] are = absurd are
+  hands-long (hand ∷ hands) (done ∷ dones) are = ap suc (hands-long hands dones are.1)
+
+  pub pool-stays : (hands dones : List (Hand T G)) → AreDone kids board hands dones → IsWholePool (seats_in hands) → IsWholePool (seats_in dones)
+  pool-stays hands dones are whole =
+      let (pool, known_ground, long, each) = whole in (
+        pool,
+        known_ground,
+        long ∙ sym (hands-long hands dones are),
+        λ k s at. subst (λ n. IsSeatAt known_ground pool n s) (omega arith)
+            (seats-stay pool known_ground hands dones are 0 (λ j t there. subst (λ n. IsSeatAt known_ground pool n t) (omega arith) (each j t there)) k s at),
+      )
+
+  pub passes-stay : (hands dones : List (Hand T G)) → AreDone kids board hands dones → All (IsPassOf board) (passes_in dones)
+  passes-stay [] [] are = All-nil (IsPassOf board)
+  passes-stay [] (done ∷ dones) are = absurd are
+  passes-stay (hand ∷ hands) [] are = absurd are
+  passes-stay (hand ∷ hands) (done ∷ dones) are = All-cons (IsPassOf board) done.pass (passes_in dones) are.0.pass_is (passes-stay hands dones are.1)
+
+  -- each job was tried
+  pub all-tried : (hands : List (Hand T G)) (results : List (Result (Hand T G) NoMemory)) → length results ≡ length hands
+      → ((k : ℕ) (d : Result (Hand T G) NoMemory) → k < length hands
+      → (hand : Hand T G) × (get_or hands k hand ≡ hand) × IfOk (get_or results k d) (IsDone kids board hand))
+      → AreTried kids board hands results
+  all-tried [] [] many each = tt
+  all-tried [] (result ∷ results) many each = absurd (omega (arith, many))
+  all-tried (hand ∷ hands) [] many each = absurd (omega (arith, many))
+  all-tried (hand ∷ hands) (result ∷ results) many each =
+      let (job, is, does) = each 0 result (omega arith) in (
+        subst (λ (h : Hand T G). IfOk result (IsDone kids board h)) (sym is) does,
+        all-tried hands results (omega (arith, many)) (λ k d within. each (suc k) d (omega (arith, within))),
+      )
+
+  -- those that all gave something back did their work
+  pub all-done : (hands dones : List (Hand T G)) → AreTried kids board hands (map Ok dones) → AreDone kids board hands dones
+  all-done [] [] tried = tt
+  all-done [] (done ∷ dones) tried = absurd tried
+  all-done (hand ∷ hands) [] tried = absurd tried
+  all-done (hand ∷ hands) (done ∷ dones) tried = (tried.0, all-done hands dones tried.1)
+
+module _ {T G : Type 0} (home : G) (board : BoardLock) where
+  -- seats and passes of hands
+  pub hands-manned : (hands : List (Hand T G)) → AreManned home board (seats_in hands) (passes_in hands) → All (IsMannedHand home board) hands
+  hands-manned [] manned = All-nil (IsMannedHand home board)
+  hands-manned (hand ∷ hands) manned = All-cons (IsMannedHand home board) hand hands manned.0 (hands-manned hands manned.1)
+
+-- the same labels in another order cover the same tree
+pub covers-same : (roots : List (List ℕ)) (kids : List ℕ → List (List ℕ)) (labels others : List (List ℕ)) → SameLabels others labels → Covers roots kids labels → Covers roots kids others
+covers-same roots kids labels others same covers = λ weight. omega (
+  arith,
+  same weight,
+  covers weight,
+  sum_by-append weight roots (flat_map kids labels),
+  sum_by-append weight roots (flat_map kids others),
+  flat-weight kids weight labels,
+  flat-weight kids weight others,
+  same (kids_weight kids weight),
+)
+
+fresh-none : (passes : List BoardPass) → All (λ (pass : BoardPass). made pass ≡ []) passes → (weight : List ℕ → ℕ) → sum_by weight (flat_map made passes) ≡ 0
+fresh-none [] all weight = refl
+fresh-none (pass ∷ passes) all weight = omega (
+  arith,
+  sum_by-append weight (made pass) (flat_map made passes),
+  ap (sum_by weight) (All-head (λ (p : BoardPass). made p ≡ []) pass passes all),
+  fresh-none passes (All-tail (λ (p : BoardPass). made p ≡ []) pass passes all) weight,
+)
+
+flat-append : {X : Type 0} (f : X → List (List ℕ)) (xs ys : List X) (weight : List ℕ → ℕ) → sum_by weight (flat_map f (xs ++ ys)) ≡ sum_by weight (flat_map f xs) + sum_by weight (flat_map f ys)
+flat-append f [] ys weight = omega arith
+flat-append f (x ∷ xs) ys weight = omega (arith, flat-append f xs ys weight, sum_by-append weight (f x) (flat_map f (xs ++ ys)), sum_by-append weight (f x) (flat_map f xs))
+
+-- what workers and caller posted covers the tree below the roots
+module _ {T G : Type 0} (label_of : T → List ℕ) (ground_of : T → G) (home : G) (kids : List ℕ → List (List ℕ)) (roots : List (List ℕ)) (seats later : List (Seat T G)) (rest left : List T) (passes after : List BoardPass) (own mine : BoardPass)
+    (opened : AreOpened label_of ground_of home roots seats rest) (fresh : All (λ (pass : BoardPass). made pass ≡ []) (passes ++ own ∷ []))
+    (adds : Adds kids seats later passes after) (ends : SameLabels (flat_map given later) (flat_map got later ++ map label_of left))
+    (posted : List (List ℕ)) (more : made mine ≡ made own ++ posted) (below : PostedFrom kids (map label_of (rest ++ left)) posted [])
+    (labels : List (List ℕ)) (labels_are : SameLabels labels (flat_map made (after ++ mine ∷ []))) where
+  finished : SameLabels (opened.put ++ all_given adds.shifts) (all_got adds.shifts ++ map label_of left)
+  finished = λ weight. omega (
+    arith,
+    ends weight,
+    adds.put weight,
+    adds.taken weight,
+    opened.given_is weight,
+    opened.got_is weight,
+    sum_by-append weight (flat_map got later) (map label_of left),
+    sum_by-append weight (flat_map given seats) (all_given adds.shifts),
+    sum_by-append weight (flat_map got seats) (all_got adds.shifts),
+    sum_by-append weight opened.put (all_given adds.shifts),
+    sum_by-append weight (all_got adds.shifts) (map label_of left),
+  )
+
+  labels-made : SameLabels labels (all_made adds.shifts ++ posted)
+  labels-made = λ weight. omega (
+    arith,
+    labels_are weight,
+    flat-append made after (mine ∷ []) weight,
+    sum_by-append weight (made mine) [],
+    ap (sum_by weight) more,
+    sum_by-append weight (made own) posted,
+    adds.posted weight,
+    sum_by-append weight (flat_map made passes) (all_made adds.shifts),
+    flat-append made passes (own ∷ []) weight,
+    sum_by-append weight (made own) [],
+    fresh-none (passes ++ own ∷ []) fresh weight,
+    sum_by-append weight (all_made adds.shifts) posted,
+  )
+
+  pub whole-cover : Covers roots kids labels
+  whole-cover = covers-same roots kids (all_made adds.shifts ++ posted) labels labels-made
+      (shifts_cover roots opened.put (map label_of rest) (map label_of left) posted kids adds.shifts opened.roots_are adds.even finished
+      (λ weight. omega (
+        arith,
+        below weight,
+        sum_by-append weight posted [],
+        ap (sum_by weight) (map-append label_of rest left),
+        sum_by-append weight (map label_of (rest ++ left)) (flat_map kids posted),
+        sum_by-append weight (map label_of rest ++ map label_of left) (flat_map kids posted),
+      )))
+
+-- what hands are given and give back, by their seats and passes
+module _ {T G : Type 0} (home : G) (board : BoardLock) where
+  pub given-manned : (seats : List (Seat T G)) (passes : List BoardPass) (hands : List (Hand T G)) → AreHandsOf seats passes hands → AreManned home board seats passes
+      → All (IsMannedHand home board) hands
+  given-manned seats passes hands are manned = hands-manned home board hands
+      (subst (λ (l : List (Seat T G)). AreManned home board l (passes_in hands)) (sym are.seats_are)
+      (subst (λ (l : List BoardPass). AreManned home board seats l) (sym are.passes_are) manned))
+
+  -- all but the first
+  pub first-manned : (hands : List (Hand T G)) (first : Hand T G) → 1 ≤ length hands → first ≡ slice_index_or hands 0 first → All (IsMannedHand home board) hands
+      → IsMannedHand home board first × All (IsMannedHand home board) (remove hands 0) × (first ∷ remove hands 0 ≡ hands)
+  first-manned [] first some is all = absurd (omega (arith, some))
+  first-manned (hand ∷ hands) first some is all = (
+    subst (IsMannedHand home board) (sym is) (All-head (IsMannedHand home board) hand hands all),
+    All-tail (IsMannedHand home board) hand hands all,
+    (λ i. is i ∷ hands),
+  )
+
+module _ {T G : Type 0} (kids : List ℕ → List (List ℕ)) (board : BoardLock) where
+  pub runs-made : (seats later : List (Seat T G)) (passes after : List BoardPass) (hands : List (Hand T G)) (results : List (Result (Hand T G) NoMemory))
+      → AreHandsOf seats passes hands → AreTried kids board hands results → AreGivenBack results later after → AreRuns kids board seats later passes after
+  runs-made seats later passes after hands results are tried back = record {
+    before = hands;
+    behind = back.hands;
+    given_are = are;
+    back_are = back.are;
+    done = all-done kids board hands back.hands (subst (AreTried kids board hands) back.all tried);
+  }
+
+  -- no worker at all
+  pub runs-none : (seats : List (Seat T G)) (passes : List BoardPass) (hands : List (Hand T G)) → AreHandsOf seats passes hands → length hands ≡ 0 → AreRuns kids board seats [] passes []
+  runs-none seats passes [] are none = record {
+    before = [];
+    behind = [];
+    given_are = are;
+    back_are = record { seats_are = refl; passes_are = refl };
+    done = tt;
+  }
+  runs-none seats passes (hand ∷ hands) are none = absurd (omega (arith, none))
+
+  -- by their seats and passes
+  pub runs-adds : (seats later : List (Seat T G)) (passes after : List BoardPass) → AreRuns kids board seats later passes after → Adds kids seats later passes after
+  runs-adds seats later passes after runs =
+      let adds = runs-add kids board runs.before runs.behind runs.done in
+      let (given_are, back_are) : AreHandsOf seats passes runs.before × AreHandsOf later after runs.behind = (runs.given_are, runs.back_are) in
+      record {
+        shifts = adds.shifts;
+        even = adds.even;
+        posted = λ weight. ap (λ (l : List BoardPass). sum_by weight (flat_map made l)) (sym back_are.passes_are) ∙ adds.posted weight
+            ∙ ap (λ (l : List BoardPass). sum_by weight (flat_map made l ++ all_made adds.shifts)) given_are.passes_are;
+        put = λ weight. ap (λ (l : List (Seat T G)). sum_by weight (flat_map given l)) (sym back_are.seats_are) ∙ adds.put weight
+            ∙ ap (λ (l : List (Seat T G)). sum_by weight (flat_map given l ++ all_given adds.shifts)) given_are.seats_are;
+        taken = λ weight. ap (λ (l : List (Seat T G)). sum_by weight (flat_map got l)) (sym back_are.seats_are) ∙ adds.taken weight
+            ∙ ap (λ (l : List (Seat T G)). sum_by weight (flat_map got l ++ all_got adds.shifts)) given_are.seats_are;
+      }
+
+  pub runs-pool : (seats later : List (Seat T G)) (passes after : List BoardPass) → AreRuns kids board seats later passes after → IsWholePool seats → IsWholePool later
+  runs-pool seats later passes after runs whole = subst IsWholePool runs.back_are.seats_are
+      (pool-stays kids board runs.before runs.behind runs.done (subst IsWholePool (sym runs.given_are.seats_are) whole))
+
+  pub runs-passes : (seats later : List (Seat T G)) (passes after : List BoardPass) → AreRuns kids board seats later passes after → All (IsPassOf board) after
+  runs-passes seats later passes after runs = subst (All (IsPassOf board)) runs.back_are.passes_are (passes-stay kids board runs.before runs.behind runs.done)
+
+  done-homes : (home : G) (hands dones : List (Hand T G)) → AreDone kids board hands dones → All (λ seat. seat_ground seat ≡ Some home) (seats_in hands)
+      → All (λ seat. seat_ground seat ≡ Some home) (seats_in dones)
+  done-homes home [] [] are all = all
+  done-homes home [] (done ∷ dones) are all = absurd are
+  done-homes home (hand ∷ hands) [] are all = absurd are
+  done-homes home (hand ∷ hands) (done ∷ dones) are all =
+      let (same_number, same_pool, same_ground) = are.0.same in
+      All-cons (λ (s : Seat T G). seat_ground s ≡ Some home) done.seat (seats_in dones)
+      (same_ground ∙ All-head (λ (s : Seat T G). seat_ground s ≡ Some home) hand.seat (seats_in hands) all)
+      (done-homes home hands dones are.1 (All-tail (λ (s : Seat T G). seat_ground s ≡ Some home) hand.seat (seats_in hands) all))
+
+  pub runs-homes : (home : G) (seats later : List (Seat T G)) (passes after : List BoardPass) → AreRuns kids board seats later passes after
+      → All (λ seat. seat_ground seat ≡ Some home) seats → All (λ seat. seat_ground seat ≡ Some home) later
+  runs-homes home seats later passes after runs all = subst (All (λ (s : Seat T G). seat_ground s ≡ Some home)) runs.back_are.seats_are
+      (done-homes home runs.before runs.behind runs.done (subst (All (λ (s : Seat T G). seat_ground s ≡ Some home)) (sym runs.given_are.seats_are) all))
+
+  done-long : (hands dones : List (Hand T G)) → AreDone kids board hands dones → length (passes_in dones) ≡ length (passes_in hands)
+  done-long [] [] are = refl
+  done-long [] (done ∷ dones) are = absurd are
+  done-long (hand ∷ hands) [] are = absurd are
+  done-long (hand ∷ hands) (done ∷ dones) are = ap suc (done-long hands dones are.1)
+
+  pub runs-long : (seats later : List (Seat T G)) (passes after : List BoardPass) → AreRuns kids board seats later passes after
+      → (length after ≡ length passes) × (length later ≡ length seats)
+  runs-long seats later passes after runs = (
+    ap length (sym runs.back_are.passes_are) ∙ done-long runs.before runs.behind runs.done ∙ ap length runs.given_are.passes_are,
+    ap length (sym runs.back_are.seats_are) ∙ hands-long kids board runs.before runs.behind runs.done ∙ ap length runs.given_are.seats_are,
+  )
+
+-- each seat with a pass
+pub manned-all : {T G : Type 0} (home : G) (board : BoardLock) (seats : List (Seat T G)) (passes : List BoardPass) → length passes ≡ length seats
+    → All (λ seat. seat_ground seat ≡ Some home) seats → All (IsPassOf board) passes → AreManned home board seats passes
+manned-all home board [] [] many homes are = tt
+manned-all home board [] (pass ∷ passes) many homes are = absurd (omega (arith, many))
+manned-all home board (seat ∷ seats) [] many homes are = absurd (omega (arith, many))
+manned-all {T} {G} home board (seat ∷ seats) (pass ∷ passes) many homes are = (
+  record {
+    seat_is = All-head (λ (s : Seat T G). seat_ground s ≡ Some home) seat seats homes;
+    pass_is = All-head (IsPassOf board) pass passes are;
+  },
+  manned-all home board seats passes (omega (arith, many)) (All-tail (λ (s : Seat T G). seat_ground s ≡ Some home) seat seats homes) (All-tail (IsPassOf board) pass passes are),
+)
+
+front-all : {X : Type 0} (P : X → Type 0) (xs : List X) (x : X) → All P (xs ++ x ∷ []) → All P xs × P x
+front-all P [] x all = (All-nil P, All-head P x [] all)
+front-all P (y ∷ xs) x all =
+    let rest = front-all P xs x (All-tail P y (xs ++ x ∷ []) all) in
+    (All-cons P y xs (All-head P y (xs ++ x ∷ []) all) rest.0, rest.1)
+
+-- the passes of a lock, the last one apart
+pub all-passes : (board : BoardLock) (passes : List BoardPass) (own : BoardPass) → AreAllPasses board (passes ++ own ∷ []) → All (IsPassOf board) passes × IsPassOf board own
+all-passes board passes own all = front-all (IsPassOf board) passes own all.each
+
+pub passes-back : (board : BoardLock) (passes after : List BoardPass) (own mine : BoardPass) → AreAllPasses board (passes ++ own ∷ []) → length after ≡ length passes
+    → All (IsPassOf board) after → IsPassOf board mine → AreAllPasses board (after ++ mine ∷ [])
+passes-back board passes after own mine all many each last = record {
+  each = All-push (IsPassOf board) after mine each last;
+  all = omega (arith, length-append after (mine ∷ []), length-append passes (own ∷ []), many, all.all);
+}
+
+-- a history and its labels
+pub history-labels : (history : List Made) (passes : List BoardPass) → ((f : List ℕ → ℕ) → sum_by (λ c. f c.1) history ≡ sum_by (λ p. sum_by f (made p)) passes)
+    → SameLabels (labels_of history) (flat_map made passes)
+history-labels history passes counts = λ weight.
+    sum_by_map weight (λ (c : Made). c.1) history ∙ counts weight ∙ sym (sum_by-flat_map weight made passes)
+
+-- what is left belongs where the seats do
+pub left-own : {T G : Type 0} (ground_of : T → G) (home : G) (seats : List (Seat T G)) (left : List T) → 1 ≤ length seats → All (λ seat. seat_ground seat ≡ Some home) seats
+    → All (λ task. All (λ seat. seat_ground seat ≡ Some (ground_of task)) seats) left → All (λ task. ground_of task ≡ home) left
+left-own ground_of home [] left some homes are = absurd (omega (arith, some))
+left-own {T} {G} ground_of home (seat ∷ seats) left some homes are =
+    All-weaker (λ task. All (λ (s : Seat T G). seat_ground s ≡ Some (ground_of task)) (seat ∷ seats)) (λ task. ground_of task ≡ home)
+    (λ task all. same_Some (ground_of task) home
+    (sym (All-head (λ (s : Seat T G). seat_ground s ≡ Some (ground_of task)) seat seats all) ∙ All-head (λ (s : Seat T G). seat_ground s ≡ Some home) seat seats homes)) left are

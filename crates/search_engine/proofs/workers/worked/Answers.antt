@@ -1,0 +1,27 @@
+use Rattle.std.proofs.Common.{◌≡◌, ◌≤◌, ◌∷◌, List, length, subst, sym, All, arith}
+use Rattle.std.specs.List.{remove}
+use Rattle.search_engine.specs.declared.hand.Hand.{Hand}
+use Rattle.search_engine.specs.Hands.{IsMannedHand, AreTried}
+use Rattle.search_engine.proofs.RunLemmas.{given-manned, first-manned, runs-made}
+use Rattle.search_engine.proofs.workers.worked.Goals as goal
+
+pub done_by_all-requires-clause-others : goal.done_by_all-requires-clause-others
+done_by_all-requires-clause-others g c κs within =
+    let hands = c.in_ok-hands.hands.items in
+    let some : 1 ≤ length hands = omega (arith, c.remove-first.ensures.len, c.in_ok-hands.hands.ok.0) in
+    let all = given-manned c.args.home.now c.args.board.now c.args.seats.items c.args.passes.items hands c.in_ok-hands.ensures c.requires.manned in
+    let (one, others, same) = first-manned c.args.home.now c.args.board.now hands c.remove-first.result some c.remove-first.ensures.value all in
+    rw c.remove-first.ensures.items others
+
+pub returns : goal.returns
+returns g c =
+    let hands = c.in_ok-hands.hands.items in
+    let some : 1 ≤ length hands = omega (arith, c.remove-first.ensures.len, c.in_ok-hands.hands.ok.0) in
+    let all = given-manned c.args.home.now c.args.board.now c.args.seats.items c.args.passes.items hands c.in_ok-hands.ensures c.requires.manned in
+    let (one, others, same) = first-manned c.args.home.now c.args.board.now hands c.remove-first.result some c.remove-first.ensures.value all in
+    let kids = g.S.Grow.kids_of c.args.search.now in
+    let results = c.in_ok-results.results.items in
+    runs-made kids c.args.board.now c.args.seats.items c.in_ok-back.back.0.items c.args.passes.items c.in_ok-back.back.1.items hands results c.in_ok-hands.ensures
+    (subst (λ l. AreTried kids c.args.board.now l results) same
+    (subst (λ l. AreTried kids c.args.board.now (c.remove-first.result ∷ l) results) c.remove-first.ensures.items c.in_ok-results.ensures))
+    c.in_ok-back.ensures

@@ -1,0 +1,83 @@
+-- What each worker is given, and what it gives back.
+use Rattle.std.specs.Prelude.{◌≡◌, ℕ, Some, List, [], ◌∷◌, ◌++◌, map, All, Result, Ok, IfOk}
+use Rattle.std.specs.List.{flat_map}
+use Rattle.mine_model.specs.declared.memory.NoMemory.{NoMemory}
+use Rattle.mine_model.specs.Labels.{SameLabels}
+use Rattle.fst_simulate.specs.Problems.{Problem}
+use Rattle.node_pool.specs.Pool.{seat_ground, given, got, SameSeat, IsWholePool}
+use Rattle.node_pool.specs.declared.seat.Seat.{Seat}
+use Rattle.turn_lock.specs.Passes.{IsPassOf, AreAllPasses, number, made, opened_with}
+use Rattle.search_engine.specs.declared.hand.Hand.{Hand}
+use Rattle.search_engine.specs.Seats.{AreTasksOf}
+use Rattle.search_engine.specs.Workers.{BoardPass, BoardLock, IsRun, IsManned}
+
+module _ {T G : Type 0} where
+  -- seats and passes, each in one hand, in order
+  pub record AreHandsOf (seats : List (Seat T G)) (passes : List BoardPass) (hands : List (Hand T G))
+      : Type 0 where
+    pub seats_are : map (λ (hand : Hand T G). hand.seat) hands ≡ seats
+    pub passes_are : map (λ (hand : Hand T G). hand.pass) hands ≡ passes
+
+  -- all workers gave their hands back, with these seats and passes
+  pub record AreGivenBack (results : List (Result (Hand T G) NoMemory)) (seats : List (Seat T G))
+      (passes : List BoardPass) : Type 0 where
+    pub hands : List (Hand T G)
+    pub all : results ≡ map Ok hands
+    pub are : AreHandsOf seats passes hands
+
+  -- the hand is for such tasks and this board
+  abbrev pub IsMannedHand : G → BoardLock → Hand T G → Type 0
+  IsMannedHand home board hand = IsManned home board hand.seat hand.pass
+
+  -- each seat and its pass are
+  abbrev pub AreManned : G → BoardLock → List (Seat T G) → List BoardPass → Type 0
+  AreManned home board [] [] = Unit {0}
+  AreManned home board (seat ∷ seats) (pass ∷ passes) =
+      IsManned home board seat pass × AreManned home board seats passes
+  AreManned home board _ _ = ⊥
+
+module _ {T G : Type 0} (kids : List ℕ → List (List ℕ)) (board : BoardLock) where
+  -- the worker ran, and gave its hand back
+  pub record IsDone (hand done : Hand T G) : Type 0 where
+    pub same : SameSeat hand.seat done.seat
+    pub pass_is : IsPassOf board done.pass
+    pub number_is : number done.pass ≡ number hand.pass
+    pub run : IsRun kids hand.seat done.seat hand.pass done.pass
+
+  -- each worker did, in order, unless it wanted memory
+  abbrev pub AreTried : List (Hand T G) → List (Result (Hand T G) NoMemory) → Type 0
+  AreTried [] [] = Unit {0}
+  AreTried (hand ∷ hands) (result ∷ results) = IfOk result (IsDone hand) × AreTried hands results
+  AreTried _ _ = ⊥
+
+  -- each worker did, in order
+  abbrev pub AreDone : List (Hand T G) → List (Hand T G) → Type 0
+  AreDone [] [] = Unit {0}
+  AreDone (hand ∷ hands) (done ∷ others) = IsDone hand done × AreDone hands others
+  AreDone _ _ = ⊥
+
+  -- the workers ran with these seats and passes, which they gave back as those
+  pub record AreRuns (seats later : List (Seat T G)) (passes after : List BoardPass) : Type 0 where
+    pub before : List (Hand T G)
+    pub behind : List (Hand T G)
+    pub given_are : AreHandsOf seats passes before
+    pub back_are : AreHandsOf later after behind
+    pub done : AreDone before behind
+
+-- the seats of a pool of such tasks, into which roots were put, and the roots that were not
+pub record AreOpened {T G : Type 0} (label_of : T → List ℕ) (ground_of : T → G) (home : G)
+    (roots : List (List ℕ)) (seats : List (Seat T G)) (rest : List T) : Type 0 where
+  pub whole : IsWholePool seats
+  pub homes : All (λ seat. seat_ground seat ≡ Some home) seats
+  pub put : List (List ℕ)
+  pub given_is : SameLabels (flat_map given seats) put
+  pub got_is : SameLabels (flat_map got seats) []
+  pub roots_are : SameLabels roots (put ++ map label_of rest)
+  pub own : AreTasksOf ground_of home rest
+
+-- the lock over the board of this problem, and its passes, with which nothing was posted
+pub record AreLocked (problem : Problem) (board : BoardLock) (passes : List BoardPass) (own : BoardPass)
+    : Type 0 where
+  pub problem_is : (opened_with board).problem ≡ problem
+  pub all : AreAllPasses board (passes ++ own ∷ [])
+  pub fresh : All (λ pass. made pass ≡ []) (passes ++ own ∷ [])

@@ -1,0 +1,327 @@
+//! Several workers, each in a thread of its own.
+ghost use Rattle.std.specs.Prelude.{◌≡◌, ℕ, ◌≤◌, List, [], ◌∷◌, ◌++◌, All, map, length, IfOk, OnOk, vec_len};
+ghost use Rattle.mine_model.specs.Cover.{Covers};
+ghost use Rattle.mine_model.specs.Limits.{most_workers};
+ghost use Rattle.turn_lock.specs.Passes.{IsPassOf, number, made};
+ghost use Rattle.result_board.specs.Board.{labels_of, HasRow};
+ghost use Rattle.search_engine.specs.Seats.{AreTasksOf};
+ghost use Rattle.search_engine.specs.Workers.{AreTasks, IsBoardOf};
+ghost use Rattle.search_engine.specs.Shifts.{PostedFrom};
+ghost use Rattle.search_engine.specs.Hands.{AreHandsOf, AreGivenBack, IsMannedHand, AreManned, IsDone, AreTried};
+ghost use Rattle.search_engine.specs.Hands.{AreRuns, AreOpened, AreLocked};
+
+use super::hand::Hand;
+use super::seats::put_all;
+use super::steer::Steer;
+use super::working::{grow, work};
+use fst_simulate::Job;
+use mine_model::{Gate, NoMemory};
+use node_pool::{Seat, Task, finish, open};
+use pool_schedule::Grow;
+use result_board::Board;
+use std::alloc::Global;
+use std::sync::Wait;
+use std::thread;
+use std::thread::Threads;
+use turn_lock::{Pass, TurnLock};
+
+// One worker's whole run, with what it was given.
+fn done_by<T: Task, S: Grow<Node = T>, R: Wait, G: Gate>(
+    rt: &R,
+    alloc: Global,
+    search: &S,
+    home: &T::Ground,
+    board: &TurnLock<Board>,
+    hand: Hand<T>,
+    steer: &Steer,
+    gate: &G,
+) -> Result<Hand<T>, NoMemory>
+    requires tasks { AreTasks (S.label_of search.now) T.label_of (S.IsOwn search.now) T.ground_of home.now }
+    requires board { IsBoardOf (S.row_of search.now) board.now }
+    requires manned { IsMannedHand home.now board.now hand }
+    ensures { IfOk result (IsDone (S.kids_of search.now) board.now hand) }
+{
+    let Hand { mut seat, mut pass } = hand;
+    work::<T, S, R, G>(
+        rt, alloc, search, home, &mut seat, board, &mut pass, steer, gate,
+    )?;
+    Ok(Hand { seat, pass })
+}
+
+// The workers' hands, a seat and a pass in each.
+fn hands_of<T: Task>(
+    alloc: Global,
+    seats: Vec<Seat<T>>,
+    passes: Vec<Pass<Board>>,
+) -> Result<Vec<Hand<T>>, NoMemory>
+    requires all { vec_len passes ≡ vec_len seats }
+    ensures { IfOk result (λ hands. AreHandsOf seats.items passes.items hands.items) }
+{
+    let mut hands = Vec::with_capacity(alloc, seats.len())?;
+    let mut rest = passes.into_iter();
+    'seats: for seat in seats {
+        let Some(pass) = rest.next() else {
+            unreachable!()
+        };
+        hands.push(Hand { seat, pass })?;
+    }
+    Ok(hands)
+}
+
+// What all workers gave back, in their order, unless one wanted memory.
+fn gathered<T: Task>(
+    alloc: Global,
+    results: Vec<Result<Hand<T>, NoMemory>>,
+) -> Result<(Vec<Seat<T>>, Vec<Pass<Board>>), NoMemory>
+    ensures { IfOk result (λ back. AreGivenBack results.items back.0.items back.1.items) }
+{
+    let mut seats = Vec::with_capacity(alloc, results.len())?;
+    let mut passes = Vec::with_capacity(alloc, results.len())?;
+    'results: for result in results {
+        let Hand { seat, pass } = result?;
+        seats.push(seat)?;
+        passes.push(pass)?;
+    }
+    Ok((seats, passes))
+}
+
+// Lets the worker of each of these hands run, in a thread of its own where one can be made.
+fn done_by_each<
+    H: Sync,
+    T: Task<Ground = H>,
+    S: Grow<Node = T> + Sync,
+    R: Threads + Wait + Sync,
+    G: Gate,
+>(
+    rt: &R,
+    alloc: Global,
+    search: &S,
+    home: &H,
+    board: &TurnLock<Board>,
+    hands: Vec<Hand<T>>,
+    steer: &Steer,
+    gate: &G,
+) -> Result<Vec<Result<Hand<T>, NoMemory>>, NoMemory>
+where
+    S::Room: Send,
+    requires tasks { AreTasks (S.label_of search.now) T.label_of (S.IsOwn search.now) T.ground_of home.now }
+    requires board { IsBoardOf (S.row_of search.now) board.now }
+    requires manned { All (IsMannedHand home.now board.now) hands.items }
+    ensures { IfOk result (λ results.
+        AreTried (S.kids_of search.now) board.now hands.items results.items) }
+{
+    let results = thread::map_vec(
+        rt,
+        hands,
+        &|hand: Hand<T>| -> Result<Hand<T>, NoMemory>
+            requires tasks { AreTasks (S.label_of search.now) T.label_of
+                (S.IsOwn search.now) T.ground_of home.now }
+            requires board { IsBoardOf (S.row_of search.now) board.now }
+            requires manned { IsMannedHand home.now board.now hand }
+            ensures { IfOk result (IsDone (S.kids_of search.entry.now) board.entry.now hand) }
+        { done_by::<T, S, R, G>(rt, alloc, search, home, board, hand, steer, gate) },
+    )?;
+    Ok(results)
+}
+
+// Lets all workers run, the first of them, whose deque has the roots, in this thread. So it runs at once even
+// where no other thread can be made, and the others, which wait until all nodes are posted, never wait for
+// one that has not begun.
+fn done_by_all<
+    H: Sync,
+    T: Task<Ground = H>,
+    S: Grow<Node = T> + Sync,
+    R: Threads + Wait + Sync,
+    G: Gate,
+>(
+    rt: &R,
+    alloc: Global,
+    search: &S,
+    home: &H,
+    board: &TurnLock<Board>,
+    first: Hand<T>,
+    others: Vec<Hand<T>>,
+    steer: &Steer,
+    gate: &G,
+) -> Result<Vec<Result<Hand<T>, NoMemory>>, NoMemory>
+where
+    S::Room: Send,
+    requires tasks { AreTasks (S.label_of search.now) T.label_of (S.IsOwn search.now) T.ground_of home.now }
+    requires board { IsBoardOf (S.row_of search.now) board.now }
+    requires first { IsMannedHand home.now board.now first }
+    requires others { All (IsMannedHand home.now board.now) others.items }
+    ensures { IfOk result (λ results.
+        AreTried (S.kids_of search.now) board.now (first ∷ others.items) results.items) }
+{
+    let (results, own) = thread::join(
+        rt,
+        || -> Result<Vec<Result<Hand<T>, NoMemory>>, NoMemory>
+            requires tasks { AreTasks (S.label_of search.now) T.label_of
+                (S.IsOwn search.now) T.ground_of home.now }
+            requires board { IsBoardOf (S.row_of search.now) board.now }
+            requires others { All (IsMannedHand home.now board.now) others.items }
+            ensures { IfOk result (λ results.
+                AreTried (S.kids_of search.entry.now) board.entry.now others.items results.items) }
+        { done_by_each::<H, T, S, R, G>(rt, alloc, search, home, board, others, steer, gate) },
+        || -> Result<Hand<T>, NoMemory>
+            requires tasks { AreTasks (S.label_of search.now) T.label_of
+                (S.IsOwn search.now) T.ground_of home.now }
+            requires board { IsBoardOf (S.row_of search.now) board.now }
+            requires first { IsMannedHand home.now board.now first }
+            ensures { IfOk result (IsDone (S.kids_of search.entry.now) board.entry.now first) }
+        { done_by::<T, S, R, G>(rt, alloc, search, home, board, first, steer, gate) },
+    );
+    let mut results = results?;
+    results.insert(0, own)?;
+    Ok(results)
+}
+
+// Lets each worker run.
+fn worked<
+    H: Sync,
+    T: Task<Ground = H>,
+    S: Grow<Node = T> + Sync,
+    R: Threads + Wait + Sync,
+    G: Gate,
+>(
+    rt: &R,
+    alloc: Global,
+    search: &S,
+    home: &H,
+    seats: Vec<Seat<T>>,
+    board: &TurnLock<Board>,
+    passes: Vec<Pass<Board>>,
+    steer: &Steer,
+    gate: &G,
+) -> Result<(Vec<Seat<T>>, Vec<Pass<Board>>), NoMemory>
+where
+    S::Room: Send,
+    requires tasks { AreTasks (S.label_of search.now) T.label_of (S.IsOwn search.now) T.ground_of home.now }
+    requires board { IsBoardOf (S.row_of search.now) board.now }
+    requires all { vec_len passes ≡ vec_len seats }
+    requires manned { AreManned home.now board.now seats.items passes.items }
+    ensures { IfOk result (λ back.
+        AreRuns (S.kids_of search.now) board.now seats.items back.0.items passes.items back.1.items) }
+{
+    let mut hands = hands_of(alloc, seats, passes)?;
+    if hands.is_empty() {
+        return Ok((Vec::new(alloc), Vec::new(alloc)));
+    }
+    let first = hands.remove(0);
+    let results = done_by_all::<H, T, S, R, G>(
+        rt, alloc, search, home, board, first, hands, steer, gate,
+    )?;
+    let back = gathered(alloc, results)?;
+    Ok(back)
+}
+
+// Grows these nodes and all below them, and posts their labels.
+fn grow_rest<T: Task, S: Grow<Node = T>, R: Wait>(
+    rt: &R,
+    alloc: Global,
+    search: &S,
+    home: &T::Ground,
+    board: &TurnLock<Board>,
+    pass: &mut Pass<Board>,
+    mut rest: Vec<T>,
+) -> Result<(), NoMemory>
+    requires tasks { AreTasks (S.label_of search.now) T.label_of (S.IsOwn search.now) T.ground_of home.now }
+    requires board { IsBoardOf (S.row_of search.now) board.now }
+    requires pass { IsPassOf board.now pass.old }
+    requires own { AreTasksOf T.ground_of home.now rest.items }
+    ensures pass { IsPassOf board.now pass.new × (number pass.new ≡ number pass.old) }
+    ensures posted { OnOk result ((posted : List (List ℕ)) × (made pass.new ≡ made pass.old ++ posted)
+        × PostedFrom (S.kids_of search.now) (map T.label_of rest.items) posted []) }
+{
+    let mut room = search.room(alloc)?;
+    'nodes: for _ in rt.forever() {
+        let Some(node) = rest.pop() else {
+            return Ok(());
+        };
+        let mut kids = grow::<T, S, R>(rt, alloc, search, home, node, board, pass, &mut room)?;
+        rest.append(&mut kids)?;
+    }
+    unreachable!()
+}
+
+// Opens a pool, and puts the roots into its first deque. Answers the seats, and the roots that found no room.
+fn opened<T: Task>(
+    alloc: Global,
+    home: &T::Ground,
+    roots: Vec<T>,
+    workers: u32,
+) -> Result<(Vec<Seat<T>>, Vec<T>), NoMemory>
+    requires own { AreTasksOf T.ground_of home.now roots.items }
+    requires some { 1 ≤ workers }
+    requires few { workers ≤ most_workers }
+    ensures count { IfOk result (λ o. vec_len o.0 ≡ workers) }
+    ensures opened { IfOk result (λ o. AreOpened T.label_of T.ground_of home.now
+        (map T.label_of roots.items) o.0.items o.1.items) }
+{
+    let mut seats = open(alloc, workers, home)?;
+    let mut rest = Vec::new(alloc);
+    let mut first = seats.remove(0);
+    put_all(&mut first, roots, &mut rest)?;
+    seats.insert(0, first)?;
+    Ok((seats, rest))
+}
+
+// The board of the job under a lock, a pass for each worker, and the caller's own.
+fn locked(
+    alloc: Global,
+    job: &Job,
+    workers: u32,
+) -> Result<(TurnLock<Board>, Vec<Pass<Board>>, Pass<Board>), NoMemory>
+    requires few { workers ≤ most_workers }
+    ensures count { IfOk result (λ l. vec_len l.1 ≡ workers) }
+    ensures locked { IfOk result (λ l. AreLocked job.now l.0 l.1.items l.2) }
+{
+    let (board, mut passes) = TurnLock::new(alloc, Board::new(alloc, job), workers + 1)?;
+    let Some(own) = passes.pop() else {
+        unreachable!()
+    };
+    Ok((board, passes, own))
+}
+
+/// The board of the job on which these roots and all below them are posted, by so many workers and, where
+/// they left any over, by the caller. Each worker has a thread of its own, where one can be made.
+pub fn posted<
+    H: Sync,
+    T: Task<Ground = H>,
+    S: Grow<Node = T> + Sync,
+    R: Threads + Wait + Sync,
+    G: Gate,
+>(
+    rt: &R,
+    alloc: Global,
+    search: &S,
+    home: &H,
+    job: &Job,
+    roots: Vec<T>,
+    workers: u32,
+    gate: &G,
+) -> Result<Board, NoMemory>
+where
+    S::Room: Send,
+    requires tasks { AreTasks (S.label_of search.now) T.label_of (S.IsOwn search.now) T.ground_of home.now }
+    requires rows { (label : List ℕ) → 1 ≤ length label → HasRow job.now label (S.row_of search.now label) }
+    requires own { AreTasksOf T.ground_of home.now roots.items }
+    requires some { 1 ≤ workers }
+    requires few { workers ≤ most_workers }
+    ensures problem { IfOk result (λ board. board.problem ≡ job.now) }
+    ensures cover { IfOk result (λ board.
+        Covers (map T.label_of roots.items) (S.kids_of search.now) (labels_of board.posted)) }
+{
+    let count = roots.len();
+    let (seats, mut rest) = opened::<T>(alloc, home, roots, workers)?;
+    let steer = Steer::new(count.saturating_sub(rest.len()) as u64);
+    let (board, passes, mut own) = locked(alloc, job, workers)?;
+    let (seats, mut passes) = worked::<H, T, S, R, G>(
+        rt, alloc, search, home, seats, &board, passes, &steer, gate,
+    )?;
+    let mut left = finish(alloc, seats)?;
+    rest.append(&mut left)?;
+    grow_rest::<T, S, R>(rt, alloc, search, home, &board, &mut own, rest)?;
+    passes.push(own)?;
+    Ok(board.close(passes))
+}
