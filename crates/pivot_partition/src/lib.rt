@@ -18,4 +18,4 @@ mod weighing;
 
 pub use merging::merge_pivots;
 pub use pivots::{Pivots, pivots_of};
-pub use splitting::split;
+pub use splitting::{split, split_alone};

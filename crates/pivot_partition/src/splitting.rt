@@ -8,7 +8,7 @@ ghost use Rattle.fst_simulate.specs.Parts.{IsComplete};
 ghost use Rattle.pivot_partition.specs.Pivots.{pivots_in};
 ghost use Rattle.pivot_partition.specs.Pairs.{ArePairs, AreWeights, AreLists, all_of};
 
-use super::pairs::Pair;
+use super::pairs::{Pair, pairs_of};
 use super::pieces::pieces_of;
 use super::weighing::weights;
 use fst_simulate::{Job, PartSeed};
@@ -33,6 +33,18 @@ pub fn split<R: Threads + Sync>(
 {
     let size = job.db().sequences() / threads + 1;
     let parts = pieces_of(rt, alloc, job, size, threads)?;
+    seeds_of(alloc, job, parts.as_slice())
+}
+
+/// The same seeds, found in this thread.
+pub fn split_alone(alloc: Global, job: &Job) -> Result<Vec<PartSeed>, NoMemory>
+    ensures complete { IfOk result (λ seeds. All (IsComplete job.now) seeds.items) }
+    ensures rising { IfOk result (λ seeds. AllPairs (λ low high. low < high) (pivots_in seeds.items)) }
+    ensures alive { IfOk result (λ seeds. (pivot : ℕ) → Contains (pivots_in seeds.items) pivot
+        ↔ ((1 ≤ pivot) × IsAliveLabel (data_of job.now) job.now.ranking.order pivot [])) }
+{
+    let mut parts = Vec::new(alloc);
+    parts.push(pairs_of(alloc, job, 0, job.db().sequences())?)?;
     seeds_of(alloc, job, parts.as_slice())
 }
 

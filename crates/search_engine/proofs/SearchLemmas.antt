@@ -1,12 +1,12 @@
 -- What a search grows is its tree, and the rows over a cover of the tree are the answer.
-use Rattle.std.proofs.Common.{◌≡◌, ◌↔◌, ℕ, suc, ◌<◌, ◌≤◌, Option, IfSome, List, [], ◌∷◌, length, All, sym, ap₂, subst, arith}
+use Rattle.std.proofs.Common.{◌≡◌, ◌↔◌, ℕ, suc, ◌<◌, ◌≤◌, Bool, true, false, Option, IfSome, List, [], ◌∷◌, length, All, sym, ap₂, subst, arith}
 use Rattle.std.specs.List.{AllByRecursion, AllPairs, Contains, filter_map}
 use Rattle.mine_model.specs.declared.item.Item.{Item}
 use Rattle.mine_model.specs.declared.mined.Work.{Work}
 use Rattle.mine_model.specs.declared.row.Row.{Row}
 use Rattle.mine_model.specs.Candidates.{IsFrequentItem}
 use Rattle.mine_model.specs.Cover.{Covers, down_to}
-use Rattle.mine_model.specs.Growth.{HasPatternBehind, IsSearchWork}
+use Rattle.mine_model.specs.Growth.{HasPatternBehind}
 use Rattle.mine_model.specs.Numbered.{tree_of as expression_of, AreFrequent}
 use Rattle.mine_model.specs.SearchTree.{IsWithinPivot, IsRowOf, AreKids, AreRootsOf, IsSearchTree}
 use Rattle.mine_model.specs.Support.{HasFrequency}
@@ -21,7 +21,9 @@ use Rattle.dfs_growth.specs.Nodes.{Prefix, label_at}
 use Rattle.dfs_growth.specs.Tree.{search_tree, roots_by, kids_by, row_by}
 use Rattle.dfs_growth.proofs.TreeLemmas.{search_tree-is}
 use Rattle.result_board.specs.Board.{HasRow}
+use Rattle.search_engine.specs.Partition.{ArePivotsFor, IsWorkFor}
 use Rattle.search_engine.specs.Searches.{Search, tree_of}
+use Rattle.search_engine.proofs.PartitionLemmas.{partition-rows, partition-work}
 
 -- a seed with the pivot takes the sequence
 abbrev Takes : Problem → Option ℕ → ℕ → Type 0
@@ -77,29 +79,41 @@ walks-rows problem whole search same (pivot ∷ ranks) long =
     subst (λ (p : Problem). IsRowOf (data_of problem) problem.ranking.order pivot ranks (row_by p (pivot ∷ ranks))) (sym same)
     ((search_tree-is problem whole []).row pivot ranks)
 
--- a search of the problem without pivots
-module _ (problem : Problem) (whole : IsWhole problem) (search : Search) (same : search.problem ≡ problem) (one : search.pivots ≡ 0 ∷ []) where
-  pub walks-tree : IsSearchTree (data_of problem) problem.ranking.order (0 ∷ []) (tree_of search)
-  walks-tree = subst (IsSearchTree (data_of problem) problem.ranking.order (0 ∷ [])) (sym (ap₂ search_tree same one)) (search_tree-is problem whole (0 ∷ []))
+-- a search of the problem, split by pivots or not
+module _ (problem : Problem) (whole : IsWhole problem) (search : Search) (same : search.problem ≡ problem) where
+  pub walks-tree : IsSearchTree (data_of problem) problem.ranking.order search.pivots (tree_of search)
+  walks-tree = subst (λ (p : Problem). IsSearchTree (data_of problem) problem.ranking.order search.pivots (search_tree p search.pivots)) (sym same) (search_tree-is problem whole search.pivots)
 
   -- over a cover of its tree
-  module _ (labels : List (List ℕ)) (covers : Covers (tree_of search).roots (tree_of search).kids labels) where
+  module _ (split : Bool) (are_for : ArePivotsFor split (data_of problem) problem.ranking.order search.pivots)
+      (labels : List (List ℕ)) (covers : Covers (tree_of search).roots (tree_of search).kids labels) where
+    work-for : (split : Bool) → ArePivotsFor split (data_of problem) problem.ranking.order search.pivots
+        → IsWorkFor split (data_of problem) problem.ranking.order (record { nodes = length labels; parts = length (tree_of search).roots; candidates = 0 })
+    work-for false one =
+        search-work (data_of problem) problem.ranking whole.ranks (tree_of search) (subst (λ p. IsSearchTree (data_of problem) problem.ranking.order p (tree_of search)) one walks-tree)
+        labels covers whole.least
+    work-for true alive = partition-work (data_of problem) problem.ranking whole.ranks search.pivots alive (tree_of search) walks-tree labels covers
+
     pub walks-work : (nodes parts : ℕ) → nodes ≡ length labels → parts ≡ length (tree_of search).roots
-        → IsSearchWork (data_of problem) (record { nodes = nodes; parts = parts; candidates = 0 })
+        → IsWorkFor split (data_of problem) problem.ranking.order (record { nodes = nodes; parts = parts; candidates = 0 })
     walks-work nodes parts is_nodes is_parts =
         let made : ℕ → ℕ → Work = λ n p. record { nodes = n; parts = p; candidates = 0 } in
-        subst (IsSearchWork (data_of problem)) (ap₂ made (sym is_nodes) (sym is_parts))
-        (search-work (data_of problem) problem.ranking whole.ranks (tree_of search) walks-tree labels covers whole.least)
+        subst (IsWorkFor split (data_of problem) problem.ranking.order) (ap₂ made (sym is_nodes) (sym is_parts)) (work-for split are_for)
 
     module _ (ends : All (λ link. (link.child.0 < problem.hierarchy.items) × (link.parent.0 < problem.hierarchy.items)) problem.hierarchy.links)
         (rows : List Row) (are : rows ≡ filter_map (tree_of search).row labels) where
       known : (w : Item) → (m : ℕ) × HasFrequency problem.hierarchy.links problem.sequences w m
       known = frequencies-known problem.hierarchy.links problem.hierarchy.items ends problem.sequences problem.ranking.frequencies whole.items whole.ranked whole.ranks.exact
 
+      rows-for : (split : Bool) → ArePivotsFor split (data_of problem) problem.ranking.order search.pivots
+          → AreFrequent (data_of problem) (filter_map (tree_of search).row labels)
+      rows-for false one =
+          search-rows (data_of problem) problem.ranking whole.ranks (tree_of search) (subst (λ p. IsSearchTree (data_of problem) problem.ranking.order p (tree_of search)) one walks-tree)
+          labels covers known
+      rows-for true alive = partition-rows (data_of problem) problem.ranking whole.ranks search.pivots alive (tree_of search) walks-tree labels covers known
+
       pub walks-frequent : AreFrequent (data_of problem) rows
-      walks-frequent =
-          subst (AreFrequent (data_of problem)) (sym are)
-          (search-rows (data_of problem) problem.ranking whole.ranks (tree_of search) walks-tree labels covers known)
+      walks-frequent = subst (AreFrequent (data_of problem)) (sym are) (rows-for split are_for)
 
       pub walks-within : (row : Row) → Contains rows row → AllByRecursion (λ (t : Item). t.0 < problem.hierarchy.items) row.pattern
       walks-within row held =

@@ -3,6 +3,7 @@
 
 mod choices;
 mod hand;
+mod mining;
 mod search;
 mod seats;
 mod simulating;
@@ -12,6 +13,7 @@ mod tests;
 mod workers;
 mod working;
 
+pub use mining::mine;
 pub use simulating::simulate;
 pub use steer::Steer;
 pub use workers::posted;

@@ -1,16 +1,19 @@
 //! The search by prefixes of a job.
 ghost use Rattle.std.specs.Prelude.{◌≡◌, ℕ, [], ◌∷◌, map, All, IfOk};
 ghost use Rattle.fst_simulate.specs.declared.part_seed.PartSeed.{PartSeed as Seed};
-ghost use Rattle.fst_simulate.specs.Problems.{Problem, IsWhole};
+ghost use Rattle.fst_simulate.specs.Problems.{Problem, IsWhole, data_of};
 ghost use Rattle.fst_simulate.specs.Parts.{pivot_of, IsComplete};
+ghost use Rattle.search_engine.specs.Partition.{AreAlivePivots, ArePivotsFor};
 
 use dfs_growth::{Node, expand, roots, whole};
 use fst_simulate::{Job, PartSeed};
 use mine_model::{Grown, NoMemory};
+use pivot_partition::{split, split_alone};
 use pool_schedule::Grow;
 use snapshot_project::Room;
 use std::alloc::Global;
 use std::marker::Model;
+use std::thread::Threads;
 
 /// A job with the seeds of the roots of its search tree.
 #[derive(Drop)]
@@ -67,6 +70,64 @@ impl<'a> Search<'a> {
         let _support = job.support();
         let mut seeds = Vec::new(alloc);
         seeds.push(whole(alloc, job)?)?;
+        Ok(Search { job, seeds })
+    }
+
+    /// The search by pivots: it has a seed for each pivot whose sequences weigh enough. So many threads look
+    /// for them.
+    fn by_pivots<R: Threads + Sync>(
+        rt: &R,
+        alloc: Global,
+        job: &'a Job,
+        threads: u32,
+    ) -> Result<Search<'a>, NoMemory>
+        requires least { 1 ≤ threads }
+        requires most { threads ≤ 64 }
+        ensures problem { IfOk result (λ search. search.problem ≡ job.now) }
+        ensures pivots { IfOk result (λ search.
+            AreAlivePivots (data_of job.now) job.now.ranking.order search.pivots) }
+    {
+        let _support = job.support();
+        let seeds = split(rt, alloc, job, threads)?;
+        Ok(Search { job, seeds })
+    }
+
+    /// The search of the job, split by pivots or not. So many threads look for the pivots.
+    pub(crate) fn of<R: Threads + Sync>(
+        rt: &R,
+        alloc: Global,
+        job: &'a Job,
+        is_split: bool,
+        threads: u32,
+    ) -> Result<Search<'a>, NoMemory>
+        requires least { 1 ≤ threads }
+        requires most { threads ≤ 64 }
+        ensures problem { IfOk result (λ search. search.problem ≡ job.now) }
+        ensures pivots { IfOk result (λ search.
+            ArePivotsFor is_split (data_of job.now) job.now.ranking.order search.pivots) }
+    {
+        if is_split {
+            Search::by_pivots(rt, alloc, job, threads)
+        } else {
+            Search::new(alloc, job)
+        }
+    }
+
+    /// The same search, whose pivots are looked for in this thread.
+    pub(crate) fn alone(
+        alloc: Global,
+        job: &'a Job,
+        is_split: bool,
+    ) -> Result<Search<'a>, NoMemory>
+        ensures problem { IfOk result (λ search. search.problem ≡ job.now) }
+        ensures pivots { IfOk result (λ search.
+            ArePivotsFor is_split (data_of job.now) job.now.ranking.order search.pivots) }
+    {
+        if !is_split {
+            return Search::new(alloc, job);
+        }
+        let _support = job.support();
+        let seeds = split_alone(alloc, job)?;
         Ok(Search { job, seeds })
     }
 
