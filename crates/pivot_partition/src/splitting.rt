@@ -43,8 +43,9 @@ pub fn split_alone(alloc: Global, job: &Job) -> Result<Vec<PartSeed>, NoMemory>
     ensures alive { IfOk result (λ seeds. (pivot : ℕ) → Contains (pivots_in seeds.items) pivot
         ↔ ((1 ≤ pivot) × IsAliveLabel (data_of job.now) job.now.ranking.order pivot [])) }
 {
+    let pairs = pairs_of(alloc, job, 0, job.db().sequences())?;
     let mut parts = Vec::new(alloc);
-    parts.push(pairs_of(alloc, job, 0, job.db().sequences())?)?;
+    parts.push(pairs)?;
     seeds_of(alloc, job, parts.as_slice())
 }
 
