@@ -9,6 +9,6 @@ pub seeds_of-requires : goal.seeds_of-requires
 seeds_of-requires c =
     let count : c.sequences.result ≡ length c.args.job.now.sequences = c.sequences.ensures.count ∙ ap length c.db.ensures.sequences in
     let all = subst (λ n. ArePairs c.args.job.now 0 n c.in_ok-pairs.pairs.items) count c.in_ok-pairs.ensures in
-    let parts = c.as_slice.ensures.value ∙ c.in_ok-push.ensures.items ∙ ap (λ (l : List (Vec Pair)). l ++ c.in_ok-pairs.pairs ∷ []) c.new.ensures.items in
+    let parts = c.as_slice.ensures.value ∙ c.in_ok-push.ensures.items ∙ ap (λ (l : List (Vec Pair)). l ++ c.in_ok-pairs.pairs ∷ []) c.new-parts.ensures.items in
     subst (λ (l : List (Vec Pair)). ArePairs c.args.job.now 0 (length c.args.job.now.sequences) (all_of l)) (sym parts)
     (subst (ArePairs c.args.job.now 0 (length c.args.job.now.sequences)) (sym (append-nil c.in_ok-pairs.pairs.items)) all)
