@@ -6,11 +6,14 @@ use Rattle.mine_model.specs.SearchTree.{IsSearchTree}
 use Rattle.turn_lock.specs.History.{Made}
 use Rattle.fst_simulate.specs.Problems.{Problem, data_of}
 use Rattle.dfs_growth.specs.Nodes.{label_at}
-use Rattle.dfs_growth.proofs.node.Node.TheSendSync as node
 use Rattle.result_board.specs.Board.{labels_of}
 use Rattle.search_engine.specs.Searches.{tree_of}
+use Rattle.search_engine.proofs.CrossingLemmas.{node-send}
 use Rattle.search_engine.proofs.SearchLemmas.{walks-rows, walks-tree, walks-work, walks-frequent, walks-within}
 use Rattle.search_engine.proofs.mining.mine.Goals as goal
+
+pub posted-requires-send-T : goal.posted-requires-send-T
+posted-requires-send-T g c κs within = node-send _
 
 pub posted-requires-clause-rows : goal.posted-requires-clause-rows
 posted-requires-clause-rows g c κs within = walks-rows c.args.job.now c.hierarchy.ensures.whole c.in_ok-search.search c.in_ok-search.ensures.problem
