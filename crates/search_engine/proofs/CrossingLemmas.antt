@@ -1,15 +1,13 @@
--- A node may cross threads: so may all that it refers to be shared by them, and all that it owns cross.
+-- A node may cross threads: what it refers to may be shared by them, and what it owns may cross.
 use denote.RattleType.{RattleType}
 use denote.Param.Send.{IsSend, IsSync, sendable}
 use denote.Param.SendFields.{variants_sync, declared_sync, declared_send}
-use Rattle.fst_compile.specs.contracts.fst.Fst.TheInside as FstInside
 use denote.Ref.{NamedLft}
 use denote.Hole.FixSend.{Syncs, fix_sync}
 use Rattle.std.proofs.Crossing.{crosses}
-use Rattle.mine_model.specs.contracts.expression.Leaf as Leaf
+use Rattle.fst_compile.specs.contracts.fst.Fst.TheInside as FstInside
 use Rattle.mine_model.specs.contracts.expression.Expr as Expr
 use Rattle.mine_model.specs.contracts.expression.Expr.TheKnot as Knot
-use Rattle.state_bits.specs.contracts.state_set.StateSet as Set
 use Rattle.fst_compile.specs.contracts.fst.Fst as Fst
 use Rattle.fst_simulate.specs.contracts.job.Job as Job
 use Rattle.fst_simulate.specs.contracts.part_seed.PartSeed as Seed
@@ -20,9 +18,9 @@ use Rattle.fst_simulate.specs.contracts.grids.Grids as Grids
 use Rattle.fst_simulate.specs.contracts.grids.Grids.TheInside as GridsInside
 use Rattle.fst_simulate.specs.contracts.successors.Successors as Successors
 use Rattle.fst_simulate.specs.contracts.tables.Tables as Tables
-use Rattle.fst_simulate.specs.contracts.table.Table as Table
 use Rattle.dfs_growth.specs.contracts.node.Node as Node
 
+-- an expression reaches itself, so it is shown layer by layer
 layer-sync : (h : RattleType) → IsSync h → IsSync (Knot.layer-Expr h h h h h h)
 layer-sync h own = variants_sync (Knot.type-Expr h h h h h h) (search (sendable, crosses) depth 40 fits 20000)
 
@@ -31,7 +29,6 @@ hole-sync = fix_sync Expr.the_ring (Expr.by_members (Syncs Expr.the_ring) (recor
 
 expr-sync : IsSync Expr.the_row
 expr-sync = let hole = hole-sync in variants_sync Expr.enum (search (sendable, crosses) depth 40 fits 20000)
-
 
 fst-sync : IsSync Fst.the_row
 fst-sync = let i : IsSync FstInside.the_row = declared_sync FstInside.the_type (let e = expr-sync in search (sendable, crosses) depth 40 fits 20000) in search sendable

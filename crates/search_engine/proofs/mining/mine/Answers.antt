@@ -1,3 +1,4 @@
+use denote.Param.Send.{sendable}
 use Rattle.std.proofs.Common.{◌≡◌, ℕ, List, length, map, sym, ap, ◌∙◌, subst, arith}
 use Rattle.std.proofs.lemmas.List.{length-map}
 use Rattle.std.specs.List.{filter_map}
@@ -13,7 +14,7 @@ use Rattle.search_engine.proofs.SearchLemmas.{walks-rows, walks-tree, walks-work
 use Rattle.search_engine.proofs.mining.mine.Goals as goal
 
 pub posted-requires-send-T : goal.posted-requires-send-T
-posted-requires-send-T g c κs within = node-send _
+posted-requires-send-T g c κs within = search (sendable, node-send) depth 10
 
 pub posted-requires-clause-rows : goal.posted-requires-clause-rows
 posted-requires-clause-rows g c κs within = walks-rows c.args.job.now c.hierarchy.ensures.whole c.in_ok-search.search c.in_ok-search.ensures.problem
