@@ -1,6 +1,7 @@
 pub mod Told
 pub mod LinkLemmas
 pub mod HierarchyLemmas
+pub mod PartitionWorkLemmas
 pub mod InputLemmas
 pub mod SameRefusals
 pub mod UniqueRefusals
