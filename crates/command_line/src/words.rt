@@ -50,8 +50,8 @@ pub struct Command {
     pub engine: Engine,
     /// How many threads work at the search, 1 to 64; 4 where no number is given.
     pub workers: u32,
-    /// The seed of a run that simulates its workers in one thread, 0 to 18,446,744,073,709,551,615. A run that
-    /// counts has none.
+    /// The seed of a run that simulates its workers in one thread, 0 to 18,446,744,073,709,551,615. A run
+    /// that counts has none.
     pub seed: Option<u64>,
     /// Whether the counted work of the run is told on the error output.
     pub stats: bool,
