@@ -2,7 +2,7 @@ pub mod Told
 pub mod LinkLemmas
 pub mod HierarchyLemmas
 pub mod PartitionWorkLemmas
-pub mod PartitionNameLemmas
+pub mod PartitionRankLemmas
 pub mod InputLemmas
 pub mod SameRefusals
 pub mod UniqueRefusals
