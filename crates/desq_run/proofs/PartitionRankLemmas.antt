@@ -8,6 +8,7 @@ use Rattle.std.proofs.lemmas.Cmp.{nat_list_cmp_total}
 use Rattle.std.proofs.lemmas.Option.{slice_get_within, get_or_from_slice_get}
 use Rattle.mine_model.specs.declared.item.Item.{Item}
 use Rattle.mine_model.specs.declared.mined.Work.{Work}
+use Rattle.mine_model.specs.Hierarchy.{Link}
 use Rattle.mine_model.specs.Support.{HoldsUnder, HasFrequency}
 use Rattle.mine_model.specs.Answer.{Data}
 use Rattle.mine_model.specs.Candidates.{IsFrequentItem}
@@ -23,6 +24,7 @@ use Rattle.mine_model.proofs.RankLemmas.{HasRank-held}
 use Rattle.mine_model.proofs.RankedLemmas.{ranked-first, ranked-same, ranked-all, item_rank, same_ranks}
 use Rattle.mine_model.proofs.AliveLemmas.{IsAlive-weaker, IsAlive-some}
 use Rattle.mine_model.proofs.SearchAnswerLemmas.{ranked-items, frequent-ranks}
+use Rattle.fst_simulate.specs.Problems.{Problem, data_of, IsWhole}
 use Rattle.search_engine.specs.Partition.{IsPartitionWork as IsRankedWork}
 use Rattle.desq_run.specs.PartitionWork.{RanksBefore, IsPivotOf, IsPartitionWork, IsBytewiseBefore, IsNamedBefore}
 use Rattle.desq_run.proofs.PartitionWorkLemmas.{IsNumberOf-by}
@@ -235,3 +237,12 @@ module _ (names : List (List ℕ)) (d : Data Item) (ranking : Ranking) (ranks : 
           });
       candidates = is.candidates;
     }
+
+-- the work of a problem whose links are between its items
+pub problem-work : (problem : Problem) → IsWhole problem
+    → All (λ (link : Link Item). (link.child.0 < problem.hierarchy.items) × (link.parent.0 < problem.hierarchy.items)) problem.hierarchy.links
+    → (names : List (List ℕ)) → AreTiesByName names problem.ranking → (work : Work) → IsRankedWork (data_of problem) problem.ranking.order work
+    → IsPartitionWork (IsNamedBefore names) (data_of problem) work
+problem-work problem whole ends names ties work is =
+    let within = order-within (data_of problem) problem.ranking whole.ranks whole.least problem.hierarchy.items ends whole.items whole.ranked in
+    partition-items names (data_of problem) problem.ranking whole.ranks ties within whole.least work is
