@@ -1,5 +1,5 @@
 -- The rows that were found, in order, and what they say of the input.
-use Rattle.std.proofs.Common.{◌≡◌, ◌≢◌, ◌⊎◌, inl, inr, ◌↔◌, ℕ, ◌<◌, ◌≤◌, List, [], ◌∷◌, ◌++◌, map, length, take, drop, All, Option, Some, None, IfSome, IsPermutation, Contains, sym, ap, ◌∙◌, subst, arith}
+use Rattle.std.proofs.Common.{◌≡◌, ◌≢◌, ◌⊎◌, inl, inr, ◌↔◌, ℕ, ◌<◌, ◌≤◌, List, [], ◌∷◌, ◌++◌, map, length, take, drop, All, Option, Some, None, IfSome, IsPermutation, Contains, sym, ap, ◌∙◌, subst, arith, Result, Ok, Err, IfOk}
 use Rattle.std.specs.List.{AllByRecursion}
 use Rattle.std.proofs.lemmas.List.{drop_all, take_all, append-nil}
 use Rattle.std.proofs.lemmas.List.Elements.{All-from_recursion}
@@ -119,3 +119,8 @@ module _ (words : List (List ℕ)) (holds : List ℕ → Option (List ℕ)) (c :
 pub is-work : (P : Work → Type 0) (told : Option Work) (work : Work) → IfSome told (λ t. t ≡ work) → P work → IfSome told P
 is-work P None work same p = tt
 is-work P (Some t) work same p = subst P (sym same) p
+
+-- what follows from a property holds of a result that has it
+pub if_ok : {T E : Type 0} (P Q : T → Type 0) (r : Result T E) → ((v : T) → P v → Q v) → IfOk r P → IfOk r Q
+if_ok P Q (Ok v) follows is = follows v is
+if_ok P Q (Err e) follows is = tt

@@ -110,12 +110,14 @@ fn any_order_of_steps_gives_the_same_answer(rt: HostRuntime) -> Result<(), Fail>
 }
 
 /// Data without a hierarchy.
-const fn flat(expression: &'static str, sequences: &'static str) -> Data {
-    Data {
-        hierarchy: "",
-        expression,
-        sequences,
-    }
+macro_rules! flat {
+    ($expression:literal, $sequences:literal) => {
+        Data {
+            hierarchy: "",
+            expression: $expression,
+            sequences: $sequences,
+        }
+    };
 }
 
 /// What is searched, the threshold, the answer, and the work that a whole and a split search tell.
@@ -126,56 +128,56 @@ type Grown = (Data, &'static str, &'static str, &'static str, &'static str);
 // chain of prefixes, in which there is no work to share.
 const GROWN: &[Grown] = &[
     (
-        flat(".*(a)(b).*", "a b\na b\na c\n"),
+        flat!(".*(a)(b).*", "a b\na b\na c\n"),
         "2",
         "2\ta b\n",
         "nodes 3 parts 1",
         "nodes 3 parts 1",
     ),
     (
-        flat("(a)[(b)|.]", "a b\na b\n"),
+        flat!("(a)[(b)|.]", "a b\na b\n"),
         "2",
         "2\ta\n2\ta b\n",
         "nodes 3 parts 1",
         "nodes 5 parts 2",
     ),
     (
-        flat("[.*]{8}(a)", "b b b b b b b b b b b a\n"),
+        flat!("[.*]{8}(a)", "b b b b b b b b b b b a\n"),
         "1",
         "1\ta\n",
         "nodes 2 parts 1",
         "nodes 2 parts 1",
     ),
     (
-        flat("(.)", ""),
+        flat!("(.)", ""),
         "1",
         "",
         "nodes 0 parts 0",
         "nodes 0 parts 0",
     ),
     (
-        flat(".*(a)(b).*", "a b\na b\na c\n"),
+        flat!(".*(a)(b).*", "a b\na b\na c\n"),
         "3",
         "",
         "nodes 0 parts 0",
         "nodes 0 parts 0",
     ),
     (
-        flat(".*", "a b\na b\n\n"),
+        flat!(".*", "a b\na b\n\n"),
         "1",
         "",
         "nodes 0 parts 0",
         "nodes 0 parts 0",
     ),
     (
-        flat("[(a)*]*", "a a\na a\n"),
+        flat!("[(a)*]*", "a a\na a\n"),
         "1",
         "2\ta a\n",
         "nodes 3 parts 1",
         "nodes 3 parts 1",
     ),
     (
-        flat("(a)*", "a a a a a a\n"),
+        flat!("(a)*", "a a a a a a\n"),
         "1",
         "1\ta a a a a a\n",
         "nodes 7 parts 1",
@@ -224,37 +226,37 @@ const SPLIT: &[(Data, &str, &str, &str)] = &[
     (ALL_EMPTY, "--support=1", "", "nodes 0 parts 0"),
     (CLIMBING, "--support=2", "2\tk c\n", "nodes 3 parts 1"),
     (
-        flat("(a)(b)", "a b\nb a\na b\nb a\n"),
+        flat!("(a)(b)", "a b\nb a\na b\nb a\n"),
         "--support=2",
         "2\ta b\n",
         "nodes 3 parts 1",
     ),
     (
-        flat("(a)(b)", "a b\nb a\na b\nb a\n"),
+        flat!("(a)(b)", "a b\nb a\na b\nb a\n"),
         "--support=3",
         "",
         "nodes 0 parts 0",
     ),
     (
-        flat("(a)(b)", "3 a b\n3 b a\n"),
+        flat!("(a)(b)", "3 a b\n3 b a\n"),
         "--weighted --support=3",
         "3\ta b\n",
         "nodes 3 parts 1",
     ),
     (
-        flat("(a)(b)", "3 a b\n3 b a\n"),
+        flat!("(a)(b)", "3 a b\n3 b a\n"),
         "--weighted --support=4",
         "",
         "nodes 0 parts 0",
     ),
     (
-        flat(".*(.).*", "5 a b\n3 a c\n1 a\n"),
+        flat!(".*(.).*", "5 a b\n3 a c\n1 a\n"),
         "--weighted --support=5",
         "9\ta\n5\tb\n",
         "nodes 4 parts 2",
     ),
     (
-        flat(".*(.).*", "5 a b\n3 a c\n1 a\n"),
+        flat!(".*(.).*", "5 a b\n3 a c\n1 a\n"),
         "--weighted --support=6",
         "9\ta\n",
         "nodes 2 parts 1",
