@@ -8,8 +8,11 @@ use Rattle.pivot_partition.specs.Marks.{AreMarked}
 -- no grids, under the bound of all ranks, room for each state, and no rank that has a mark
 pub record AreKept (problem : Problem) (grids : GridList) (front entered : List ℕ) (marks : List Bool)
     : Type 0 where
-  pub grids_are : grids
-      ≡ record { problem = problem; bound = record { top = length problem.ranking.order; need = None }; sequences = [] }
+  pub grids_are : grids ≡ record {
+    problem = problem;
+    bound = record { top = length problem.ranking.order; need = None };
+    sequences = [];
+  }
   pub front_long : length front ≡ length problem.machine.labels + 1
   pub entered_long : length entered ≡ length problem.machine.labels + 1
   pub marks_long : length marks ≡ length problem.ranking.order + 1

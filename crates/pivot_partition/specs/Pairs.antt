@@ -25,7 +25,8 @@ place size count piece = min (piece * size) count
 -- so many parts are the pairs of the pieces, in order
 abbrev pub ArePieces : Problem → ℕ → ℕ → List (Vec Pair) → Type 0
 ArePieces problem size pieces parts = AllZip (λ piece part. ArePairs problem
-    (place size (length problem.sequences) piece) (place size (length problem.sequences) (piece + 1)) part.items)
+    (place size (length problem.sequences) piece)
+    (place size (length problem.sequences) (piece + 1)) part.items)
     (range_with_len 0 pieces) parts
 
 -- the pairs of all parts, one after another
@@ -49,5 +50,5 @@ AreWeights problem pairs sums = (pivot : ℕ) → slice_index sums pivot ≡ wei
 
 -- the lists have the sequences with each pivot that weighs enough
 abbrev pub AreLists : ℕ → List ℕ → List Pair → List (Vec ℕ) → Type 0
-AreLists support sums pairs lists = (pivot : ℕ) (none : Vec ℕ) → pivot < length lists → support ≤ slice_index sums pivot
-    → (slice_index_or lists pivot none).items ≡ sequences_with pivot pairs
+AreLists support sums pairs lists = (pivot : ℕ) (none : Vec ℕ) → pivot < length lists
+    → support ≤ slice_index sums pivot → (slice_index_or lists pivot none).items ≡ sequences_with pivot pairs

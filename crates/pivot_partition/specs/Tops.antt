@@ -1,4 +1,5 @@
--- Up to which rank a path has to write, at least: what may be written on it is then no more than whether it goes.
+-- Up to which rank a path has to write, at least: what may be written on it is then no more than whether it
+-- goes.
 use Rattle.std.specs.Prelude.{◌≡◌, ℕ, ◌+◌, ◌-◌, ◌*◌, ◌≤◌, ◌<◌, ◌⊎◌, ◌↔◌, true, false, Some, List, [], length, slice_index, drop, Contains}
 use Rattle.mine_model.specs.declared.item.Item.{Item}
 use Rattle.fst_compile.specs.Transducer.{Leads}
@@ -36,8 +37,8 @@ abbrev pub IsRowOf : Problem → List Item → List ℕ → Type 0
 IsRowOf problem rest row = (state : ℕ) → state ≤ length problem.machine.labels
     → IsLeastTop problem (GoesOn problem rest state) (slice_index row state)
 
--- the row has for each state that edges lead into up to which rank reading t into it and a path from there has
--- to write
+-- the row has for each state that edges lead into up to which rank reading t into it and a path from there
+-- has to write
 abbrev pub IsEnteredRow : Problem → Item → List Item → List ℕ → Type 0
 IsEnteredRow problem t rest row = (state : ℕ) → IsTarget problem state
     → IsLeastTop problem (λ p. Goes problem (bound_by p) t state × GoesOn problem rest state p)

@@ -15,8 +15,8 @@ use fst_compile::State;
 use fst_simulate::{Grids, Job, Reading};
 use mine_model::NoMemory;
 
-/// Finds the ranks that a path over the first grid's sequence may write as its greatest, with room for a table
-/// and two rows.
+/// Finds the ranks that a path over the first grid's sequence may write as its greatest, with room for a
+/// table and two rows.
 pub(crate) fn find_in(
     job: &Job,
     grids: &Grids,
@@ -160,8 +160,8 @@ fn pass(
     Ok(())
 }
 
-/// Marks what edges write into the state, where a path to it and one from it need no greater rank; gives up to
-/// which rank a path over the item into the state has to write.
+/// Marks what edges write into the state, where a path to it and one from it need no greater rank; gives up
+/// to which rank a path over the item into the state has to write.
 fn pass_state(
     reading: &Reading,
     state: u32,

@@ -3,8 +3,8 @@ ghost use Rattle.pivot_partition.specs.Pivots.{IsGreaterOf, HasUpTo};
 
 use mine_model::NoMemory;
 
-/// Makes of the first list the greater ones of each pair of a number of the first and one of the second. These
-/// are the numbers of either that have one of each list up to them.
+/// Makes of the first list the greater ones of each pair of a number of the first and one of the second.
+/// These are the numbers of either that have one of each list up to them.
 pub fn merge_pivots(u: &mut Vec<u32>, v: &[u32]) -> Result<(), NoMemory>
     requires first { AllPairs (λ low high. low < high) u.old.items }
     requires second { AllPairs (λ low high. low < high) v.now }

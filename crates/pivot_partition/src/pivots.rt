@@ -27,9 +27,9 @@ pub fn pivots_of(alloc: Global, job: &Job, sequence: u32) -> Result<Vec<u32>, No
 /// Finds the pivots of one sequence of a job after another, each time in the same room.
 ///
 /// A rank is a pivot where an edge may write it at some position, and paths to that edge and from it to the
-/// end need no greater rank. So no list of ranks is made: from the end of the sequence up to which rank a path
-/// from each state has to write, and then, from its front, the same of the paths to each state, and what may be
-/// written between.
+/// end need no greater rank. So no list of ranks is made: from the end of the sequence up to which rank a
+/// path from each state has to write, and then, from its front, the same of the paths to each state, and what
+/// may be written between.
 #[derive(Drop)]
 pub struct Pivots<'a> {
     job: &'a Job,

@@ -43,8 +43,9 @@ pub fn split_alone(alloc: Global, job: &Job) -> Result<Vec<PartSeed>, NoMemory>
     ensures alive { IfOk result (λ seeds. (pivot : ℕ) → Contains (pivots_in seeds.items) pivot
         ↔ ((1 ≤ pivot) × IsAliveLabel (data_of job.now) job.now.ranking.order pivot [])) }
 {
+    let pairs = pairs_of(alloc, job, 0, job.db().sequences())?;
     let mut parts = Vec::new(alloc);
-    parts.push(pairs_of(alloc, job, 0, job.db().sequences())?)?;
+    parts.push(pairs)?;
     seeds_of(alloc, job, parts.as_slice())
 }
 
@@ -133,8 +134,8 @@ fn push_seed(
     is_enough: bool,
     seeds: &mut Vec<PartSeed>,
 ) -> Result<(), NoMemory>
-    ensures enough { OnOk result (IsTrue is_enough → (seed : Seed) × (seeds.new.items ≡ seeds.old.items ++ seed ∷ [])
-        × (seed.pivot ≡ Some place) × (seed.sequences.items ≡ sequences.items)) }
+    ensures enough { OnOk result (IsTrue is_enough → (seed : Seed)
+        × (seeds.new.items ≡ seeds.old.items ++ seed ∷ []) × (seed.pivot ≡ Some place) × (seed.sequences.items ≡ sequences.items)) }
     ensures less { OnOk result (is_enough ≡ false → seeds.new.items ≡ seeds.old.items) }
 {
     if is_enough {

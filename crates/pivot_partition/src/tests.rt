@@ -119,17 +119,27 @@ fn are_known(items: &[Item]) -> bool
     true
 }
 
+/// The weight of a sequence behind so many others.
+fn weight_behind(others: u32, first: u64) -> u64
+    ensures { (1 ≤ result) × (result ≤ 1000000000) }
+{
+    if others == 0 {
+        first.clamp(1, 1_000_000_000)
+    } else {
+        1
+    }
+}
+
 /// A database of these lines, the first of which has this weight.
 fn database(alloc: Global, lines: &[&[Item]], first: u64) -> Result<Db, NoMemory>
     ensures { IfOk result (λ db. AllByRecursion (λ s. AllByRecursion (λ t. t.0 < 7) s.items) db) }
 {
     let mut db = Db::new(alloc);
-    let mut weight = first.clamp(1, 1_000_000_000);
     for items in lines {
         if are_known(items) && db.sequences() < 4_194_304 && items.len() <= 65_535 {
+            let weight = weight_behind(db.sequences(), first);
             db.push_weighted(items, weight)?;
         }
-        weight = 1;
     }
     Ok(db)
 }

@@ -1,5 +1,6 @@
 pub mod BalanceLemmas
 pub mod ChoiceLemmas
+pub mod CrossingLemmas
 pub mod HandLemmas
 pub mod PartitionLemmas
 pub mod RunLemmas

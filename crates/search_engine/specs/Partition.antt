@@ -24,7 +24,8 @@ pub record IsPartitionWork (d : Data Item) (order : List Item) (work : Work) : T
   pub parts : work.parts ≡ length pivots
   pub candidates : work.candidates ≡ 0
 
--- the pivots of the roots: those that are alive where the search is split, and else 0 alone, which stands for none
+-- the pivots of the roots: those that are alive where the search is split, and else 0 alone, which stands for
+-- none
 abbrev pub ArePivotsFor : Bool → Data Item → List Item → List ℕ → Type 0
 ArePivotsFor false d order pivots = pivots ≡ 0 ∷ []
 ArePivotsFor true d order pivots = AreAlivePivots d order pivots

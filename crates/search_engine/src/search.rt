@@ -1,5 +1,5 @@
 //! The search by prefixes of a job.
-ghost use Rattle.std.specs.Prelude.{◌≡◌, ℕ, [], ◌∷◌, map, All, IfOk};
+ghost use Rattle.std.specs.Prelude.{◌≡◌, ℕ, ◌≤◌, [], ◌∷◌, map, All, IfOk};
 ghost use Rattle.fst_simulate.specs.declared.part_seed.PartSeed.{PartSeed as Seed};
 ghost use Rattle.fst_simulate.specs.Problems.{Problem, IsWhole, data_of};
 ghost use Rattle.fst_simulate.specs.Parts.{pivot_of, IsComplete};

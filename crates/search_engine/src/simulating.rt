@@ -17,8 +17,8 @@ use pool_schedule::{Grow, Posted, run_schedule};
 use std::alloc::Global;
 
 /// The frequent patterns of a job with their supports, each once, and the work of a search of so many
-/// workers, split by pivots or not, simulated in one thread. The rows stand in the order in which the schedule of the seed's choices
-/// posts their labels.
+/// workers, split by pivots or not, simulated in one thread. The rows stand in the order in which the
+/// schedule of the seed's choices posts their labels.
 pub fn simulate(
     alloc: Global,
     job: &Job,

@@ -4,14 +4,15 @@ ghost use Rattle.mine_model.specs.Expression.{named_in, named_by, unfolded_leave
 ghost use Rattle.mine_model.specs.Numbered.{tree_of, leaf_of};
 
 use super::search::Search;
-use super::simulate;
+use super::{mine, simulate};
 use frequency_list::count;
 use fst_compile::compile;
 use fst_simulate::Job;
 use item_names::Names;
-use mine_model::{Db, Expr, Hierarchy, Item, Leaf, Mined, NoMemory, Row, Work};
+use mine_model::{Db, Expr, Hierarchy, Item, Leaf, Mined, NoMemory, OpenGate, Row, Work};
 use pool_schedule::{Event, Grow, Labels, Machine, Posted, run_schedule, step};
 use std::alloc::{AllocError, Global};
+use std::sync::Wait;
 use std::test::Fail;
 use std::thread::Threads;
 
@@ -302,5 +303,46 @@ fn enabled<R: Threads + Sync>(rt: &R, alloc: Global) -> Result<(bool, bool), Fai
 #[test]
 fn a_worker_takes_before_it_grows(rt: HostRuntime) -> Result<(), Fail> {
     assert_eq!(rt; enabled(&rt, rt.alloc())?, (false, true));
+    Ok(())
+}
+
+/// What so many workers find.
+fn mined<R: Threads + Wait + Sync>(
+    rt: &R,
+    alloc: Global,
+    split: bool,
+    workers: u32,
+) -> Result<Mined, Fail>
+    requires some { 1 ≤ workers }
+    requires few { workers ≤ 64 }
+{
+    let job = job(rt, alloc, 2)?;
+    Ok(mine(rt, alloc, &job, split, workers, &OpenGate)?)
+}
+
+/// Whether the rows are these, in any order.
+fn has_all(rows: &[Row], want: &[(u64, &[Item])]) -> bool {
+    rows.len() == want.len()
+        && want.iter().all(|want| rows.iter().any(|row| row.support == want.0
+            && row.pattern.items() == want.1))
+}
+
+const ROWS: &[(u64, &[Item])] = &[(2, &[A1, A1, B]), (2, &[A1, A, B]), (3, &[A1, B])];
+
+/// Split by pivots or not, and so many workers.
+const SEARCHES: &[(bool, u32)] = &[(false, 1), (false, 4), (true, 1), (true, 4)];
+
+#[test]
+fn workers_find_all_rows(rt: HostRuntime) -> Result<(), Fail> {
+    for (split, workers) in SEARCHES {
+        let found = mined(&rt, rt.alloc(), *split, (*workers).clamp(1, 64))?;
+        let work = Work {
+            nodes: 7,
+            parts: 1,
+            candidates: 0,
+        };
+        assert_eq!(rt; found.work, work);
+        assert!(rt; has_all(found.rows.as_slice(), ROWS));
+    }
     Ok(())
 }

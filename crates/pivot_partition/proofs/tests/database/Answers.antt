@@ -1,4 +1,4 @@
-use Rattle.std.proofs.Common.{◌<◌, arith}
+use Rattle.std.proofs.Common.{◌<◌}
 use Rattle.std.specs.List.{AllByRecursion}
 use Rattle.std.proofs.lemmas.List.Elements.{recursion_from_All}
 use Rattle.mine_model.specs.declared.item.Item.{Item}
@@ -10,13 +10,9 @@ use Rattle.pivot_partition.proofs.tests.database.Goals.{then-are_known+then-sequ
 pub loop-items-preserved : goal.loop-items-preserved
 loop-items-preserved c =
     let Known : Sequence Item → Type 0 = λ s. AllByRecursion (λ t. t.0 < 7) s.items in
-    record {
-      known = elim c.if-are_known.branch [
-        | then-are_known+then-sequences-lt4194304+then-items-le65535+in_ok-push_weighted w ↦
-            rw (w.db-is, w.in_ok-push_weighted.ensures.ok)
-            (of_both Known c.loop-items.db _ c.loop-items.invariant.known (recursion_from_All (λ t. t.0 < 7) _ (c.are_known.ensures w.if-are_known.true), tt))
-        | else-are_known w ↦ rw w.db-is c.loop-items.invariant.known
-      ];
-      least = omega arith;
-      most = omega arith;
-    }
+    elim c.if-are_known.branch [
+      | then-are_known+then-sequences-lt4194304+then-items-le65535+in_ok-push_weighted w ↦
+          rw (w.db-is, w.in_ok-push_weighted.ensures.ok)
+          (of_both Known c.loop-items.db _ c.loop-items.invariant (recursion_from_All (λ t. t.0 < 7) _ (c.are_known.ensures w.if-are_known.true), tt))
+      | else-are_known w ↦ rw w.db-is c.loop-items.invariant
+    ]

@@ -1,10 +1,6 @@
-use Rattle.std.proofs.Common.{◌<◌, ◌≤◌}
+use Rattle.std.proofs.Common.{◌<◌}
 use Rattle.std.specs.List.{AllByRecursion}
 use Rattle.pivot_partition.proofs.tests.database.Given as goal
 
 abbrev pub invariant-loop-items : goal.invariant-loop-items
-invariant-loop-items l = record {
-  known : AllByRecursion (λ s. AllByRecursion (λ t. t.0 < 7) s.items) l.db;
-  least : 1 ≤ l.weight;
-  most : l.weight ≤ 1000000000;
-}
+invariant-loop-items l = AllByRecursion (λ s. AllByRecursion (λ t. t.0 < 7) s.items) l.db
