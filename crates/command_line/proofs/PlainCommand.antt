@@ -9,7 +9,7 @@ use Rattle.clap.proofs.OnLiterals.{clap_on_literals}
 use Rattle.command_line.specs.Options.{options, desq, faults, rows}
 use Rattle.command_line.specs.Words.{GivesSupport, GivesMode, IsCommand, IsNumber, KeepsRules, Says}
 use Rattle.mine_model.specs.Limits.{most_support, most_workers}
-use Rattle.command_line.specs.declared.words.Engine.TheVariants.{Count}
+use Rattle.command_line.specs.declared.words.Engine.TheVariants.{Dfs}
 use Rattle.command_line.specs.PlainWords.{IsPlainWord, plain_command}
 use Rattle.command_line.proofs.PlainWordLemmas.{between, plain_step, walked_plain, walk_fault_plain}
 
@@ -104,13 +104,13 @@ module _ (digits : Text) (p : IsPlainWord digits) where
     unfolding clap_on_literals options desq
     end_support = (digits, refl, number)
 
-    end_mode : GivesMode found Count None
+    end_mode : GivesMode found Dfs None
     unfolding clap_on_literals options desq
-    end_mode = record { named = refl; given = refl; suits = refl }
+    end_mode = record { named = refl; given = refl; suits = tt }
 
     end_rules : KeepsRules found
     unfolding clap_on_literals options desq
-    end_rules = record { support = (n, end_support); mode = (Count, None, end_mode); workers = (4, four); file = refl }
+    end_rules = record { support = (n, end_support); mode = (Dfs, None, end_mode); workers = (4, four); file = refl }
 
     end_says : Says found (plain_command n expression file)
     unfolding clap_on_literals options desq

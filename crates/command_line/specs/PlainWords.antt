@@ -4,7 +4,7 @@ use Rattle.mine_model.specs.Bytes.{dash}
 use Rattle.mine_model.specs.Tokens.{BeginsOtherwise}
 use Rattle.clap.specs.Words.{Text}
 use Rattle.command_line.specs.Words.{Command}
-use Rattle.command_line.specs.declared.words.Engine.TheVariants.{Count}
+use Rattle.command_line.specs.declared.words.Engine.TheVariants.{Dfs}
 
 abbrev pub is_dash : ℕ → Bool
 is_dash b = b == dash
@@ -21,7 +21,7 @@ plain_command threshold expression file = record {
   file = file;
   hierarchy = None;
   weighted = false;
-  engine = Count;
+  engine = Dfs;
   workers = 4;
   seed = None;
   stats = false;

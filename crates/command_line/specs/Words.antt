@@ -5,7 +5,7 @@ use Rattle.mine_model.specs.Grammar.{IsDecimal}
 use Rattle.clap.specs.Words.{Row, Text, first_of}
 use Rattle.command_line.specs.Options.{faults, rows}
 use Rattle.command_line.specs.declared.words.Engine.{Engine}
-use Rattle.command_line.specs.declared.words.Engine.TheVariants.{Count, Dfs}
+use Rattle.command_line.specs.declared.words.Engine.TheVariants.{Count, Dfs, Pivot}
 
 -- what the words of a command say
 pub record Command : Type 0 where
@@ -36,10 +36,11 @@ GivesSupport found n =
 abbrev pub engine_name : Engine → Text
 engine_name Count = codes "count"
 engine_name Dfs = codes "dfs"
+engine_name Pivot = codes "pivot"
 
 -- this engine was named, or none was and it is that of a run that names none
 abbrev pub GivesEngine : List Row → Engine → Type 0
-GivesEngine found engine = unwrap_or (first_of (codes "engine") found) (codes "count") ≡ engine_name engine
+GivesEngine found engine = unwrap_or (first_of (codes "engine") found) (codes "dfs") ≡ engine_name engine
 
 -- so many workers were asked for, or none and it is the number of a run that asks for none
 abbrev pub GivesWorkers : List Row → ℕ → Type 0
@@ -55,10 +56,11 @@ GivesSeed found None = first_of (codes "simulate") found ≡ None
 GivesSeed found (Some n) =
     (digits : Text) × (first_of (codes "simulate") found ≡ Some digits) × IsNumber 0 most_seed digits n
 
--- the engine runs with this seed, or with none: a search by prefixes is simulated, and it alone
+-- the engine runs with this seed, or with none: a search by prefixes may be simulated, counting may not
 abbrev pub Suits : Engine → Option ℕ → Type 0
 Suits Count seed = seed ≡ None
-Suits Dfs seed = IsSome seed
+Suits Dfs seed = Unit {0}
+Suits Pivot seed = Unit {0}
 
 -- this engine is that of the run, with this seed or none, and they suit each other
 pub record GivesMode (found : List Row) (engine : Engine) (seed : Option ℕ) : Type 0 where
@@ -66,8 +68,8 @@ pub record GivesMode (found : List Row) (engine : Engine) (seed : Option ℕ) : 
   pub given : GivesSeed found seed
   pub suits : Suits engine seed
 
--- the rules beyond clap's, a line each: each number is in its range, the engine is one that there is, with a
--- seed where it needs one and no other engine with one, FILE is there
+-- the rules beyond clap's, a line each: each number is in its range, the engine is one that there is, without a
+-- seed where it counts, FILE is there
 pub record KeepsRules (found : List Row) : Type 0 where
   pub support : (n : ℕ) × GivesSupport found n
   pub mode : (engine : Engine) × (seed : Option ℕ) × GivesMode found engine seed

@@ -26,7 +26,7 @@ fn says(
                 && command.file.as_str() == file
                 && command.hierarchy.is_none()
                 && !command.weighted
-                && command.engine == Engine::Count
+                && command.engine == Engine::Dfs
                 && command.workers == 4
                 && command.seed.is_none()
                 && !command.stats,
@@ -102,71 +102,106 @@ fn options_are_read(rt: HostRuntime) -> Result<(), Fail> {
     Ok(())
 }
 
+/// Words and the engine, the number of workers and whether work is told that they say.
+const ENGINES_AND_WORKERS: &[(&str, Engine, u32, bool)] = &[
+    ("--support 2 (a) f", Engine::Dfs, 4, false),
+    ("--support 2 --engine count (a) f", Engine::Count, 4, false),
+    ("--support 2 --engine dfs (a) f", Engine::Dfs, 4, false),
+    ("--support 2 --engine pivot (a) f", Engine::Pivot, 4, false),
+    (
+        "--stats (a) --engine=pivot f --support 2",
+        Engine::Pivot,
+        4,
+        true,
+    ),
+    ("--support 2 --workers 1 (a) f", Engine::Dfs, 1, false),
+    (
+        "--workers=064 --engine count --stats --support 2 (a) f",
+        Engine::Count,
+        64,
+        true,
+    ),
+];
+
+const NO_ENGINES_OR_WORKERS: &[&str] = &[
+    "--support 2 --workers 0 (a) f",
+    "--support 2 --workers 65 (a) f",
+    "--support 2 --workers 18446744073709551617 (a) f",
+    "--support 2 --workers= (a) f",
+    "--support 2 --workers x (a) f",
+    "--support 2 (a) f --workers",
+    "--support 2 --workers 2 --workers 2 (a) f",
+    "--support 2 --engine Count (a) f",
+    "--support 2 --engine counts (a) f",
+    "--support 2 --engine pivots (a) f",
+    "--support 2 --engine= (a) f",
+    "--support 2 --engine count --engine count (a) f",
+    "--support 2 --stats --stats (a) f",
+    "--support 2 --stats=true (a) f",
+];
+
 #[test]
 fn engines_and_workers_are_read(rt: HostRuntime) -> Result<(), Fail> {
-    for (text, workers, stats) in [
-        ("--support 2 --engine count (a) f", 4, false),
-        ("--stats (a) --engine=count f --support 2", 4, true),
-        ("--support 2 --workers 1 (a) f", 1, false),
-        ("--workers=064 --stats --support 2 (a) f", 64, true),
-    ] {
+    for (text, engine, workers, stats) in ENGINES_AND_WORKERS {
         match read(rt.alloc(), text)? {
             Some(command) => {
-                assert_eq!(rt; command.engine, Engine::Count);
-                assert_eq!(rt; command.workers, workers);
-                assert_eq!(rt; command.stats, stats);
+                assert_eq!(rt; command.engine, *engine);
+                assert_eq!(rt; command.workers, *workers);
+                assert_eq!(rt; command.seed, None);
+                assert_eq!(rt; command.stats, *stats);
             }
             None => assert!(rt; false),
         }
     }
-    for text in [
-        "--support 2 --workers 0 (a) f",
-        "--support 2 --workers 65 (a) f",
-        "--support 2 --workers 18446744073709551617 (a) f",
-        "--support 2 --workers= (a) f",
-        "--support 2 --workers x (a) f",
-        "--support 2 (a) f --workers",
-        "--support 2 --workers 2 --workers 2 (a) f",
-        "--support 2 --engine Count (a) f",
-        "--support 2 --engine counts (a) f",
-        "--support 2 --engine= (a) f",
-        "--support 2 --engine count --engine count (a) f",
-        "--support 2 --stats --stats (a) f",
-        "--support 2 --stats=true (a) f",
-    ] {
+    for text in NO_ENGINES_OR_WORKERS {
         assert!(rt; read(rt.alloc(), text)?.is_none());
     }
     Ok(())
 }
 
+/// Words and the engine and the seed that they say.
+const SEEDS: &[(&str, Engine, u64)] = &[
+    ("--support 2 --simulate 7 (a) f", Engine::Dfs, 7),
+    (
+        "--support 2 --engine dfs --simulate 0 (a) f",
+        Engine::Dfs,
+        0,
+    ),
+    (
+        "--simulate=007 (a) --support 2 f --engine=pivot",
+        Engine::Pivot,
+        7,
+    ),
+    (
+        "--support 2 --engine pivot --simulate 18446744073709551615 (a) f",
+        Engine::Pivot,
+        18_446_744_073_709_551_615,
+    ),
+];
+
+const NO_SEEDS: &[&str] = &[
+    "--support 2 --engine count --simulate 7 (a) f",
+    "--support 2 --engine count --simulate 0 (a) f",
+    "--support 2 --engine dfs --simulate 18446744073709551616 (a) f",
+    "--support 2 --engine dfs --simulate -1 (a) f",
+    "--support 2 --engine pivot --simulate= (a) f",
+    "--support 2 --simulate x (a) f",
+    "--support 2 --simulate 7 --simulate 7 (a) f",
+    "--support 2 (a) f --simulate",
+];
+
 #[test]
-fn a_search_by_prefixes_has_a_seed(rt: HostRuntime) -> Result<(), Fail> {
-    for (text, seed) in [
-        ("--support 2 --engine dfs --simulate 0 (a) f", 0),
-        ("--simulate=007 (a) --support 2 f --engine=dfs", 7),
-        (
-            "--support 2 --engine dfs --simulate 18446744073709551615 (a) f",
-            18_446_744_073_709_551_615,
-        ),
-    ] {
+fn a_search_by_prefixes_may_have_a_seed(rt: HostRuntime) -> Result<(), Fail> {
+    for (text, engine, seed) in SEEDS {
         match read(rt.alloc(), text)? {
             Some(command) => {
-                assert_eq!(rt; command.engine, Engine::Dfs);
-                assert_eq!(rt; command.seed, Some(seed));
+                assert_eq!(rt; command.engine, *engine);
+                assert_eq!(rt; command.seed, Some(*seed));
             }
             None => assert!(rt; false),
         }
     }
-    for text in [
-        "--support 2 --engine dfs (a) f",
-        "--support 2 --simulate 7 (a) f",
-        "--support 2 --engine count --simulate 7 (a) f",
-        "--support 2 --engine dfs --simulate 18446744073709551616 (a) f",
-        "--support 2 --engine dfs --simulate -1 (a) f",
-        "--support 2 --engine dfs --simulate= (a) f",
-        "--support 2 --engine dfs --simulate 7 --simulate 7 (a) f",
-        "--support 2 --engine dfs (a) f --simulate",
-    ] {
+    for text in NO_SEEDS {
         assert!(rt; read(rt.alloc(), text)?.is_none());
     }
     Ok(())

@@ -29,6 +29,8 @@ pub enum Engine {
     Count,
     /// It searches by prefixes.
     Dfs,
+    /// It searches by prefixes in a part for each pivot, the greatest rank of a pattern.
+    Pivot,
 }
 
 /// What the words of a command say.
@@ -44,12 +46,12 @@ pub struct Command {
     pub hierarchy: Option<String>,
     /// Whether the first field of each line of the sequences is its weight.
     pub weighted: bool,
-    /// The engine, `count` where none is named.
+    /// The engine, `dfs` where none is named.
     pub engine: Engine,
     /// How many threads work at the search, 1 to 64; 4 where no number is given.
     pub workers: u32,
-    /// The seed of a run that simulates its workers in one thread, 0 to 18,446,744,073,709,551,615. A search
-    /// by prefixes has one, and no other run.
+    /// The seed of a run that simulates its workers in one thread, 0 to 18,446,744,073,709,551,615. A run
+    /// that counts has none.
     pub seed: Option<u64>,
     /// Whether the counted work of the run is told on the error output.
     pub stats: bool,
@@ -110,9 +112,10 @@ fn given_engine(matches: &ArgMatches<'_>) -> Option<Engine>
         ((engine : Engine) → GivesEngine (rows_of (found_of matches.now)) engine → ⊥)
         (λ engine. GivesEngine (rows_of (found_of matches.now)) engine) }
 {
-    match given_or(matches, "engine", "count") {
+    match given_or(matches, "engine", "dfs") {
         "count" => Some(Engine::Count),
         "dfs" => Some(Engine::Dfs),
+        "pivot" => Some(Engine::Pivot),
         _ => None,
     }
 }
@@ -151,7 +154,7 @@ fn suits(engine: Engine, seed: Option<u64>) -> bool
 {
     match engine {
         Engine::Count => seed.is_none(),
-        Engine::Dfs => seed.is_some(),
+        Engine::Dfs | Engine::Pivot => true,
     }
 }
 

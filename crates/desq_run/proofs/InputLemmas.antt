@@ -19,10 +19,12 @@ use Rattle.mine_model.specs.Growth.{IsSearchWork}
 use Rattle.mine_model.proofs.CountedLemmas.{pairs-forth, search-forth}
 use Rattle.mine_model.proofs.NamedAnswer.{named_data, answer-named}
 use Rattle.command_line.specs.declared.words.Engine.{Engine}
-use Rattle.command_line.specs.declared.words.Engine.TheVariants.{Count, Dfs}
+use Rattle.command_line.specs.declared.words.Engine.TheVariants.{Count, Dfs, Pivot}
+use Rattle.desq_run.specs.PartitionWork.{IsPartitionWork, IsBytewiseBefore, IsNamedBefore}
 use Rattle.desq_run.specs.Ends.{Input, data_of, IsWorkOf}
 use Rattle.desq_run.specs.Inputs.{IsHierarchyOf, IsDatabaseOf, AreLinksWithin}
 use Rattle.desq_run.proofs.LinkLemmas.{names-rename}
+use Rattle.desq_run.proofs.PartitionWorkLemmas.{partition-names}
 
 each-contained : {X : Type 0} (P : X → Type 0) (xs : List X) → ((x : X) → Contains xs x → P x) → AllByRecursion P xs
 each-contained P [] each = tt
@@ -64,8 +66,8 @@ pub work-answer : (input : Input) (tree : Tree Use) (known added : List (List �
     → AllByRecursion (λ (s : Sequence Item). AllByRecursion (HasName (known ++ added)) s.items) db
     → tree_by (name_of (known ++ added)) e ≡ tree_by (λ (u : Use). u.name) tree
     → AllByRecursion (HasName (known ++ added)) (named_in e) → 1 ≤ input.command.threshold
-    → IsWorkOf engine (record { links = h.links; sequences = db; expression = e; threshold = input.command.threshold }) work
-    → IsWorkOf engine (data_of input tree) work
+    → IsWorkOf (IsNamedBefore (known ++ added)) engine (record { links = h.links; sequences = db; expression = e; threshold = input.command.threshold }) work
+    → IsWorkOf IsBytewiseBefore engine (data_of input tree) work
 work-answer input tree known added h db e Count work distinct read within is_db numbered same_tree named some is =
     let names : List (List ℕ) = known ++ added in
     let d : Data Item = record { links = h.links; sequences = db; expression = e; threshold = input.command.threshold } in
@@ -88,3 +90,10 @@ work-answer input tree known added h db e Dfs work distinct read within is_db nu
     named numbered some work is in
     subst (λ (s : List (Sequence (List ℕ))). IsSearchWork (record { links = links_of input.hierarchy; sequences = s; expression = tree_by (λ (u : Use). u.name) tree; threshold = input.command.threshold }) work) is_db.sequences
     (subst (λ (t : Tree (List ℕ)). IsSearchWork (record { links = links_of input.hierarchy; sequences = map (sequence_by (name_of names)) db; expression = t; threshold = input.command.threshold }) work) same_tree search)
+work-answer input tree known added h db e Pivot work distinct read within is_db numbered same_tree named some is =
+    let names : List (List ℕ) = known ++ added in
+    let d : Data Item = record { links = h.links; sequences = db; expression = e; threshold = input.command.threshold } in
+    let partition = partition-names (name_of names) (links_of input.hierarchy) d (HasName names) (names-rename input.hierarchy known added h distinct read within)
+    named numbered IsBytewiseBefore some work is in
+    subst (λ (s : List (Sequence (List ℕ))). IsPartitionWork IsBytewiseBefore (record { links = links_of input.hierarchy; sequences = s; expression = tree_by (λ (u : Use). u.name) tree; threshold = input.command.threshold }) work) is_db.sequences
+    (subst (λ (t : Tree (List ℕ)). IsPartitionWork IsBytewiseBefore (record { links = links_of input.hierarchy; sequences = map (sequence_by (name_of names)) db; expression = t; threshold = input.command.threshold }) work) same_tree partition)

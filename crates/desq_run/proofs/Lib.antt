@@ -1,6 +1,8 @@
 pub mod Told
 pub mod LinkLemmas
 pub mod HierarchyLemmas
+pub mod PartitionWorkLemmas
+pub mod PartitionRankLemmas
 pub mod InputLemmas
 pub mod SameRefusals
 pub mod UniqueRefusals

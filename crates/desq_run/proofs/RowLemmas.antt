@@ -1,5 +1,5 @@
 -- The rows that were found, in order, and what they say of the input.
-use Rattle.std.proofs.Common.{◌≡◌, ◌≢◌, ◌⊎◌, inl, inr, ◌↔◌, ℕ, ◌<◌, ◌≤◌, List, [], ◌∷◌, ◌++◌, map, length, take, drop, All, Option, Some, None, IfSome, IsPermutation, Contains, sym, ap, ◌∙◌, subst, arith}
+use Rattle.std.proofs.Common.{◌≡◌, ◌≢◌, ◌⊎◌, inl, inr, ◌↔◌, ℕ, ◌<◌, ◌≤◌, List, [], ◌∷◌, ◌++◌, map, length, take, drop, All, Option, Some, None, IfSome, IsPermutation, Contains, sym, ap, ◌∙◌, subst, arith, Result, Ok, Err, IfOk}
 use Rattle.std.specs.List.{AllByRecursion}
 use Rattle.std.proofs.lemmas.List.{drop_all, take_all, append-nil}
 use Rattle.std.proofs.lemmas.List.Elements.{All-from_recursion}
@@ -18,6 +18,7 @@ use Rattle.mine_model.specs.Refusal.{IsUnknown}
 use Rattle.command_line.specs.Words.{Command}
 use Rattle.mine_model.specs.declared.mined.Work.{Work}
 use Rattle.command_line.specs.declared.words.Engine.{Engine}
+use Rattle.desq_run.specs.PartitionWork.{IsBytewiseBefore, IsNamedBefore}
 use Rattle.desq_run.specs.Ends.{Input, IsInput, bytes_named, data_of, HasExpression, IsWorkOf}
 use Rattle.desq_run.specs.Inputs.{IsHierarchyOf, IsDatabaseOf, AreLinksWithin, AreInputs, AreRows, AreOrdered, IsMined}
 use Rattle.desq_run.proofs.HierarchyLemmas.{all-of}
@@ -78,12 +79,12 @@ module _ (words : List (List ℕ)) (holds : List ℕ → Option (List ℕ)) (c :
         let same : c ≡ input.command = same_command words holds c has input is in (
           tree,
           reads_at words holds c has known before read (known ++ added) db found tree reads input is,
-          subst (λ (engine : Engine). IsWorkOf engine (data_of input tree) work) (ap (λ (d : Command). d.engine) same)
+          subst (λ (engine : Engine). IsWorkOf IsBytewiseBefore engine (data_of input tree) work) (ap (λ (d : Command). d.engine) same)
               (work-answer input tree known added before db are.expression c.engine work distinct
               (read_at words holds c has known before read input is) within
               (found_at words holds c has known before read (known ++ added) db found input is) numbered are.same are.named
               (subst (λ (d : Command). 1 ≤ d.threshold) same some)
-              (subst (λ (d : Command). IsWorkOf c.engine (record { links = before.links; sequences = db; expression = are.expression; threshold = d.threshold }) work) same are.work)),
+              (subst (λ (d : Command). IsWorkOf (IsNamedBefore (known ++ added)) c.engine (record { links = before.links; sequences = db; expression = are.expression; threshold = d.threshold }) work) same are.work)),
         );
   }
 
@@ -110,7 +111,7 @@ module _ (words : List (List ℕ)) (holds : List ℕ → Option (List ℕ)) (c :
         frequent = subst (λ l. (row : Row) → Contains rows row
             ↔ IsFrequent (record { links = l; sequences = db; expression = are.expression; threshold = c.threshold }) row.pattern row.support) links are.frequent;
         rises = are.rises;
-        work = subst (λ l. IsWorkOf c.engine (record { links = l; sequences = db; expression = are.expression; threshold = c.threshold }) work) links are.work;
+        work = subst (λ l. IsWorkOf (IsNamedBefore names) c.engine (record { links = l; sequences = db; expression = are.expression; threshold = c.threshold }) work) links are.work;
       } in
       subst Mines (sym behind) (mined-at inputs.added (subst AreLinksWithin before_is inputs.within) read reads some) distinct found numbered known_all are_before
 
@@ -118,3 +119,8 @@ module _ (words : List (List ℕ)) (holds : List ℕ → Option (List ℕ)) (c :
 pub is-work : (P : Work → Type 0) (told : Option Work) (work : Work) → IfSome told (λ t. t ≡ work) → P work → IfSome told P
 is-work P None work same p = tt
 is-work P (Some t) work same p = subst P (sym same) p
+
+-- what follows from a property holds of a result that has it
+pub if_ok : {T E : Type 0} (P Q : T → Type 0) (r : Result T E) → ((v : T) → P v → Q v) → IfOk r P → IfOk r Q
+if_ok P Q (Ok v) follows is = follows v is
+if_ok P Q (Err e) follows is = tt

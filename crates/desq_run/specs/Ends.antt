@@ -15,8 +15,9 @@ use Rattle.mine_model.specs.declared.mined.Work.{Work}
 use Rattle.mine_model.specs.First.{FirstOf}
 use Rattle.mine_model.specs.Refusal.{IsExpressionRefusal, IsHierarchyRefusal, IsSequencesRefusal, IsUnknown, names_of, links_of, items_of, sequences_of}
 use Rattle.command_line.specs.declared.words.Engine.{Engine}
-use Rattle.command_line.specs.declared.words.Engine.TheVariants.{Count, Dfs}
+use Rattle.command_line.specs.declared.words.Engine.TheVariants.{Count, Dfs, Pivot}
 use Rattle.command_line.specs.Words.{Command, IsCommand, IsUsage}
+use Rattle.desq_run.specs.PartitionWork.{IsBytewiseBefore, IsPartitionWork}
 
 -- a command, and what its files hold
 pub record Input : Type 0 where
@@ -69,15 +70,17 @@ abbrev pub IsAnswerText : Input → List ℕ → Type 0
 IsAnswerText input text = (tree : Tree Use) × ReadsAs input.command.expression tree
     × (answer : List NamedRow) × IsAnswer (data_of input tree) answer × (text ≡ text_of answer)
 
--- the work is that of a run of the engine over the data
-abbrev pub IsWorkOf : {A : Type 0} → Engine → Data A → Work → Type 0
-IsWorkOf Count d work = IsCountingWork d work
-IsWorkOf Dfs d work = IsSearchWork d work
+-- the work is that of a run of the engine over the data, where Ties says which of two items of one frequency
+-- ranks first
+abbrev pub IsWorkOf : {A : Type 0} → (A → A → Type 0) → Engine → Data A → Work → Type 0
+IsWorkOf Ties Count d work = IsCountingWork d work
+IsWorkOf Ties Dfs d work = IsSearchWork d work
+IsWorkOf Ties Pivot d work = IsPartitionWork Ties d work
 
--- the work is that of the command on its files
+-- the work is that of the command on its files, where items of one frequency rank by their names
 abbrev pub IsWork : Input → Work → Type 0
 IsWork input work = (tree : Tree Use) × ReadsAs input.command.expression tree
-    × IsWorkOf input.command.engine (data_of input tree) work
+    × IsWorkOf IsBytewiseBefore input.command.engine (data_of input tree) work
 
 -- the command names a file of this kind
 abbrev pub NamesKind : Command → Which → Type 0

@@ -18,6 +18,7 @@ use Rattle.mine_model.specs.Refusal.{IsHierarchyRefusal, IsSequencesRefusal, nam
 use Rattle.mine_model.specs.declared.mined.Work.{Work}
 use Rattle.command_line.specs.declared.words.Engine.{Engine}
 use Rattle.command_line.specs.Words.{Command}
+use Rattle.desq_run.specs.PartitionWork.{IsNamedBefore}
 use Rattle.desq_run.specs.Ends.{Input, IsInput, bytes_named, IsAccepted, data_of, HasExpression, IsOfKind, IsWorkOf, IsWork}
 
 -- the names are exactly those of the hierarchy file, and above each other stands what stands so in the file
@@ -75,7 +76,7 @@ pub record AreRows (names : List (List ℕ)) (h : Ancestry) (db : List (Sequence
       (record { links = h.links; sequences = db; expression = expression; threshold = threshold })
       row.pattern row.support
   pub rises : Rises (map (named_row names) rows)
-  pub work : IsWorkOf engine
+  pub work : IsWorkOf (IsNamedBefore names) engine
       (record { links = h.links; sequences = db; expression = expression; threshold = threshold }) counted
 
 -- The rows are in the order of their names, the words name an expression that is not refused, and where the

@@ -1,4 +1,5 @@
 -- the words of the promise
+pub mod PartitionWork
 pub mod Ends
 pub mod Reported
 -- what the proofs keep

@@ -8,7 +8,7 @@ mod messages;
 mod rows;
 mod running;
 
-pub use laws::{at_most_one_first_refusal, at_most_one_text};
+pub use laws::{at_most_one_first_refusal, at_most_one_partition_work, at_most_one_text};
 pub use running::run;
 
 #[cfg(test)]

@@ -1,6 +1,6 @@
 //! From what was read to the rows of the answer.
 
-ghost use Rattle.std.specs.Prelude.{◌≡◌, ◌⊎◌, ◌≤◌, ◌<◌, ℕ, length, map, All, IfOk, IfErr, OnOk, Contains};
+ghost use Rattle.std.specs.Prelude.{◌≡◌, ◌⊎◌, ◌≤◌, ◌<◌, ℕ, List, length, map, All, IfOk, IfErr, OnOk, Contains};
 ghost use Rattle.std.specs.List.{AllByRecursion};
 ghost use Rattle.mine_model.specs.declared.fault.Fault.{Fault};
 ghost use Rattle.mine_model.specs.declared.fault.Fault.TheVariants.{NoMemory as OutOfMemory};
@@ -9,14 +9,16 @@ ghost use Rattle.mine_model.specs.Expression.{named_in, unfolded_leaves};
 ghost use Rattle.mine_model.specs.declared.row.Row.{Row as TheRow};
 ghost use Rattle.mine_model.specs.Numbered.{tree_of, AreFrequent};
 ghost use Rattle.mine_model.specs.Names.{HasName};
+ghost use Rattle.mine_model.specs.Ranks.{AreTiesByName};
 ghost use Rattle.mine_model.specs.Refusal.{IsExpressionRefusal, IsUnknown};
 ghost use Rattle.patex_parser.specs.Parsing.{use_view, IsParsed, AreWithin, named_tree};
 ghost use Rattle.fst_simulate.specs.Problems.{data_of};
+ghost use Rattle.search_engine.specs.Partition.{IsWorkFor};
+ghost use Rattle.desq_run.specs.PartitionWork.{IsNamedBefore};
 ghost use Rattle.desq_run.specs.Ends.{IsWorkOf};
 ghost use Rattle.desq_run.specs.Inputs.{AreOrdered, AreRows};
 
 use command_line::{Command, Engine};
-use count_engine::mine;
 use frequency_list::count;
 use fst_compile::compile;
 use fst_simulate::Job;
@@ -24,7 +26,6 @@ use item_names::Names;
 use mine_model::{Db, Expr, Fault, Gate, Hierarchy, Item, Mined, NoMemory};
 use patex_parser::{FindName, Parsed, parse, resolve};
 use pattern_writer::order;
-use search_engine::simulate;
 use std::alloc::Global;
 use std::sync::Wait;
 use std::thread::Threads;
@@ -37,6 +38,30 @@ pub(crate) fn read_expression(alloc: Global, text: &[u8]) -> Result<Parsed, Faul
     ensures leaves { IfOk result (λ p. unfolded_leaves (tree_of p.tree) ≤ most_leaves) }
 {
     Ok(parse(alloc, text)?)
+}
+
+/// The frequent patterns of the job, found by a search, split by pivots or not, in no stated order. With a
+/// seed the search is simulated.
+fn searched<R: Threads + Wait + Sync, G: Gate>(
+    rt: &R,
+    alloc: Global,
+    job: &Job,
+    split: bool,
+    command: &Command,
+    gate: &G,
+) -> Result<Mined, NoMemory>
+    requires workers { 1 ≤ command.now.workers }
+    requires few { command.now.workers ≤ most_workers }
+    ensures frequent { IfOk result (λ mined. AreFrequent (data_of job.now) mined.rows.items) }
+    ensures items { IfOk result (λ mined. (row : TheRow) → Contains mined.rows.items row
+        → AllByRecursion (λ t. t.0 < job.now.hierarchy.items) row.pattern) }
+    ensures work { IfOk result (λ mined.
+        IsWorkFor split (data_of job.now) job.now.ranking.order mined.work) }
+{
+    match command.seed {
+        Some(seed) => search_engine::simulate(alloc, job, split, command.workers, seed),
+        None => search_engine::mine(rt, alloc, job, split, command.workers, gate),
+    }
 }
 
 /// The frequent patterns of the job, found by the engine of the command, in no stated order.
@@ -52,18 +77,15 @@ fn mined_by<R: Threads + Wait + Sync, G: Gate>(
     ensures frequent { IfOk result (λ mined. AreFrequent (data_of job.now) mined.rows.items) }
     ensures items { IfOk result (λ mined. (row : TheRow) → Contains mined.rows.items row
         → AllByRecursion (λ t. t.0 < job.now.hierarchy.items) row.pattern) }
-    ensures work { IfOk result (λ mined. IsWorkOf command.now.engine (data_of job.now) mined.work) }
+    ensures work { (names : List (List ℕ)) → AreTiesByName names job.now.ranking → IfOk result (λ mined.
+        IsWorkOf (IsNamedBefore names) command.now.engine (data_of job.now) mined.work) }
 {
+    // The contract of `items` says that no link leads out of the items, so each ranked item is one of them.
+    let _items = job.hierarchy().items();
     match command.engine {
-        Engine::Count => mine(rt, alloc, job, command.workers, gate),
-        // The words give a seed with this engine. The answer is the same for each.
-        Engine::Dfs => simulate(
-            alloc,
-            job,
-            false,
-            command.workers,
-            command.seed.unwrap_or(0),
-        ),
+        Engine::Count => count_engine::mine(rt, alloc, job, command.workers, gate),
+        Engine::Dfs => searched(rt, alloc, job, false, command, gate),
+        Engine::Pivot => searched(rt, alloc, job, true, command, gate),
     }
 }
 
@@ -89,7 +111,7 @@ fn ordered_rows<R: Threads + Wait + Sync, G: Gate>(
     ensures rows { IfOk result (λ mined. AreOrdered names.now hierarchy db (tree_of expression.now)
         command.now.support mined.rows.items) }
     ensures named { IfOk result (λ mined. All (λ row. All (HasName names.now) row.pattern) mined.rows.items) }
-    ensures work { IfOk result (λ mined. IsWorkOf command.now.engine (record {
+    ensures work { IfOk result (λ mined. IsWorkOf (IsNamedBefore names.now) command.now.engine (record {
       links = hierarchy.links;
       sequences = db;
       expression = tree_of expression.now;

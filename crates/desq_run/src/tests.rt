@@ -8,11 +8,21 @@ use std::test::Fail;
 use std::thread::Threads;
 use text_ports::{MemFile, MemFiles, MemSink};
 
+mod gates;
 mod limits;
 mod outside_faults;
 mod rows;
 mod search;
 mod workers;
+
+/// The running example: two kinds of an A, five sequences, an expression, and its patterns of support 2.
+const HIERARCHY: &str = "a1 A\na2 A\n";
+
+const SEQUENCES: &str = "a1 c d c b\ne e a1 e a1 e b\nc d c b\na2 d b\na1 a1 b\n";
+
+const RUNNING: &str = ".*(A)[(.^)|.]*(b).*";
+
+const ANSWER: &str = "3\ta1 b\n2\ta1 A b\n2\ta1 a1 b\n";
 
 /// What a run left behind.
 #[derive(Drop)]

@@ -1,106 +1,44 @@
 //! Runs by the counting engine with one worker and with several, and the counted work that they tell.
 
-use super::{Case, NO_FAULTS, count_right, run_gated, run_on};
-use mine_model::Gate;
+use super::{ANSWER, Case, HIERARCHY, NO_FAULTS, RUNNING, SEQUENCES, count_right, run_on};
 use std::alloc::Global;
 use std::sync::Wait;
-use std::sync::atomic::{AtomicU64, Ordering};
 use std::test::Fail;
-use std::thread;
 use std::thread::Threads;
 
-const HIERARCHY: &str = "a1 A\na2 A\n";
+/// What the running example leaves by so many workers and these words.
+macro_rules! running {
+    ($workers:literal, $out:expr, $err:literal, $($word:literal),+) => {
+        Case {
+            words: &["--engine=count", "--workers", $workers, "--hierarchy", "h", $($word),+, RUNNING, "f"],
+            hierarchy: HIERARCHY,
+            sequences: SEQUENCES,
+            status: 0,
+            out: $out,
+            err: $err,
+        }
+    };
+}
 
-const SEQUENCES: &str = "a1 c d c b\ne e a1 e a1 e b\nc d c b\na2 d b\na1 a1 b\n";
-
-const RUNNING: &str = ".*(A)[(.^)|.]*(b).*";
-
-const ANSWER: &str = "3\ta1 b\n2\ta1 A b\n2\ta1 a1 b\n";
-
-/// What so many workers leave on the running example, by four commands.
+/// What it leaves by four commands.
 macro_rules! by_workers {
     ($workers:literal) => {
         [
-            Case {
-                words: &[
-                    "--support",
-                    "2",
-                    "--engine",
-                    "count",
-                    "--workers",
-                    $workers,
-                    "--hierarchy",
-                    "h",
-                    RUNNING,
-                    "f",
-                ],
-                hierarchy: HIERARCHY,
-                sequences: SEQUENCES,
-                status: 0,
-                out: ANSWER,
-                err: "",
-            },
-            Case {
-                words: &[
-                    "--support",
-                    "3",
-                    "--workers",
-                    $workers,
-                    "--hierarchy",
-                    "h",
-                    RUNNING,
-                    "f",
-                ],
-                hierarchy: HIERARCHY,
-                sequences: SEQUENCES,
-                status: 0,
-                out: "3\ta1 b\n",
-                err: "",
-            },
-            Case {
-                words: &[
-                    "--support",
-                    "6",
-                    "--workers",
-                    $workers,
-                    "--hierarchy",
-                    "h",
-                    RUNNING,
-                    "f",
-                ],
-                hierarchy: HIERARCHY,
-                sequences: SEQUENCES,
-                status: 0,
-                out: "",
-                err: "",
-            },
-            Case {
-                words: &[
-                    "--stats",
-                    "--engine=count",
-                    "--workers",
-                    $workers,
-                    "--hierarchy",
-                    "h",
-                    "--support=2",
-                    RUNNING,
-                    "f",
-                ],
-                hierarchy: HIERARCHY,
-                sequences: SEQUENCES,
-                status: 0,
-                out: ANSWER,
-                err: "desq: nodes 0 parts 0 candidates 13\n",
-            },
+            running!($workers, ANSWER, "", "--support=2"),
+            running!($workers, "3\ta1 b\n", "", "--support=3"),
+            running!($workers, "", "", "--support=6"),
+            running!($workers, ANSWER, "desq: nodes 0 parts 0 candidates 13\n", "--support=2", "--stats"),
         ]
     };
 }
 
+const BY_WORKERS: &[[Case<'static>; 4]] = &[by_workers!("1"), by_workers!("4"), by_workers!("64")];
+
 #[test]
 fn any_number_of_workers_gives_the_same_answer(rt: HostRuntime) -> Result<(), Fail> {
-    assert_eq!(rt; count_right(&rt, rt.alloc(), &by_workers!("1"))?, 4);
-    assert_eq!(rt; count_right(&rt, rt.alloc(), &by_workers!("4"))?, 4);
-    assert_eq!(rt; count_right(&rt, rt.alloc(), &by_workers!("64"))?, 4);
+    for cases in BY_WORKERS {
+        assert_eq!(rt; count_right(&rt, rt.alloc(), cases)?, cases.len());
+    }
     Ok(())
 }
 
@@ -134,15 +72,7 @@ fn is_left<R: Threads + Wait + Sync>(
 /// The words for so many workers and this support.
 macro_rules! words_for {
     ($workers:literal, $support:literal) => {
-        &[
-            "--stats",
-            "--support",
-            $support,
-            "--workers",
-            $workers,
-            "(a)(b)",
-            "f",
-        ]
+        &["--stats", "--engine=count", "--support", $support, "--workers", $workers, "(a)(b)", "f"]
     };
 }
 
@@ -159,177 +89,90 @@ fn more_sequences_than_a_block_holds_are_all_counted(rt: HostRuntime) -> Result<
 }
 
 /// What a run of words that are no command leaves.
-fn no_command<'a>(words: &'a [&'a str]) -> Case<'a> {
-    Case {
-        words,
-        hierarchy: "",
-        sequences: "a\n",
-        status: 2,
-        out: "",
-        err: "desq: usage: desq --support N [options] EXPR [FILE]\n",
-    }
+macro_rules! no_command {
+    ($($word:literal),+) => {
+        Case {
+            words: &["--support", "1", "(a)", "f", $($word),+],
+            hierarchy: "",
+            sequences: "a\n",
+            status: 2,
+            out: "",
+            err: "desq: usage: desq --support N [options] EXPR [FILE]\n",
+        }
+    };
 }
+
+const NO_COMMANDS: &[Case<'static>] = &[
+    no_command!("--workers", "0"),
+    no_command!("--workers", "65"),
+    no_command!("--workers", "18446744073709551617"),
+    no_command!("--workers", "+1"),
+    no_command!("--workers="),
+    no_command!("--workers"),
+    no_command!("--workers", "1", "--workers", "1"),
+    no_command!("--engine", "count", "--simulate", "7"),
+    no_command!("--engine", "dfs", "--simulate", "18446744073709551616"),
+    no_command!("--engine", "Count"),
+    no_command!("--engine", "pivots"),
+    no_command!("--engine="),
+    no_command!("--engine"),
+    no_command!("--stats", "--stats"),
+];
 
 #[test]
 fn refuses_other_engines_and_numbers_of_workers(rt: HostRuntime) -> Result<(), Fail> {
-    let cases = [
-        no_command(&["--support", "1", "--workers", "0", "(a)", "f"]),
-        no_command(&["--support", "1", "--workers", "65", "(a)", "f"]),
-        no_command(&[
-            "--support",
-            "1",
-            "--workers",
-            "18446744073709551617",
-            "(a)",
-            "f",
-        ]),
-        no_command(&["--support", "1", "--workers", "+1", "(a)", "f"]),
-        no_command(&["--support", "1", "--workers=", "(a)", "f"]),
-        no_command(&["--support", "1", "(a)", "f", "--workers"]),
-        no_command(&[
-            "--support",
-            "1",
-            "--workers",
-            "1",
-            "--workers",
-            "1",
-            "(a)",
-            "f",
-        ]),
-        no_command(&["--support", "1", "--engine", "dfs", "(a)", "f"]),
-        no_command(&["--support", "1", "--simulate", "7", "(a)", "f"]),
-        no_command(&[
-            "--support",
-            "1",
-            "--engine",
-            "count",
-            "--simulate",
-            "7",
-            "(a)",
-            "f",
-        ]),
-        no_command(&[
-            "--support",
-            "1",
-            "--engine",
-            "dfs",
-            "--simulate",
-            "18446744073709551616",
-            "(a)",
-            "f",
-        ]),
-        no_command(&["--support", "1", "--engine", "Count", "(a)", "f"]),
-        no_command(&["--support", "1", "--engine=", "(a)", "f"]),
-        no_command(&["--support", "1", "(a)", "f", "--engine"]),
-        no_command(&["--support", "1", "--stats", "--stats", "(a)", "f"]),
-    ];
-    assert_eq!(rt; count_right(&rt, rt.alloc(), &cases)?, cases.len());
+    assert_eq!(rt;
+        count_right(&rt, rt.alloc(), NO_COMMANDS)?,
+        NO_COMMANDS.len()
+    );
     Ok(())
+}
+
+/// What a run over sequences with weights leaves, counted.
+macro_rules! weighed {
+    ($support:literal, $expression:literal, $lines:literal, $status:literal, $out:literal, $err:literal) => {
+        Case {
+            words: &["--stats", "--weighted", "--engine=count", "--support", $support, $expression, "f"],
+            hierarchy: "",
+            sequences: $lines,
+            status: $status,
+            out: $out,
+            err: $err,
+        }
+    };
 }
 
 // Of weights 5, 3 and 1 the `c` has less than 5 in all, and the `b` has 5: the lines have the candidates `a`
 // and `b`; `a`; `a`.
+const WEIGHED: &[Case<'static>] = &[
+    weighed!(
+        "5",
+        ".*(.).*",
+        "5 a b\n3 a c\n1 a\n",
+        0,
+        "9\ta\n5\tb\n",
+        "desq: nodes 0 parts 0 candidates 4\n"
+    ),
+    weighed!(
+        "1",
+        "(b)",
+        "5 a b\n3 a c\n1 a\n",
+        0,
+        "",
+        "desq: nodes 0 parts 0 candidates 0\n"
+    ),
+    weighed!(
+        "1",
+        "(c)",
+        "5 a b\n",
+        3,
+        "",
+        "desq: expression: column 2: unknown name\n"
+    ),
+];
+
 #[test]
 fn tells_pairs_and_no_weights(rt: HostRuntime) -> Result<(), Fail> {
-    let cases = [
-        Case {
-            words: &["--stats", "--weighted", "--support", "5", ".*(.).*", "f"],
-            hierarchy: "",
-            sequences: "5 a b\n3 a c\n1 a\n",
-            status: 0,
-            out: "9\ta\n5\tb\n",
-            err: "desq: nodes 0 parts 0 candidates 4\n",
-        },
-        Case {
-            words: &["--stats", "--weighted", "--support", "1", "(b)", "f"],
-            hierarchy: "",
-            sequences: "5 a b\n3 a c\n1 a\n",
-            status: 0,
-            out: "",
-            err: "desq: nodes 0 parts 0 candidates 0\n",
-        },
-        Case {
-            words: &["--stats", "--weighted", "--support", "1", "(c)", "f"],
-            hierarchy: "",
-            sequences: "5 a b\n",
-            status: 3,
-            out: "",
-            err: "desq: expression: column 2: unknown name\n",
-        },
-        Case {
-            words: &["--workers", "064", "--support", "1", "(a)", "f"],
-            hierarchy: "",
-            sequences: "a\n",
-            status: 0,
-            out: "1\ta\n",
-            err: "",
-        },
-    ];
-    assert_eq!(rt; count_right(&rt, rt.alloc(), &cases)?, cases.len());
-    Ok(())
-}
-
-/// A gate that counts its passes. In its first round worker 0 waits there until worker 1 has passed in its
-/// own, or until its turns run out.
-#[derive(Drop)]
-struct SecondFirst {
-    passes: AtomicU64,
-    of_second: AtomicU64,
-    given_up: AtomicU64,
-}
-
-const TURNS: u32 = 100_000;
-
-impl SecondFirst {
-    /// Whether worker 1 has passed in its first round before the turns ran out.
-    fn waits(&self) -> bool {
-        for _ in 0..TURNS {
-            if self.of_second.load(Ordering::SeqCst) > 0 {
-                return true;
-            }
-            thread::yield_now();
-        }
-        false
-    }
-}
-
-impl Gate for SecondFirst {
-    fn pass(&self, worker: u32, round: u64) {
-        self.passes.fetch_add(1, Ordering::SeqCst);
-        if round == 0 && worker == 1 {
-            self.of_second.fetch_add(1, Ordering::SeqCst);
-        }
-        if round == 0 && worker == 0 && !self.waits() {
-            self.given_up.fetch_add(1, Ordering::SeqCst);
-        }
-    }
-}
-
-// 512 sequences are two blocks.
-#[test]
-fn a_second_worker_passes_while_the_first_is_held(rt: HostRuntime) -> Result<(), Fail> {
-    let lines = pairs_of_items(rt.alloc(), 512)?;
-    let gate = SecondFirst {
-        passes: AtomicU64::new(0),
-        of_second: AtomicU64::new(0),
-        given_up: AtomicU64::new(0),
-    };
-    let words = [
-        "--support",
-        "512",
-        "--engine",
-        "count",
-        "--workers",
-        "2",
-        "(a)(b)",
-        "f",
-    ];
-    let bytes = lines.as_str().as_bytes();
-    let ran = run_gated(&rt, rt.alloc(), &words, b"", bytes, NO_FAULTS, &gate)?;
-    assert_eq!(rt; ran.status, 0);
-    assert_eq!(rt; ran.out.as_slice(), b"512\ta b\n".as_slice());
-    assert_eq!(rt; ran.err.len(), 0);
-    assert_eq!(rt; gate.passes.load(Ordering::SeqCst), 2);
-    assert_eq!(rt; gate.given_up.load(Ordering::SeqCst), 0);
+    assert_eq!(rt; count_right(&rt, rt.alloc(), WEIGHED)?, WEIGHED.len());
     Ok(())
 }
