@@ -3,6 +3,7 @@
 
 mod choices;
 mod hand;
+mod laws;
 mod mining;
 mod search;
 mod seats;
@@ -13,6 +14,7 @@ mod tests;
 mod workers;
 mod working;
 
+pub use laws::rows_of_the_trees_of_pivots_are_the_frequent_patterns;
 pub use mining::mine;
 pub use simulating::simulate;
 pub use steer::Steer;

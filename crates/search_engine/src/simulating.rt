@@ -1,3 +1,4 @@
+//! The search of a job by the schedule machine, in one thread.
 ghost use Rattle.std.specs.Prelude.{◌≡◌, ℕ, ◌≤◌, ◌<◌, List, Contains, IfOk};
 ghost use Rattle.std.specs.List.{AllByRecursion, filter_map};
 ghost use Rattle.mine_model.specs.declared.row.Row.{Row};
