@@ -1,19 +1,17 @@
 -- One item of the table and of the front.
-use Rattle.std.proofs.Common.{◌≡◌, ℕ, ◌+◌, ◌-◌, ◌<◌, ◌≤◌, ◌⊎◌, ◌↔◌, inl, inr, true, List, [], ◌∷◌, ◌++◌, length, get_or, drop, Some, refl, sym, ap, ◌∙◌, subst, arith}
+use Rattle.std.proofs.Common.{◌≡◌, ℕ, ◌+◌, ◌<◌, ◌≤◌, ◌⊎◌, ◌↔◌, inl, inr, List, ◌∷◌, ◌++◌, length, get_or, drop, Some, refl, sym, subst, arith}
 use Rattle.std.specs.List.{All, Contains, slice_index, slice_get}
 use Rattle.std.proofs.lemmas.List.{drop_more}
 use Rattle.std.proofs.lemmas.List.Elements.{Contains-get_or}
 use Rattle.std.proofs.lemmas.Option.{slice_get-get_or}
-use Rattle.state_bits.specs.Members.{Has}
 use Rattle.mine_model.specs.declared.item.Item.{Item}
 use Rattle.fst_compile.specs.Transducer.{Leads}
-use Rattle.fst_simulate.specs.declared.bound.Bound.{Bound}
 use Rattle.fst_simulate.specs.declared.reading.Reading.{Reading}
 use Rattle.fst_simulate.specs.Problems.{Problem, IsWhole}
-use Rattle.fst_simulate.specs.Grids.{GridList, Completes, items_at, rest_at}
+use Rattle.fst_simulate.specs.Grids.{GridList, items_at, rest_at}
 use Rattle.fst_simulate.specs.Readings.{IsReading, HasOutputs, outputs_at}
 use Rattle.fst_simulate.specs.Kinds.{IsTarget}
-use Rattle.pivot_partition.specs.Tops.{no_rank, bound_by, IsRowOf, IsTableFrom, GoesUpTo, WritesFrom, WritesAt, row_at}
+use Rattle.pivot_partition.specs.Tops.{no_rank, IsRowOf, IsTableFrom, GoesUpTo, row_at}
 use Rattle.pivot_partition.proofs.TopLemmas.{reading-goes, reading-needs, reading-ranks, entered-row, before-row, front-step}
 use Rattle.pivot_partition.proofs.TableLemmas.{table-more}
 use Rattle.pivot_partition.proofs.FrontLemmas.{AreFoundSoFar, found-more}

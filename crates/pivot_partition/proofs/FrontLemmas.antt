@@ -1,12 +1,12 @@
 -- The front goes over the items: what was found, and what is still to be found from the front.
-use Rattle.std.proofs.Common.{◌≡◌, ℕ, zero, suc, ◌+◌, ◌≤◌, ◌<◌, ◌⊎◌, ◌↔◌, inl, inr, false, List, [], ◌∷◌, length, drop, refl, sym, subst, arith}
+use Rattle.std.proofs.Common.{◌≡◌, ℕ, zero, suc, ◌+◌, ◌≤◌, ◌<◌, ◌⊎◌, ◌↔◌, inl, inr, false, List, [], ◌∷◌, length, drop, subst, arith}
 use Rattle.std.specs.List.{Contains, slice_index}
 use Rattle.std.proofs.lemmas.Bool.{cases_lt}
 use Rattle.mine_model.specs.declared.item.Item.{Item}
 use Rattle.fst_simulate.specs.Problems.{Problem, IsWhole}
 use Rattle.fst_simulate.specs.Grids.{Completes}
-use Rattle.pivot_partition.specs.Tops.{no_rank, bound_by, WritesFrom, WritesAt}
-use Rattle.pivot_partition.proofs.TopLemmas.{end-writes, pivot-rank}
+use Rattle.pivot_partition.specs.Tops.{no_rank, bound_by, WritesFrom}
+use Rattle.pivot_partition.proofs.TopLemmas.{end-writes}
 
 -- what was found, and what can be written from the front over the rest, are what can be written from the start over
 -- all

@@ -1,12 +1,10 @@
 -- What is kept between sequences, while one is gone over.
-use Rattle.std.proofs.Common.{◌≡◌, ◌≢◌, ◌↔◌, ℕ, ◌+◌, ◌<◌, ◌≤◌, Bool, false, None, List, [], ◌∷◌, ◌++◌, length, refl, sym, ap, ◌∙◌, subst, arith}
+use Rattle.std.proofs.Common.{◌≡◌, ◌↔◌, ℕ, ◌≤◌, Bool, false, None, List, [], ◌∷◌, ◌++◌, length, ap, ◌∙◌, subst}
 use Rattle.std.specs.List.{Contains}
-use Rattle.mine_model.specs.declared.item.Item.{Item}
 use Rattle.mine_model.proofs.ListLemmas.{Contains-none}
-use Rattle.fst_simulate.specs.declared.bound.Bound.{Bound}
 use Rattle.fst_simulate.specs.Problems.{Problem, IsWhole, items_of}
-use Rattle.fst_simulate.specs.Grids.{GridList, Completes, items_at}
-use Rattle.pivot_partition.specs.Tops.{no_rank, bound_by}
+use Rattle.fst_simulate.specs.Grids.{GridList, Completes}
+use Rattle.pivot_partition.specs.Tops.{bound_by}
 use Rattle.pivot_partition.specs.Marks.{AreMarked}
 use Rattle.pivot_partition.specs.Pivots.{IsPivotOf}
 use Rattle.pivot_partition.specs.Kept.{AreKept}

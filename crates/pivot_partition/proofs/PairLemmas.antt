@@ -1,18 +1,17 @@
 -- The pairs of sequences and their pivots, one stretch of sequences after another.
-use Rattle.std.proofs.Common.{◌≡◌, ◌≢◌, ◌↔◌, ℕ, zero, suc, ◌+◌, ◌-◌, ◌*◌, ◌/◌, ◌%◌, ◌==◌, ◌<◌, ◌≤◌, ◌⊎◌, inl, inr, true, false, min, cond, Result, Ok, Err, IfOk, List, [], ◌∷◌, ◌++◌, length, map, get_or, refl, sym, ap, ◌∙◌, subst, arith, sum_by}
-use Rattle.std.specs.List.{All, AllPairs, AllZip, Contains, range_with_len, flat_map}
+use Rattle.std.proofs.Common.{◌≡◌, ◌≢◌, ◌↔◌, ℕ, zero, suc, ◌+◌, ◌*◌, ◌<◌, ◌≤◌, inl, inr, Result, Ok, Err, IfOk, List, [], ◌∷◌, ◌++◌, length, map, get_or, refl, sym, ap, subst, arith}
+use Rattle.std.specs.List.{All, AllPairs, AllZip, Contains, range_with_len}
 use Rattle.std.specs.Global.{Vec}
 use Rattle.std.specs.Result.{MatchResult}
 use Rattle.std.proofs.lemmas.Bool.{cases_lt}
 use Rattle.std.proofs.lemmas.List.Elements.{Contains-append_left, Contains-append_right, Contains-append_cases, Contains-get_or}
 use Rattle.std.proofs.lemmas.List.Kept.{AllPairs-cons}
-use Rattle.mine_model.specs.declared.item.Item.{Item}
 use Rattle.mine_model.specs.declared.memory.NoMemory.{NoMemory}
-use Rattle.mine_model.proofs.ListLemmas.{Contains-cases, Contains-first, Contains-other, Contains-none, Contains-by, Contains-from, AllPairs-head, AllPairs-tail, AllPairs-append}
+use Rattle.mine_model.proofs.ListLemmas.{Contains-none, Contains-by, Contains-from, AllPairs-head, AllPairs-tail, AllPairs-append}
 use Rattle.fst_simulate.specs.Problems.{Problem, items_of}
 use Rattle.pivot_partition.specs.declared.pairs.Pair.{Pair}
 use Rattle.pivot_partition.specs.Pivots.{IsPivotOf}
-use Rattle.pivot_partition.specs.Pairs.{ComesFirst, ArePairs, place, ArePieces, all_of, sequences_with}
+use Rattle.pivot_partition.specs.Pairs.{ComesFirst, ArePairs, place, ArePieces, all_of}
 
 abbrev pub pair_of : ℕ → ℕ → Pair
 pair_of sequence pivot = record { pivot = pivot; sequence = sequence }
@@ -123,11 +122,3 @@ module _ (problem : Problem) where
     pieces-collected pieces (Ok v) answers zip (parts, same, is) =
         rw is (of_answers (range_with_len 0 pieces) parts
         (subst (λ xs. AllZip (λ (piece : ℕ) (answer : Result (Vec Pair) NoMemory). IfOk answer (Piece piece)) (range_with_len 0 pieces) xs) same zip))
-
--- the pieces reach the end
-pub pieces-reach : (count pieces : ℕ) → 1 ≤ pieces → count ≤ pieces * (count / pieces + 1)
-pieces-reach count pieces least =
-    let whole : pieces * (count / pieces + 1) ≡ pieces * (count / pieces) + pieces = grind arith in
-    let rest : count % pieces < pieces = omega arith in
-    let parts : pieces * (count / pieces) + count % pieces ≡ count = omega arith in
-    omega (arith, whole, rest, parts)

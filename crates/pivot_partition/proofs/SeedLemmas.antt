@@ -1,8 +1,8 @@
 -- The sequences with a pivot, what they weigh, and the seeds of those that weigh enough.
-use Rattle.std.proofs.Common.{◌≡◌, ◌≢◌, ◌↔◌, ℕ, zero, suc, ◌+◌, ◌-◌, ◌*◌, ◌^◌, ◌==◌, ◌<◌, ◌≤◌, ◌⊎◌, inl, inr, Bool, true, false, leb, cond, Option, Some, None, IfSome, List, [], ◌∷◌, ◌++◌, length, map, get_or, set, take, drop, refl, sym, ap, ◌∙◌, subst, arith, sum_by}
-use Rattle.std.specs.List.{All, AllPairs, AllByRecursion, Contains, slice_index}
+use Rattle.std.proofs.Common.{◌≡◌, ◌≢◌, ◌↔◌, ℕ, zero, suc, ◌+◌, ◌*◌, ◌^◌, ◌<◌, ◌≤◌, inl, inr, Bool, true, false, leb, cond, Option, Some, IfSome, List, [], ◌∷◌, ◌++◌, length, map, get_or, set, take, drop, refl, sym, ap, ◌∙◌, subst, arith, sum_by}
+use Rattle.std.specs.List.{All, AllPairs, Contains, slice_index}
 use Rattle.std.specs.Global.{Vec}
-use Rattle.std.proofs.lemmas.Bool.{cases_lt, cases_eq, cases_Bool, eqb-true, eqb-false, eq-eqb, ne_eqb, leb-true, leb-false}
+use Rattle.std.proofs.lemmas.Bool.{cases_eq, eq-eqb, ne_eqb, leb-true, leb-false}
 use Rattle.std.proofs.lemmas.List.{append-nil, append_assoc, get_or-set_same, get_or-set_other, get_or_read, length-set, map-append, take-append-drop, take_more}
 use Rattle.std.proofs.lemmas.Grind.{flat_map-append}
 use Rattle.std.proofs.lemmas.List.Elements.{All-push, Contains-append_left, Contains-push, Contains-push_cases, Contains-get_or}
@@ -12,17 +12,17 @@ use Rattle.std.proofs.lemmas.List.Sums.{sum_by-cons, sum_by-append}
 use Rattle.mine_model.specs.declared.item.Item.{Item}
 use Rattle.mine_model.specs.Database.{sequence_at, IsWithinLimits}
 use Rattle.mine_model.specs.Limits.{most_sequences, most_weight}
-use Rattle.mine_model.specs.Support.{Sequence, Counts}
+use Rattle.mine_model.specs.Support.{Counts}
 use Rattle.mine_model.specs.Growth.{HasPatternBehind, IsAlive}
 use Rattle.mine_model.specs.SearchTree.{IsWithinPivot, IsAliveLabel}
-use Rattle.mine_model.proofs.ListLemmas.{Contains-cases, Contains-first, Contains-other, Contains-none, AllPairs-head, AllPairs-tail, Contains-by, Contains-from}
+use Rattle.mine_model.proofs.ListLemmas.{Contains-cases, Contains-first, Contains-other, Contains-none, AllPairs-head, AllPairs-tail}
 use Rattle.mine_model.proofs.ElementLemmas.{flat-held}
 use Rattle.mine_model.proofs.RankLemmas.{HasRank-most}
 use Rattle.mine_model.proofs.RankedLemmas.{ranked-same}
 use Rattle.mine_model.proofs.FrequencyLemmas.{Counts-most}
 use Rattle.mine_model.proofs.AliveLemmas.{Counts-part, IsAlive-counted, IsAlive-some}
 use Rattle.fst_simulate.specs.declared.part_seed.PartSeed.{PartSeed}
-use Rattle.fst_simulate.specs.Problems.{Problem, IsWhole, data_of, items_of}
+use Rattle.fst_simulate.specs.Problems.{Problem, data_of, items_of}
 use Rattle.fst_simulate.specs.Parts.{pivot_of, IsComplete}
 use Rattle.pivot_partition.specs.declared.pairs.Pair.{Pair}
 use Rattle.pivot_partition.specs.Pivots.{IsPivotOf, pivots_in}

@@ -1,11 +1,10 @@
 -- The table of all positions, from the last on.
-use Rattle.std.proofs.Common.{◌≡◌, ℕ, suc, ◌+◌, ◌-◌, ◌≤◌, ◌<◌, inl, inr, List, [], ◌∷◌, ◌++◌, length, get_or, drop, refl, sym, ap, ◌∙◌, subst, arith, add-one, length-append}
-use Rattle.std.specs.List.{slice_index}
+use Rattle.std.proofs.Common.{◌≡◌, ℕ, ◌+◌, ◌-◌, ◌≤◌, ◌<◌, inl, inr, List, [], ◌++◌, length, drop, sym, ap, subst, arith, length-append}
 use Rattle.std.proofs.lemmas.Bool.{cases_lt}
 use Rattle.std.proofs.lemmas.List.{drop-append-le, drop_at, drop_all, get_or_append_left, length-drop}
 use Rattle.mine_model.specs.declared.item.Item.{Item}
 use Rattle.fst_simulate.specs.Problems.{Problem}
-use Rattle.pivot_partition.specs.Tops.{no_rank, IsLeastTop, GoesOn, IsRowOf, IsTableFrom, row_at}
+use Rattle.pivot_partition.specs.Tops.{IsLeastTop, GoesOn, IsRowOf, IsTableFrom, row_at}
 use Rattle.pivot_partition.proofs.NumberLemmas.{row-next, row-end, row-later}
 
 module _ (problem : Problem) where

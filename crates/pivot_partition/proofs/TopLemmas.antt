@@ -1,11 +1,10 @@
 -- Up to which rank a path has to write: from the place behind an item to the one before it.
-use Rattle.std.proofs.Common.{◌≡◌, ℕ, zero, suc, ◌+◌, ◌-◌, ◌≤◌, ◌<◌, ◌⊎◌, ◌↔◌, inl, inr, true, false, Some, None, List, [], ◌∷◌, ◌++◌, length, get_or, drop, refl, sym, ap, ◌∙◌, subst, arith}
+use Rattle.std.proofs.Common.{◌≡◌, ℕ, zero, suc, ◌≤◌, ◌<◌, ◌⊎◌, ◌↔◌, inl, inr, false, None, List, [], ◌∷◌, length, refl, subst, arith}
 use Rattle.std.specs.List.{AllByRecursion, Contains, slice_index}
 use Rattle.std.proofs.lemmas.Bool.{false≢true}
 use Rattle.state_bits.specs.Members.{Has}
 use Rattle.mine_model.specs.declared.item.Item.{Item}
 use Rattle.mine_model.specs.Growth.{HasPatternBehind}
-use Rattle.mine_model.specs.Ranks.{HasRank}
 use Rattle.mine_model.specs.SearchTree.{IsRankedUpTo, IsWithinPivot}
 use Rattle.mine_model.proofs.ListLemmas.{Contains-none}
 use Rattle.mine_model.proofs.RankLemmas.{HasRank-most}
@@ -13,11 +12,11 @@ use Rattle.fst_compile.specs.Transducer.{Leads}
 use Rattle.fst_simulate.specs.declared.bound.Bound.{Bound}
 use Rattle.fst_simulate.specs.declared.reading.Reading.{Reading}
 use Rattle.fst_simulate.specs.Problems.{Problem, IsWhole, data_of}
-use Rattle.fst_simulate.specs.Grids.{Completes, Reads, WritesRank}
+use Rattle.fst_simulate.specs.Grids.{Completes, WritesRank}
 use Rattle.fst_simulate.specs.Readings.{IsReading, outputs_at}
 use Rattle.fst_simulate.specs.Kinds.{Goes, Needs, IsTarget}
 use Rattle.fst_simulate.proofs.PathLemmas.{seen-step, unseen-step, target-of}
-use Rattle.pivot_partition.specs.Tops.{no_rank, bound_by, IsLeastTop, GoesOn, IsRowOf, IsEnteredRow, GoesUpTo, WritesFrom, WritesAt}
+use Rattle.pivot_partition.specs.Tops.{no_rank, bound_by, GoesOn, IsRowOf, IsEnteredRow, GoesUpTo, WritesFrom, WritesAt}
 
 module _ (problem : Problem) (whole : IsWhole problem) where
   -- a path within the bound of a pivot is a pattern of which it is the greatest rank

@@ -1,4 +1,4 @@
-use Rattle.std.proofs.Common.{◌≡◌, refl, get_or}
+use Rattle.std.proofs.Common.{refl, get_or}
 use Rattle.std.specs.List.{slice_index}
 use Rattle.fst_compile.specs.declared.edge.Edge.{Edge}
 use Rattle.pivot_partition.proofs.LeastLemmas.{least-none, least-more, least-all}

@@ -1,5 +1,4 @@
-use Rattle.std.proofs.Common.{◌≡◌, ◌+◌, ◌<◌, ◌∙◌, length, get_or, set, take, refl, sym, subst, arith, length-set}
-use Rattle.fst_compile.specs.declared.edge.Edge.{Edge}
+use Rattle.std.proofs.Common.{◌+◌, ◌<◌, ◌∙◌, length, get_or, set, take, refl, sym, subst, arith, length-set}
 use Rattle.pivot_partition.proofs.EdgeLemmas.{no_edge, AreLowered, lowered-none, lowered-more, lowered-all}
 use Rattle.pivot_partition.proofs.edges.lower.Goals as goal
 

@@ -1,6 +1,4 @@
-use Rattle.std.proofs.Common.{◌≡◌, ℕ, ◌≤◌, ◌⊎◌, ◌↔◌, length, take}
-use Rattle.std.specs.List.{slice_index, Contains}
-use Rattle.fst_compile.specs.declared.edge.Edge.{Edge}
+use Rattle.std.proofs.Common.{◌≡◌, length, take}
 use Rattle.pivot_partition.proofs.EdgeLemmas.{AreLowered}
 use Rattle.pivot_partition.proofs.edges.lower.Given as goal
 

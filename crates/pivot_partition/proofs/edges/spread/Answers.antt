@@ -1,4 +1,4 @@
-use Rattle.std.proofs.Common.{◌≡◌, ◌+◌, ◌∙◌, ◌<◌, length, get_or, refl, sym, subst, arith}
+use Rattle.std.proofs.Common.{◌∙◌, get_or, refl, arith}
 use Rattle.std.proofs.lemmas.List.Elements.{Contains-get_or}
 use Rattle.pivot_partition.proofs.EdgeLemmas.{spread-none, spread-pass, spread-more, spread-all}
 use Rattle.pivot_partition.proofs.edges.spread.Goals.{then-top, else-top}

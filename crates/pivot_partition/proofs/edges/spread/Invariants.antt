@@ -1,4 +1,4 @@
-use Rattle.std.proofs.Common.{◌≡◌, ◌+◌, length}
+use Rattle.std.proofs.Common.{◌≡◌, length}
 use Rattle.pivot_partition.proofs.EdgeLemmas.{AreSpreadSoFar}
 use Rattle.pivot_partition.proofs.edges.spread.Given as goal
 

@@ -1,4 +1,4 @@
-use Rattle.std.proofs.Common.{◌≡◌, ℕ, ◌<◌, length}
+use Rattle.std.proofs.Common.{◌≡◌, ℕ, ◌<◌}
 use Rattle.std.specs.List.{slice_index}
 use Rattle.pivot_partition.specs.Tops.{no_rank}
 use Rattle.pivot_partition.proofs.finding.begin.Given as goal

@@ -1,5 +1,5 @@
-use Rattle.std.proofs.Common.{◌≡◌, ◌∙◌, ◌+◌, ◌-◌, ◌<◌, ◌≤◌, ℕ, length, drop, take, refl, sym, ap, subst, arith, length-drop}
-use Rattle.std.specs.List.{Contains, slice_index}
+use Rattle.std.proofs.Common.{◌≡◌, ◌∙◌, ◌+◌, ◌-◌, ◌<◌, length, drop, take, refl, sym, ap, subst, arith, length-drop}
+use Rattle.std.specs.List.{Contains}
 use Rattle.std.proofs.lemmas.List.{take_rest, drop_all}
 use Rattle.mine_model.proofs.ListLemmas.{Contains-none}
 use Rattle.fst_compile.specs.Transducer.{Transducer}

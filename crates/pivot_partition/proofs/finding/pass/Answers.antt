@@ -1,6 +1,5 @@
-use Rattle.std.proofs.Common.{◌≡◌, ◌≢◌, ◌∙◌, ◌<◌, ◌≤◌, ◌+◌, ℕ, inl, inr, length, refl, sym, subst, arith, length-set, get_or-set_same, get_or-set_other}
+use Rattle.std.proofs.Common.{◌≡◌, ◌≢◌, ◌∙◌, ◌<◌, ◌≤◌, inl, inr, length, refl, sym, subst, arith, length-set, get_or-set_same, get_or-set_other}
 use Rattle.std.specs.List.{All, Contains, slice_index}
-use Rattle.std.proofs.lemmas.Bool.{cases_eq}
 use Rattle.fst_simulate.specs.Readings.{outputs_at}
 use Rattle.pivot_partition.specs.Tops.{GoesUpTo}
 use Rattle.pivot_partition.proofs.RowLemmas.{written-none, written-more}

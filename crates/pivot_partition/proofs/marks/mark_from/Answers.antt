@@ -1,4 +1,4 @@
-use Rattle.std.proofs.Common.{◌≡◌, ◌∙◌, arith, get_or}
+use Rattle.std.proofs.Common.{◌∙◌}
 use Rattle.pivot_partition.proofs.MarkLemmas.{read-pass, read-more, read-all}
 use Rattle.pivot_partition.proofs.marks.mark_from.Goals.{then-rank-least+in_ok-mark, else-rank-least}
 use Rattle.pivot_partition.proofs.marks.mark_from.Goals as goal

@@ -1,4 +1,4 @@
-use Rattle.std.proofs.Common.{◌≡◌, ◌<◌, ◌+◌, length, get_or, drop, arith, refl, false, ◌∙◌, length-set}
+use Rattle.std.proofs.Common.{◌<◌, length, get_or, arith, refl, false, ◌∙◌, length-set}
 use Rattle.std.proofs.lemmas.List.{drop_more}
 use Rattle.std.proofs.lemmas.List.Elements.{Contains-get_or}
 use Rattle.pivot_partition.proofs.MarkLemmas.{marked-inside, still-begin, still-more, still-all}

@@ -1,5 +1,4 @@
 use Rattle.std.proofs.Common.{◌≡◌, length}
-use Rattle.std.specs.List.{All}
 use Rattle.pivot_partition.proofs.MarkLemmas.{AreStill}
 use Rattle.pivot_partition.proofs.marks.unmark.Given as goal
 

@@ -1,5 +1,5 @@
-use Rattle.std.proofs.Common.{◌≡◌, ◌≢◌, ◌↔◌, ◌⊎◌, ℕ, ◌<◌, ◌≤◌, ◌++◌, List, [], length, get_or, max, refl, sym, ap, ◌∙◌, subst, rules, arith, eqb, leb}
-use Rattle.std.specs.List.{AllPairs, Contains, filter, dedup}
+use Rattle.std.proofs.Common.{◌≡◌, ◌↔◌, ◌⊎◌, ℕ, ◌<◌, ◌++◌, length, get_or, max, sym, ap, ◌∙◌, subst, rules, eqb, leb}
+use Rattle.std.specs.List.{AllPairs, Contains, filter}
 use Rattle.std.specs.List.Sorted.{IsPermutation}
 use Rattle.std.proofs.lemmas.Fn.{filter_same}
 use Rattle.std.proofs.lemmas.List.{get_or_read}

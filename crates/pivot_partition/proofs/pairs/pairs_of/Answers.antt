@@ -1,4 +1,4 @@
-use Rattle.std.proofs.Common.{◌≡◌, ◌++◌, ◌≤◌, ◌+◌, ◌∙◌, map, ap, arith, subst, sym}
+use Rattle.std.proofs.Common.{◌≡◌, ◌++◌, ◌+◌, ◌∙◌, map, ap, arith, subst, sym}
 use Rattle.pivot_partition.specs.Pairs.{ArePairs}
 use Rattle.pivot_partition.proofs.PairLemmas.{pair_of, pairs-one, pairs-append}
 use Rattle.pivot_partition.proofs.pairs.pairs_of.Goals as goal

@@ -1,4 +1,4 @@
-use Rattle.std.proofs.Common.{◌≡◌, ◌≤◌}
+use Rattle.std.proofs.Common.{◌≡◌}
 use Rattle.pivot_partition.specs.Pairs.{ArePairs}
 use Rattle.pivot_partition.proofs.pairs.pairs_of.Given as goal
 

@@ -1,4 +1,4 @@
-use Rattle.std.proofs.Common.{◌≡◌, ◌<◌, ◌↔◌, ℕ, length, eqb, sym, subst}
+use Rattle.std.proofs.Common.{◌<◌, ◌↔◌, ℕ, length, eqb, sym, subst}
 use Rattle.std.specs.List.{Contains}
 use Rattle.std.proofs.lemmas.List.Filters.{dedup_is}
 use Rattle.fst_simulate.specs.Problems.{Problem, items_of}

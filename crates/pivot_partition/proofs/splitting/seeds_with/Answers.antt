@@ -1,5 +1,4 @@
-use Rattle.std.proofs.Common.{◌≡◌, ◌+◌, ◌∙◌, ◌++◌, ◌∷◌, [], ◌≤◌, ◌<◌, leb, List, ℕ, length, get_or, length-append, append_assoc, ap, sym, subst, arith}
-use Rattle.std.specs.Global.{Vec}
+use Rattle.std.proofs.Common.{◌≡◌, ◌+◌, ◌∙◌, ◌++◌, ◌∷◌, [], ◌<◌, leb, length, get_or, length-append, append_assoc, ap, sym, subst, arith}
 use Rattle.std.specs.Vec.Iter.{into_iter_items}
 use Rattle.std.proofs.lemmas.List.{append-nil, length_push, get_or_at, nil_from_length}
 use Rattle.pivot_partition.proofs.SeedLemmas.{seeds-all, seeds-next}

@@ -1,6 +1,7 @@
-use Rattle.std.proofs.Common.{◌≡◌, ◌+◌, ◌*◌, ◌/◌, ◌≤◌, length, ap, subst, sym, arith}
-use Rattle.pivot_partition.specs.Pairs.{ArePairs, ArePieces, all_of}
-use Rattle.pivot_partition.proofs.PairLemmas.{pieces-all, pieces-reach}
+use Rattle.std.proofs.Common.{◌+◌, ◌*◌, ◌/◌, ◌≤◌, length, ap, subst, sym, arith}
+use Rattle.pivot_partition.specs.Pairs.{ArePairs, all_of}
+use Rattle.frequency_list.proofs.PieceLemmas.{pieces-reach}
+use Rattle.pivot_partition.proofs.PairLemmas.{pieces-all}
 use Rattle.pivot_partition.proofs.splitting.split.Goals as goal
 
 pub seeds_of-requires : goal.seeds_of-requires

@@ -1,4 +1,4 @@
-use Rattle.std.proofs.Common.{◌≡◌, ◌≤◌, ◌<◌, ◌+◌, ◌∙◌, length, refl, arith, length-set}
+use Rattle.std.proofs.Common.{◌≤◌, ◌∙◌, refl, arith, length-set}
 use Rattle.std.specs.List.{slice_index}
 use Rattle.pivot_partition.specs.Tops.{GoesUpTo}
 use Rattle.pivot_partition.proofs.RowLemmas.{written-none, written-more}

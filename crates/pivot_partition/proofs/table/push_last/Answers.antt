@@ -1,4 +1,4 @@
-use Rattle.std.proofs.Common.{◌≡◌, ◌≤◌, ◌<◌, ◌↔◌, ◌+◌, ◌∙◌, ℕ, length, refl, arith}
+use Rattle.std.proofs.Common.{◌≡◌, ◌≤◌, ◌<◌, ◌↔◌, ◌+◌, ◌∙◌, ℕ, length, arith}
 use Rattle.std.proofs.lemmas.Bool.{iff_false}
 use Rattle.state_bits.specs.Members.{Has}
 use Rattle.pivot_partition.specs.Tops.{no_rank}

@@ -1,7 +1,6 @@
-use Rattle.std.proofs.Common.{◌≡◌, ◌≤◌, ◌<◌, ◌↔◌, ◌+◌, ◌∙◌, ℕ, get_or, length, subst, sym, refl, arith}
-use Rattle.std.specs.List.{slice_index, Contains}
+use Rattle.std.proofs.Common.{◌≡◌, ◌≤◌, ◌+◌, ◌∙◌, ℕ, get_or, length, arith}
+use Rattle.std.specs.List.{slice_index}
 use Rattle.std.proofs.lemmas.List.Elements.{Contains-get_or}
-use Rattle.fst_compile.specs.declared.edge.Edge.{Edge}
 use Rattle.fst_compile.specs.Transducer.{Leads}
 use Rattle.pivot_partition.proofs.RowLemmas.{row-none, row-more}
 use Rattle.pivot_partition.proofs.EdgeLemmas.{least-leads}

@@ -1,4 +1,4 @@
-use Rattle.std.proofs.Common.{◌≡◌, ℕ, ◌+◌, ◌<◌, ◌^◌, ◌∙◌, length, get_or, refl, ap, arith, length-set}
+use Rattle.std.proofs.Common.{◌+◌, ◌<◌, ◌^◌, ◌∙◌, length, get_or, refl, ap, arith, length-set}
 use Rattle.std.specs.List.{slice_index}
 use Rattle.mine_model.specs.Database.{sequence_at}
 use Rattle.pivot_partition.specs.declared.pairs.Pair.{Pair}

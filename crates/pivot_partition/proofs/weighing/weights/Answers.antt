@@ -1,9 +1,8 @@
-use Rattle.std.proofs.Common.{◌≡◌, ◌≤◌, ◌<◌, ◌+◌, ◌*◌, ◌^◌, ◌∙◌, ℕ, [], length, replicate, get_or, sym, ap, subst, arith, rules}
+use Rattle.std.proofs.Common.{◌≡◌, ◌+◌, ◌∙◌, length, replicate, get_or, sym, ap, subst, arith, rules}
 use Rattle.std.specs.List.{slice_index, Contains}
 use Rattle.std.proofs.lemmas.List.Elements.{Contains-get_or}
 use Rattle.std.proofs.lemmas.List.{length-replicate}
 use Rattle.mine_model.specs.Ranks.{Ranking}
-use Rattle.mine_model.specs.Limits.{most_sequences, most_weight}
 use Rattle.mine_model.proofs.ListLemmas.{written_back}
 use Rattle.mine_model.proofs.RankLemmas.{zeros-everywhere}
 use Rattle.pivot_partition.specs.Pairs.{all_of, weight_with}

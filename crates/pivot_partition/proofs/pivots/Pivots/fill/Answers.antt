@@ -1,4 +1,4 @@
-use Rattle.std.proofs.Common.{◌≡◌, ◌∙◌, ◌<◌, ◌≤◌, ℕ, ◌↔◌, IsTrue, Result, Ok, Err, OnOk, false, [], ◌++◌, length, take, drop, refl, sym, ap, subst, arith}
+use Rattle.std.proofs.Common.{◌≡◌, ◌∙◌, ◌<◌, ◌≤◌, ℕ, ◌↔◌, IsTrue, Result, Ok, Err, OnOk, false, ◌++◌, length, take, drop, refl, sym, ap, subst, arith}
 use Rattle.std.specs.List.{Contains}
 use Rattle.std.proofs.lemmas.Bool.{iff_false}
 use Rattle.mine_model.proofs.ListLemmas.{written_back}
@@ -9,7 +9,7 @@ use Rattle.mine_model.specs.Database.{sequence_at}
 use Rattle.pivot_partition.specs.Kept.{AreKept}
 use Rattle.pivot_partition.specs.Marks.{AreMarked}
 use Rattle.pivot_partition.specs.Tops.{bound_by}
-use Rattle.pivot_partition.proofs.KeptLemmas.{grid_of, kept-pushed, kept-cleared, found-pivots, no-pivots}
+use Rattle.pivot_partition.proofs.KeptLemmas.{kept-pushed, kept-cleared, found-pivots, no-pivots}
 use Rattle.pivot_partition.proofs.pivots.Pivots.fill.Goals as goal
 
 pub push-requires : goal.push-requires
