@@ -1,16 +1,15 @@
 -- How a run ends, from what its parts answer; and what follows from how it ended.
-use Rattle.std.proofs.Common.{◌≡◌, ◌⊎◌, inl, inr, ◌↔◌, ℕ, ◌≤◌, Bool, List, [], ◌∷◌, ◌++◌, Option, Some, None, IfSome, Result, Ok, Err, OnOk, Contains, refl, sym, ap, ◌∙◌, subst, arith}
+use Rattle.std.proofs.Common.{◌≡◌, ◌⊎◌, inl, inr, ℕ, List, [], ◌∷◌, ◌++◌, Option, Some, IfSome, Result, Ok, Err, OnOk, Contains, refl, sym, ap, ◌∙◌, subst, arith}
 use Rattle.mine_model.specs.declared.item.Item.{Item}
 use Rattle.mine_model.specs.declared.fault.Fault.{Fault}
 use Rattle.mine_model.specs.declared.fault.Fault.TheVariants.{Usage, BadToken, BadRepeat, Unexpected, Unknown, BadByte, BadWeight, Cycle, ExprTooLong, RepeatLimit, TooDeep, TooManyLeaves, TooLarge, NameTooLong, TooManyItems, TooManyAncestors, TooManySequences, SequenceTooLong, Read, Write, NoMemory}
 use Rattle.mine_model.specs.declared.fault.Which.{Which}
-use Rattle.mine_model.specs.Text.{lines_of}
 use Rattle.mine_model.specs.Expression.{Tree, named_in}
 use Rattle.mine_model.specs.Grammar.{Use, ReadsAs}
 use Rattle.mine_model.specs.Support.{Sequence}
 use Rattle.mine_model.specs.Ancestry.{Ancestry}
-use Rattle.mine_model.specs.First.{FirstOf, FirstAmong}
-use Rattle.mine_model.specs.Refusal.{IsExpressionRefusal, IsHierarchyRefusal, IsSequencesRefusal, IsUnknown, names_of, items_of, sequences_of}
+use Rattle.mine_model.specs.First.{FirstAmong}
+use Rattle.mine_model.specs.Refusal.{IsExpressionRefusal, IsHierarchyRefusal, IsSequencesRefusal, IsUnknown}
 use Rattle.mine_model.specs.declared.mined.Work.{Work}
 use Rattle.mine_model.specs.Status.{fault_status, status_of}
 use Rattle.mine_model.proofs.ListLemmas.{Contains-first, Contains-other}
@@ -18,10 +17,10 @@ use Rattle.mine_model.proofs.FirstLemmas.{AtMostOne, FirstOf-unique, FirstAmong-
 use Rattle.mine_model.proofs.RefusalLemmas.{ReadsAs-unique, IsExpressionRefusal-unique}
 use Rattle.command_line.specs.Words.{Command, IsCommand, IsUsage}
 use Rattle.command_line.proofs.CommandLemmas.{IsCommand-unique, IsUsage-excludes}
-use Rattle.desq_run.specs.Ends.{Input, IsInput, bytes_named, hierarchy_names, known_names, IsFirstRefusal, IsAccepted, HasExpression, NamesKind, IsOfKind, IsOfFiles, Ends, done, no_command, refused_expression, refused_file, read_fault, write_fault, no_memory}
+use Rattle.desq_run.specs.Ends.{Input, IsInput, bytes_named, hierarchy_names, known_names, IsFirstRefusal, IsAccepted, HasExpression, IsOfKind, IsOfFiles, Ends, done, no_command, refused_expression, refused_file, read_fault, write_fault, no_memory}
 use Rattle.desq_run.specs.Inputs.{IsHierarchyOf, IsDatabaseOf}
 use Rattle.desq_run.proofs.LinkLemmas.{Contains-both, Contains-front, Contains-back}
-use Rattle.desq_run.proofs.SameRefusals.{HoldSame, RefuseAlike, sequences-alike, unknown-alike}
+use Rattle.desq_run.proofs.SameRefusals.{HoldSame, sequences-alike, unknown-alike}
 use Rattle.desq_run.proofs.UniqueRefusals.{hierarchy-unique, sequences-unique}
 
 pub IfSome-at : {T : Type 0} (P : T → Type 0) (o : Option T) (t : T) → IfSome o P → o ≡ Some t → P t

@@ -1,5 +1,5 @@
 -- How reading a file fails.
-use Rattle.std.proofs.Common.{◌≡◌, ◌≢◌, ◌⊎◌, inl, inr, ℕ, ◌+◌, ◌<◌, ◌≤◌, ◌^◌, ◌-◌, Bool, List, [], Option, Some, None, IfSome, IsSome, IfErr, Result, Ok, Err, true≢false, refl, sym, ap, ◌∙◌, subst, arith}
+use Rattle.std.proofs.Common.{◌≡◌, ◌≢◌, inl, inr, ℕ, ◌≤◌, Bool, List, [], Option, Some, None, IfSome, IsSome, IfErr, Result, Ok, Err, true≢false, refl, sym, ap, subst, arith}
 use Rattle.text_ports.specs.Faults.{Rose}
 use Rattle.mine_model.specs.declared.fault.Fault.{Fault}
 use Rattle.mine_model.specs.declared.fault.Fault.TheVariants.{Read, Write, NoMemory}

@@ -1,5 +1,5 @@
 -- The hierarchy of rows by numbers against that of the file by names.
-use Rattle.std.proofs.Common.{◌≡◌, ◌≢◌, ℕ, ◌<◌, ◌↔◌, inl, inr, List, [], ◌∷◌, map, filter, nat_le, length, refl, sym, ap, ◌∙◌, subst}
+use Rattle.std.proofs.Common.{◌≡◌, ◌≢◌, ℕ, ◌<◌, inl, inr, List, [], ◌∷◌, map, filter, nat_le, length, refl, sym, ap, ◌∙◌, subst}
 use Rattle.std.specs.List.{AllByRecursion, All, Contains}
 use Rattle.std.proofs.lemmas.List.{get_or_default}
 use Rattle.std.proofs.lemmas.List.Elements.{All-map, All-contains, All-from_recursion, Contains-get_or}
@@ -9,7 +9,7 @@ use Rattle.mine_model.specs.declared.hierarchy_fault.CloseFault.{CloseFault}
 use Rattle.mine_model.specs.declared.hierarchy_fault.CloseFault.TheVariants.{Cycle, TooManyAncestors, NoMemory}
 use Rattle.mine_model.specs.Faults.{fault_of_close}
 use Rattle.mine_model.specs.Limits.{most_ancestors}
-use Rattle.mine_model.specs.Hierarchy.{Link, PlacedLink, IsAncestor, IsAcyclic, links_through, IsCycleLine, HasMoreAncestors}
+use Rattle.mine_model.specs.Hierarchy.{Link, PlacedLink, IsAcyclic, links_through, IsCycleLine, HasMoreAncestors}
 use Rattle.mine_model.specs.Ancestry.{Ancestry, item_at}
 use Rattle.mine_model.specs.Names.{name_of, HasName, AreDistinct, link_by, GrowBy}
 use Rattle.mine_model.specs.Text.{lines_of}

@@ -1,5 +1,5 @@
 -- From what was read and found by numbers to the answer by names.
-use Rattle.std.proofs.Common.{◌≡◌, ℕ, ◌+◌, ◌<◌, ◌≤◌, ◌↔◌, List, [], ◌∷◌, ◌++◌, map, length, All, Contains, sym, ap, ◌∙◌, subst, arith, length-append}
+use Rattle.std.proofs.Common.{◌≡◌, ℕ, ◌<◌, ◌≤◌, ◌↔◌, List, [], ◌∷◌, ◌++◌, map, length, Contains, subst, arith, length-append}
 use Rattle.std.specs.List.{AllByRecursion}
 use Rattle.std.proofs.lemmas.List.Elements.{All-contains}
 use Rattle.mine_model.specs.declared.item.Item.{Item}
@@ -8,10 +8,10 @@ use Rattle.mine_model.specs.Hierarchy.{Link}
 use Rattle.mine_model.specs.Expression.{Tree, tree_by, named_in}
 use Rattle.mine_model.specs.Grammar.{Use}
 use Rattle.mine_model.specs.Support.{Sequence}
-use Rattle.mine_model.specs.Answer.{Data, NamedRow, Rises, IsAnswer, IsFrequent}
+use Rattle.mine_model.specs.Answer.{Data, Rises, IsAnswer, IsFrequent}
 use Rattle.mine_model.specs.Names.{name_of, HasName, AreDistinct, named_row, sequence_by}
 use Rattle.mine_model.specs.Ancestry.{Ancestry}
-use Rattle.mine_model.specs.Refusal.{links_of, sequences_of}
+use Rattle.mine_model.specs.Refusal.{links_of}
 use Rattle.mine_model.proofs.ListLemmas.{Contains-first, Contains-other}
 use Rattle.mine_model.specs.declared.mined.Work.{Work}
 use Rattle.mine_model.specs.Counted.{HasPairs}

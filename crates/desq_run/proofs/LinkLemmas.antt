@@ -1,6 +1,6 @@
 -- Items by the numbers of names under the links of a hierarchy file.
-use Rattle.std.proofs.Common.{◌≡◌, ◌⊎◌, inl, inr, ℕ, ◌+◌, ◌<◌, ◌≤◌, ◌↔◌, Bool, true, false, List, [], ◌∷◌, ◌++◌, map, length, All, Contains, refl, sym, ap, ◌∙◌, subst, arith, suc, zero, length-append, nat_lt}
-use Rattle.std.specs.List.{AllByRecursion, flat_map, slice_index_or}
+use Rattle.std.proofs.Common.{◌≡◌, ◌⊎◌, inl, inr, ℕ, ◌+◌, ◌<◌, List, [], ◌∷◌, ◌++◌, length, All, Contains, refl, sym, ap, ◌∙◌, subst, arith, suc, zero, length-append}
+use Rattle.std.specs.List.{slice_index_or}
 use Rattle.std.proofs.lemmas.List.Elements.{All-contains}
 use Rattle.mine_model.specs.declared.item.Item.{Item}
 use Rattle.mine_model.specs.Hierarchy.{Link, PlacedLink, IsWalk, IsAncestor}
@@ -8,7 +8,7 @@ use Rattle.mine_model.specs.Text.{lines_of, fields_of}
 use Rattle.mine_model.specs.Names.{name_of, HasName, AreDistinct}
 use Rattle.mine_model.specs.Ancestry.{Ancestry}
 use Rattle.mine_model.specs.Refusal.{names_of, links_of_line, links_from, placed_links_of, links_of}
-use Rattle.mine_model.proofs.ListLemmas.{Contains-cases, Contains-first, Contains-other, Contains-none, Contains-by, Contains-from}
+use Rattle.mine_model.proofs.ListLemmas.{Contains-cases, Contains-first, Contains-other, Contains-none, Contains-from}
 use Rattle.mine_model.proofs.AncestryLemmas.{Item-same}
 use Rattle.mine_model.proofs.NumberingLemmas.{Renames}
 use Rattle.desq_run.specs.Inputs.{IsHierarchyOf}

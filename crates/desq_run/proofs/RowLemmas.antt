@@ -1,7 +1,6 @@
 -- The rows that were found, in order, and what they say of the input.
-use Rattle.std.proofs.Common.{◌≡◌, ◌≢◌, ◌⊎◌, inl, inr, ◌↔◌, ℕ, ◌<◌, ◌≤◌, List, [], ◌∷◌, ◌++◌, map, length, take, drop, All, Option, Some, None, IfSome, IsPermutation, Contains, sym, ap, ◌∙◌, subst, arith, Result, Ok, Err, IfOk}
+use Rattle.std.proofs.Common.{◌≡◌, ◌↔◌, ℕ, ◌<◌, ◌≤◌, List, ◌++◌, map, length, All, Option, Some, None, IfSome, IsPermutation, Contains, sym, ap, ◌∙◌, subst, Result, Ok, Err, IfOk}
 use Rattle.std.specs.List.{AllByRecursion}
-use Rattle.std.proofs.lemmas.List.{drop_all, take_all, append-nil}
 use Rattle.std.proofs.lemmas.List.Elements.{All-from_recursion}
 use Rattle.std.proofs.lemmas.List.Sorted.{Contains-permutation, IsPermutation-sym}
 use Rattle.mine_model.specs.declared.item.Item.{Item}
@@ -12,14 +11,14 @@ use Rattle.mine_model.specs.Grammar.{Use, ReadsAs}
 use Rattle.mine_model.specs.Support.{Sequence}
 use Rattle.mine_model.specs.Answer.{IsFrequent, Rises}
 use Rattle.mine_model.specs.Numbered.{AreFrequent}
-use Rattle.mine_model.specs.Names.{name_of, HasName, AreDistinct, named_row}
+use Rattle.mine_model.specs.Names.{HasName, AreDistinct, named_row}
 use Rattle.mine_model.specs.Ancestry.{Ancestry}
 use Rattle.mine_model.specs.Refusal.{IsUnknown}
 use Rattle.command_line.specs.Words.{Command}
 use Rattle.mine_model.specs.declared.mined.Work.{Work}
 use Rattle.command_line.specs.declared.words.Engine.{Engine}
 use Rattle.desq_run.specs.PartitionWork.{IsBytewiseBefore, IsNamedBefore}
-use Rattle.desq_run.specs.Ends.{Input, IsInput, bytes_named, data_of, HasExpression, IsWorkOf}
+use Rattle.desq_run.specs.Ends.{bytes_named, data_of, HasExpression, IsWorkOf}
 use Rattle.desq_run.specs.Inputs.{IsHierarchyOf, IsDatabaseOf, AreLinksWithin, AreInputs, AreRows, AreOrdered, IsMined}
 use Rattle.desq_run.proofs.HierarchyLemmas.{all-of}
 use Rattle.desq_run.proofs.EndLemmas.{same_command, read_at, found_at, reads_at, nothing-refused}

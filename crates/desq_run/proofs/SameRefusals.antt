@@ -1,16 +1,12 @@
 -- A refusal stays the same where names are listed otherwise.
-use Rattle.std.proofs.Common.{◌≡◌, ◌⊎◌, inl, inr, ◌↔◌, ℕ, ◌+◌, ◌<◌, Bool, List, [], ◌∷◌, ◌++◌, length, All, AllPairs, Contains}
-use Rattle.std.specs.List.{AllByRecursion}
+use Rattle.std.proofs.Common.{inl, inr, ◌↔◌, ℕ, Bool, List, [], ◌∷◌, ◌++◌, Contains}
 use Rattle.std.proofs.lemmas.List.Elements.{All-weaker}
-use Rattle.mine_model.specs.declared.fault.Fault.{Fault}
-use Rattle.mine_model.specs.declared.fault.Fault.TheVariants.{TooManyItems, Unknown}
 use Rattle.mine_model.specs.declared.fault.Which.TheVariants.{Sequences}
 use Rattle.mine_model.specs.Limits.{most_items}
 use Rattle.mine_model.specs.Text.{lines_of}
 use Rattle.mine_model.specs.Grammar.{Use}
 use Rattle.mine_model.specs.First.{FirstOf, FirstAmong}
-use Rattle.mine_model.specs.Refusal.{IsTooLarge, IsTextRefusal, HasMoreNames, IsSequenceLineRefusal, IsSequencesRefusal, IsUnknown, sequences_of_lines, items_of}
-use Rattle.mine_model.proofs.ListLemmas.{Contains-first, Contains-other}
+use Rattle.mine_model.specs.Refusal.{IsTooLarge, HasMoreNames, IsSequenceLineRefusal, IsSequencesRefusal, IsUnknown, sequences_of_lines, items_of}
 use Rattle.desq_run.proofs.LinkLemmas.{Contains-both, Contains-front, Contains-back}
 
 -- both hold the same elements

@@ -1,15 +1,13 @@
 -- Of each file at most one refusal comes first.
-use Rattle.std.proofs.Common.{◌≡◌, ◌⊎◌, inl, inr, ℕ, ◌+◌, ◌-◌, ◌<◌, ◌≤◌, Bool, true, false, cond, List, [], ◌∷◌, ◌++◌, length, Contains, refl, sym, ap, ◌∙◌, subst, arith, suc, zero, true≢false}
+use Rattle.std.proofs.Common.{◌≡◌, inl, inr, ℕ, ◌+◌, ◌-◌, ◌<◌, ◌≤◌, Bool, true, false, cond, List, [], ◌∷◌, ◌++◌, length, Contains, refl, sym, ap, ◌∙◌, subst, arith, suc, zero}
 use Rattle.std.specs.List.{slice_index_or}
-use Rattle.std.proofs.lemmas.Bool.{cases_order, cases_Bool}
-use Rattle.mine_model.specs.declared.fault.Fault.{Fault}
+use Rattle.std.proofs.lemmas.Bool.{cases_order}
 use Rattle.mine_model.specs.declared.fault.Fault.TheVariants.{BadByte, NameTooLong, Cycle, BadWeight}
 use Rattle.mine_model.specs.declared.fault.Which.{Which}
 use Rattle.mine_model.specs.declared.fault.Which.TheVariants.{Hierarchy, Sequences}
-use Rattle.mine_model.specs.Limits.{most_name_bytes}
 use Rattle.mine_model.specs.Hierarchy.{PlacedLink, IsCycleLine}
 use Rattle.mine_model.specs.Text.{is_name_byte, is_bad_byte, pieces_by_blank, onto_first, Field, fields_from, lines_of, TextFault, bad_byte, long_name, HasTextFault, IsFirstTextFault}
-use Rattle.mine_model.specs.First.{FirstOf, FirstAmong}
+use Rattle.mine_model.specs.First.{FirstAmong}
 use Rattle.mine_model.specs.Refusal.{IsTextRefusal, IsHierarchyLineRefusal, IsHierarchyRefusal, IsBadWeight, IsSequenceLineRefusal, IsSequencesRefusal, placed_links_of}
 use Rattle.mine_model.proofs.ListLemmas.{Contains-cases, Contains-other, Contains-none}
 use Rattle.mine_model.proofs.FirstLemmas.{AtMostOne, FirstOf-unique, FirstAmong-unique}

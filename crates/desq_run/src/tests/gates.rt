@@ -178,3 +178,23 @@ fn a_second_worker_steals_while_the_first_is_held(rt: HostRuntime) -> Result<(),
     );
     Ok(())
 }
+
+const SIMULATED: &[&[&str]] = &[
+    &["--support=2", "--simulate=7", "(.)[(.)|.]", "f"],
+    &[
+        "--support=2",
+        "--engine=pivot",
+        "--simulate=7",
+        "(.)[(.)|.]",
+        "f",
+    ],
+];
+
+#[test]
+fn a_simulated_search_passes_no_gate(rt: HostRuntime) -> Result<(), Fail> {
+    let (lines, rows) = shared(rt.alloc())?;
+    for words in SIMULATED {
+        assert!(rt; is_shared(&rt, rt.alloc(), words, lines.as_str(), rows.as_str(), 0, 0)?);
+    }
+    Ok(())
+}

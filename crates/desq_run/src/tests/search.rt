@@ -86,7 +86,6 @@ fn any_number_of_workers_gives_the_same_answer(rt: HostRuntime) -> Result<(), Fa
     Ok(())
 }
 
-// Without a named engine, the search is a whole one.
 const SIMULATED: &[&str] = &[
     "--support=2",
     "--support=2 --simulate=7",
@@ -185,12 +184,17 @@ const GROWN: &[Grown] = &[
     ),
 ];
 
-/// Whether both searches, by workers that steal and simulated, find what they should.
+/// Whether both searches, by workers that steal and simulated, find what they should. Without a named engine
+/// the search is a whole one.
 fn grows<R: Threads + Wait + Sync>(rt: &R, alloc: Global, grown: &Grown) -> Result<bool, Fail> {
     let (data, support, out, whole, split) = grown;
-    for (engine, work) in [("dfs", whole), ("pivot", split)] {
+    for (engine, work) in [
+        ("", whole),
+        (" --engine=dfs", whole),
+        (" --engine=pivot", split),
+    ] {
         for more in ["", " --simulate=3"] {
-            let words = format!(in alloc; "--support={support} --engine={engine}{more}")?;
+            let words = format!(in alloc; "--support={support}{engine}{more}")?;
             if !finds(rt, alloc, data, words.as_str(), out, work)? {
                 return Ok(false);
             }
@@ -221,7 +225,8 @@ const ALL_EMPTY: Data = Data {
 
 // Patterns that are all empty; a pivot that no sequence holds, as it is written for what stands below it;
 // frequent items, in sequences of which few have the pivot; sequences that weigh just enough for a part, and
-// too little; a pivot whose sequences have patterns with a smaller one, too.
+// too little; a pivot whose sequences have patterns with a smaller one, too; items of which fewer lines hold
+// the one that weighs more.
 const SPLIT: &[(Data, &str, &str, &str)] = &[
     (ALL_EMPTY, "--support=1", "", "nodes 0 parts 0"),
     (CLIMBING, "--support=2", "2\tk c\n", "nodes 3 parts 1"),
@@ -260,6 +265,12 @@ const SPLIT: &[(Data, &str, &str, &str)] = &[
         "--weighted --support=6",
         "9\ta\n",
         "nodes 2 parts 1",
+    ),
+    (
+        flat!("(a)[(b)|.]", "9 b\n1 a\n1 a\n1 a b\n"),
+        "--weighted --support=1",
+        "1\ta\n1\ta b\n",
+        "nodes 3 parts 1",
     ),
 ];
 

@@ -1,9 +1,9 @@
-use Rattle.std.proofs.Common.{rules, ◌≡◌, refl, map, Err, List, ℕ, string_bytes}
+use Rattle.std.proofs.Common.{rules, ◌≡◌, refl, map, Err, string_bytes}
 use Rattle.mine_model.specs.declared.fault.Fault.TheVariants.{NoMemory}
 use Rattle.mine_model.specs.Names.{named_row}
 use Rattle.mine_model.specs.AnswerText.{text_of}
 use Rattle.command_line.specs.Commands.{command_said}
-use Rattle.desq_run.specs.Ends.{IsWork, Ends, done, no_command, write_fault, no_memory}
+use Rattle.desq_run.specs.Ends.{IsWork, done, no_command, write_fault, no_memory}
 use Rattle.desq_run.proofs.RowLemmas.{is-work}
 use Rattle.desq_run.proofs.attempts.attempt.Goals as goal
 

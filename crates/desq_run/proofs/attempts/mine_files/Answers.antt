@@ -1,7 +1,6 @@
-use Rattle.std.proofs.Common.{rules, ◌≡◌, ◌⊎◌, inl, inr, ◌∙◌, refl, sym, ap, subst, map, Err, arith, List, ℕ}
-use Rattle.text_ports.specs.Faults.{Rose}
+use Rattle.std.proofs.Common.{rules, ◌≡◌, inl, inr, refl, sym, subst, map, Err, arith, List}
 use Rattle.mine_model.specs.declared.fault.Fault.{Fault}
-use Rattle.mine_model.specs.declared.fault.Fault.TheVariants.{Read, Write, NoMemory}
+use Rattle.mine_model.specs.declared.fault.Fault.TheVariants.{Read, Write}
 use Rattle.mine_model.specs.Expression.{Tree, tree_by, named_in}
 use Rattle.mine_model.specs.Numbered.{tree_of}
 use Rattle.mine_model.specs.Grammar.{Use}

@@ -1,4 +1,4 @@
-use Rattle.std.proofs.Common.{◌≡◌, refl, Some, IsSome, string_bytes}
+use Rattle.std.proofs.Common.{refl, Some, IsSome, string_bytes}
 use Rattle.text_ports.specs.Faults.{Rose}
 use Rattle.desq_run.proofs.FailLemmas.{all-named}
 use Rattle.desq_run.proofs.inputs.read_hierarchy.Goals as goal

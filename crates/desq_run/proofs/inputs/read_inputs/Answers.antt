@@ -1,10 +1,10 @@
-use Rattle.std.proofs.Common.{rules, ◌≡◌, ◌∙◌, sym, subst, Err, IfSome, string_bytes}
+use Rattle.std.proofs.Common.{rules, ◌≡◌, Err, IfSome, string_bytes}
 use Rattle.text_ports.specs.Faults.{Rose}
 use Rattle.mine_model.specs.declared.fault.Fault.TheVariants.{Read, Write, NoMemory}
 use Rattle.mine_model.specs.declared.fault.Which.TheVariants.{Hierarchy, Sequences}
 use Rattle.mine_model.specs.Refusal.{IsHierarchyRefusal, IsSequencesRefusal}
 use Rattle.command_line.specs.Commands.{command_said}
-use Rattle.desq_run.specs.Ends.{Ends, no_memory, bytes_named}
+use Rattle.desq_run.specs.Ends.{no_memory, bytes_named}
 use Rattle.desq_run.specs.Inputs.{IsDatabaseOf, FailsBy}
 use Rattle.desq_run.proofs.FailLemmas.{hierarchy-ends, sequences-ends, read-faulty, no-write, Rose-later}
 use Rattle.desq_run.proofs.inputs.read_inputs.Goals as goal

@@ -1,6 +1,6 @@
-use Rattle.std.proofs.Common.{◌≡◌, ap, ◌∙◌, sym, subst, Err, List, ℕ, IfSome, length}
+use Rattle.std.proofs.Common.{ap, ◌∙◌, subst, Err, length}
 use Rattle.text_ports.specs.Faults.{Rose}
-use Rattle.item_hierarchy.specs.Edges.{AreWithin, IsCloseRefusal, Closes}
+use Rattle.item_hierarchy.specs.Edges.{IsCloseRefusal, Closes}
 use Rattle.desq_run.proofs.FailLemmas.{rows-fail, close-fail}
 use Rattle.desq_run.proofs.ReadLemmas.{told-hierarchy, told-refusal}
 use Rattle.desq_run.proofs.inputs.read_named.Goals as goal

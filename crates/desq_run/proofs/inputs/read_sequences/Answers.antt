@@ -1,4 +1,4 @@
-use Rattle.std.proofs.Common.{◌≡◌, ap, ◌∙◌, Err}
+use Rattle.std.proofs.Common.{ap, ◌∙◌, Err}
 use Rattle.text_ports.specs.Faults.{Rose}
 use Rattle.desq_run.proofs.FailLemmas.{sequences-fail}
 use Rattle.desq_run.proofs.ReadLemmas.{database-of}

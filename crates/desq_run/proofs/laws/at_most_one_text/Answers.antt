@@ -1,7 +1,5 @@
-use Rattle.std.proofs.Common.{◌≡◌, ◌∙◌, sym, ap, subst, List}
-use Rattle.mine_model.specs.Expression.{Tree}
-use Rattle.mine_model.specs.Grammar.{Use}
-use Rattle.mine_model.specs.Answer.{NamedRow, IsAnswer}
+use Rattle.std.proofs.Common.{◌≡◌, ◌∙◌, sym, ap, subst}
+use Rattle.mine_model.specs.Answer.{IsAnswer}
 use Rattle.mine_model.specs.AnswerText.{text_of}
 use Rattle.mine_model.proofs.AnswerLemmas.{IsAnswer-unique}
 use Rattle.mine_model.proofs.RefusalLemmas.{ReadsAs-unique}

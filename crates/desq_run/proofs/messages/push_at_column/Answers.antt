@@ -1,4 +1,4 @@
-use Rattle.std.proofs.Common.{◌≡◌, ◌++◌, refl, append_assoc}
+use Rattle.std.proofs.Common.{refl, append_assoc}
 use Rattle.desq_run.proofs.messages.push_at_column.Goals as goal
 
 pub returns-clause-text : goal.returns-clause-text

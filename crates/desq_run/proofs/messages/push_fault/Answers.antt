@@ -1,4 +1,4 @@
-use Rattle.std.proofs.Common.{◌≡◌, ◌++◌, refl, append_assoc}
+use Rattle.std.proofs.Common.{refl, append_assoc}
 use Rattle.desq_run.proofs.messages.push_fault.Goals as goal
 
 pub returns-in-BadWeight-clause-text : goal.returns-in-BadWeight-clause-text

@@ -1,7 +1,5 @@
-use Rattle.std.proofs.Common.{◌≡◌, ◌∙◌, sym, ap, subst, length, All}
-use Rattle.std.specs.List.{AllByRecursion}
+use Rattle.std.proofs.Common.{◌∙◌, sym, ap, subst, length, All}
 use Rattle.std.proofs.lemmas.List.Sorted.{All-permutation}
-use Rattle.mine_model.specs.declared.item.Item.{Item}
 use Rattle.mine_model.specs.declared.row.Row.{Row}
 use Rattle.mine_model.specs.Numbered.{tree_of, AreFrequent}
 use Rattle.mine_model.specs.Names.{HasName}

@@ -1,7 +1,4 @@
-use Rattle.std.proofs.Common.{◌≡◌, ◌⊎◌, inl, inr, ◌∙◌, sym, map, List, ℕ, Option, string_bytes, IfSome}
-use Rattle.text_ports.specs.Faults.{Rose}
-use Rattle.mine_model.specs.Status.{fault_status}
-use Rattle.desq_run.specs.Ends.{Input, IsInput, IsAccepted, IsAnswerText}
+use Rattle.std.proofs.Common.{inl, inr, ◌∙◌, sym, map, string_bytes}
 use Rattle.desq_run.proofs.EndLemmas.{usage-ended, ended-usage, ended-expression, refusal-ended, ended-refusal, ended-accepted, accepted-ended, if-done, if-unread, if-unwritten}
 use Rattle.desq_run.proofs.running.run.Goals as goal
 
