@@ -114,11 +114,7 @@ impl<'a> Search<'a> {
     }
 
     /// The same search, whose pivots are looked for in this thread.
-    pub(crate) fn alone(
-        alloc: Global,
-        job: &'a Job,
-        is_split: bool,
-    ) -> Result<Search<'a>, NoMemory>
+    pub(crate) fn alone(alloc: Global, job: &'a Job, is_split: bool) -> Result<Search<'a>, NoMemory>
         ensures problem { IfOk result (λ search. search.problem ≡ job.now) }
         ensures pivots { IfOk result (λ search.
             ArePivotsFor is_split (data_of job.now) job.now.ranking.order search.pivots) }
