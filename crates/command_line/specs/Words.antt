@@ -68,8 +68,8 @@ pub record GivesMode (found : List Row) (engine : Engine) (seed : Option ℕ) : 
   pub given : GivesSeed found seed
   pub suits : Suits engine seed
 
--- the rules beyond clap's, a line each: each number is in its range, the engine is one that there is, without a
--- seed where it counts, FILE is there
+-- the rules beyond clap's, a line each: each number is in its range, the engine is one that there is, without
+-- a seed where it counts, FILE is there
 pub record KeepsRules (found : List Row) : Type 0 where
   pub support : (n : ℕ) × GivesSupport found n
   pub mode : (engine : Engine) × (seed : Option ℕ) × GivesMode found engine seed

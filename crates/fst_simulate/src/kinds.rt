@@ -174,7 +174,8 @@ fn alike(
     hint: usize,
 ) -> Option<u32>
     requires kinds { AreKinds job.now bound tables.now.classes kinds.now }
-    requires kind { IsKind job.now bound tables.now.classes kinds.now.ends.items kinds.now.ranks.items t kind }
+    requires kind { IsKind job.now bound tables.now.classes
+        kinds.now.ends.items kinds.now.ranks.items t kind }
     ensures { IfSome result (HasKind job.now bound tables.now.classes kinds.now t) }
 {
     let _tables = tables;

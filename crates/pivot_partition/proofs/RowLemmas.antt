@@ -34,8 +34,8 @@ module _ (Says : ℕ → ℕ → Type 0) where
   abbrev pub IsWrittenSoFar : List ℕ → ℕ → Type 0
   IsWrittenSoFar row count = (state p : ℕ) → 1 ≤ state → state < count → p < no_rank → slice_index row state ≤ p ↔ Says state p
 
-  pub written-none : (row : List ℕ) → IsWrittenSoFar row 1
-  written-none row = λ state p least less below. absurd (omega (arith, least, less))
+  pub written-none : (tops : List ℕ) → IsWrittenSoFar tops 1
+  written-none tops = λ state p least less below. absurd (omega (arith, least, less))
 
   pub written-more : (row : List ℕ) (count top : ℕ) → count < length row → ((p : ℕ) → p < no_rank → top ≤ p ↔ Says count p) → IsWrittenSoFar row count → IsWrittenSoFar (set row count top) (count + 1)
   written-more row count top inside says each = λ state p least less below. elim (cases_eq state count) [

@@ -135,7 +135,8 @@ fn push_seed(
     seeds: &mut Vec<PartSeed>,
 ) -> Result<(), NoMemory>
     ensures enough { OnOk result (IsTrue is_enough → (seed : Seed)
-        × (seeds.new.items ≡ seeds.old.items ++ seed ∷ []) × (seed.pivot ≡ Some place) × (seed.sequences.items ≡ sequences.items)) }
+        × (seeds.new.items ≡ seeds.old.items ++ seed ∷ [])
+        × (seed.pivot ≡ Some place) × (seed.sequences.items ≡ sequences.items)) }
     ensures less { OnOk result (is_enough ≡ false → seeds.new.items ≡ seeds.old.items) }
 {
     if is_enough {

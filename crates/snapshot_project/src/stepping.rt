@@ -92,7 +92,8 @@ fn write<'p, const W: usize>(
     ensures hits { OnOk result ((hit : Found) → Contains (hits_of aim spans.new.items) hit
         ↔ (Contains (hits_of aim spans.old.items) hit ⊎ IsWritten reading.now targets.now aim position hit)) }
     ensures order { OnOk result ((before : ℕ) → before < position
-        → AreInOrder before (hits_of aim spans.old.items) → AreInOrder position (hits_of aim spans.new.items)) }
+        → AreInOrder before (hits_of aim spans.old.items)
+        → AreInOrder position (hits_of aim spans.new.items)) }
 {
     let mut writers = *targets;
     writers.intersect_with_words(reading.writing);
