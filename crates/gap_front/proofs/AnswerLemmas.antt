@@ -14,33 +14,47 @@ use Rattle.gap_front.proofs.EmbeddingLemmas.{exactly}
 back_and_forth : {P Q : Type 0} → P ↔ Q → Q ↔ P
 back_and_forth same = (same.1, same.0)
 
-module _ {A : Type 0} (rule : GapRule) (links : List (Link A)) (sequences : List (Sequence A)) (threshold : ℕ) (least : 1 ≤ rule.min_length) (some : 1 ≤ rule.max_length) where
-  pub same_rows : (pattern : List A) (n : ℕ) → IsFrequent (data_of_rule links rule sequences threshold) pattern n ↔ IsFrequentlyEmbedded links rule sequences threshold pattern n
+module _ {A : Type 0} (rule : GapRule) (links : List (Link A)) (sequences : List (Sequence A)) (threshold : ℕ)
+    (least : 1 ≤ rule.min_length) (some : 1 ≤ rule.max_length) where
+  abbrev IsGenerated : List A → List A → Type 0
+  IsGenerated pattern items = IsPatternOf links (tree_of_rule rule) items pattern
+
+  abbrev IsEmbedded : List A → List A → Type 0
+  IsEmbedded pattern items = HasEmbedding links rule items pattern
+
+  pub same_rows : (pattern : List A) (n : ℕ)
+      → IsFrequent (data_of_rule links rule sequences threshold) pattern n
+      ↔ IsFrequentlyEmbedded links rule sequences threshold pattern n
   same_rows pattern n = (
     λ f. record {
       not_empty = f.not_empty;
-      exact = Counts-by (λ items. IsPatternOf links (tree_of_rule rule) items pattern) (λ items. HasEmbedding links rule items pattern) (λ items. exactly rule links least some items pattern) sequences n f.exact;
+      exact = Counts-by (IsGenerated pattern) (IsEmbedded pattern)
+          (λ items. exactly rule links least some items pattern) sequences n f.exact;
       enough = f.enough;
     },
     λ f. record {
       not_empty = f.not_empty;
-      exact = Counts-by (λ items. HasEmbedding links rule items pattern) (λ items. IsPatternOf links (tree_of_rule rule) items pattern) (λ items. back_and_forth (exactly rule links least some items pattern)) sequences n f.exact;
+      exact = Counts-by (IsEmbedded pattern) (IsGenerated pattern)
+          (λ items. back_and_forth (exactly rule links least some items pattern)) sequences n f.exact;
       enough = f.enough;
     },
   )
 
-pub same_answers : (rule : GapRule) (links : List (Link (List ℕ))) (sequences : List (Sequence (List ℕ))) (threshold : ℕ) (answer : List NamedRow)
-    → 1 ≤ rule.min_length → 1 ≤ rule.max_length
-    → IsAnswer (data_of_rule links rule sequences threshold) answer ↔ IsEmbeddedAnswer links rule sequences threshold answer
+pub same_answers : (rule : GapRule) (links : List (Link (List ℕ))) (sequences : List (Sequence (List ℕ)))
+    (threshold : ℕ) (answer : List NamedRow) → 1 ≤ rule.min_length → 1 ≤ rule.max_length
+    → IsAnswer (data_of_rule links rule sequences threshold) answer
+    ↔ IsEmbeddedAnswer links rule sequences threshold answer
 same_answers rule links sequences threshold answer least some = (
   λ a. record {
     ordered = a.ordered;
-    frequent = λ row. let same = same_rows rule links sequences threshold least some row.pattern row.support in
+    frequent = λ row.
+        let same = same_rows rule links sequences threshold least some row.pattern row.support in
         (λ c. same.0 ((a.frequent row).0 c), λ f. (a.frequent row).1 (same.1 f));
   },
   λ a. record {
     ordered = a.ordered;
-    frequent = λ row. let same = same_rows rule links sequences threshold least some row.pattern row.support in
+    frequent = λ row.
+        let same = same_rows rule links sequences threshold least some row.pattern row.support in
         (λ c. same.1 ((a.frequent row).0 c), λ f. (a.frequent row).1 (same.0 f));
   },
 )
@@ -60,12 +74,16 @@ item-names A true = refl
 pub names-none : (A : Type 0) (rule : GapRule) → named_in (tree_of_rule {A = A} rule) ≡ []
 names-none A rule = ap (λ l. l ++ l ++ []) (item-names A rule.generalize)
 
-item-renamed : {A B : Type 0} (f : A → B) (generalize : Bool) → tree_by f (one_item generalize) ≡ one_item generalize
+item-renamed : {A B : Type 0} (f : A → B) (generalize : Bool)
+    → tree_by f (one_item generalize) ≡ one_item generalize
 item-renamed f false = refl
 item-renamed f true = refl
 
-pub tree-renamed : {A B : Type 0} (f : A → B) (rule : GapRule) → tree_by f (tree_of_rule rule) ≡ tree_of_rule rule
+pub tree-renamed : {A B : Type 0} (f : A → B) (rule : GapRule)
+    → tree_by f (tree_of_rule rule) ≡ tree_of_rule rule
 tree-renamed {A} {B} f rule =
-    let item : tree_by f (one_item rule.generalize) ≡ one_item rule.generalize = item-renamed f rule.generalize in
+    let item : tree_by f (one_item rule.generalize) ≡ one_item rule.generalize =
+    item-renamed f rule.generalize in
     ap (λ (x : Tree B). cat (cat (cat (anything None) x)
-    (rep (cat (anything (Some rule.max_gap)) x) (rule.min_length - 1) (Some (rule.max_length - 1)))) (anything None)) item
+    (rep (cat (anything (Some rule.max_gap)) x) (rule.min_length - 1) (Some (rule.max_length - 1))))
+    (anything None)) item

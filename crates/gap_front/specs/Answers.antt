@@ -1,5 +1,5 @@
--- The answer of a run under length and gap constraints, by embeddings alone. Support is that of the field, with
--- weights.
+-- The answer of a run under length and gap constraints, by embeddings alone. Support is that of the field,
+-- with weights.
 use Rattle.std.specs.Prelude.{◌≢◌, ℕ, ◌≤◌, ◌↔◌, List, [], Contains}
 use Rattle.mine_model.specs.Hierarchy.{Link}
 use Rattle.mine_model.specs.Support.{Sequence, Counts}
@@ -8,20 +8,21 @@ use Rattle.gap_front.specs.declared.rule.GapRule.{GapRule}
 use Rattle.gap_front.specs.Embedding.{HasEmbedding, tree_of_rule}
 
 -- n is the sum of the weights of the sequences in which the pattern is embedded
-abbrev pub HasEmbeddedSupport : {A : Type 0} → List (Link A) → GapRule → List (Sequence A) → List A → ℕ → Type 0
+abbrev pub HasEmbeddedSupport : {A : Type 0} → List (Link A) → GapRule → List (Sequence A) → List A → ℕ
+    → Type 0
 HasEmbeddedSupport links rule sequences pattern n =
     Counts (λ items. HasEmbedding links rule items pattern) sequences n
 
 -- a pattern with the support by its embeddings, which reaches the threshold
-pub record IsFrequentlyEmbedded {A : Type 0} (links : List (Link A)) (rule : GapRule) (sequences : List (Sequence A))
-    (threshold : ℕ) (pattern : List A) (support : ℕ) : Type 0 where
+pub record IsFrequentlyEmbedded {A : Type 0} (links : List (Link A)) (rule : GapRule)
+    (sequences : List (Sequence A)) (threshold : ℕ) (pattern : List A) (support : ℕ) : Type 0 where
   pub not_empty : pattern ≢ []
   pub exact : HasEmbeddedSupport links rule sequences pattern support
   pub enough : threshold ≤ support
 
 -- the rows are exactly the patterns that are frequently embedded, each once, in order
-pub record IsEmbeddedAnswer (links : List (Link (List ℕ))) (rule : GapRule) (sequences : List (Sequence (List ℕ)))
-    (threshold : ℕ) (answer : List NamedRow) : Type 0 where
+pub record IsEmbeddedAnswer (links : List (Link (List ℕ))) (rule : GapRule)
+    (sequences : List (Sequence (List ℕ))) (threshold : ℕ) (answer : List NamedRow) : Type 0 where
   pub ordered : Rises answer
   pub frequent : (row : NamedRow) → Contains answer row
       ↔ IsFrequentlyEmbedded links rule sequences threshold row.pattern row.support

@@ -1,5 +1,5 @@
--- Length and gap constraints by positions, and the expression that says the same. The constraints are those of
--- gap-constrained sequence mining; the ranges and the expression are this program's own.
+-- Length and gap constraints by positions, and the expression that says the same. The constraints are those
+-- of gap-constrained sequence mining; the ranges and the expression are this program's own.
 use Rattle.std.specs.Prelude.{◌≡◌, ℕ, ◌+◌, ◌-◌, ◌*◌, ◌≤◌, ◌<◌, Bool, true, false, Option, Some, None, List, [], ◌∷◌, length}
 use Rattle.std.specs.List.{slice_get}
 use Rattle.mine_model.specs.Hierarchy.{Link, IsAncestor}
@@ -23,8 +23,8 @@ pub record IsRule (rule : GapRule) : Type 0 where
 
 -- Embeddings: positions alone
 
--- an item of the sequence stands for an item of a pattern: it is that item, or, where items are generalised, that
--- item stands above it; each item stands above itself
+-- an item t of the sequence stands for an item v of a pattern: v is t or, where items are generalised, stands
+-- above t
 abbrev pub StandsFor : {A : Type 0} → List (Link A) → Bool → A → A → Type 0
 StandsFor links false t v = v ≡ t
 StandsFor links true t v = IsAncestor links v t

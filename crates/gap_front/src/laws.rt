@@ -17,11 +17,12 @@ ghost use Rattle.gap_front.specs.declared.rule.GapRule.{GapRule};
 pub fn tree_generates_exactly_the_embedded()
     ensures { (rule : GapRule) (links : List (Link (List ℕ))) (sequence pattern : List (List ℕ))
         → 1 ≤ rule.min_length → 1 ≤ rule.max_length
-        → (IsPatternOf links (tree_of_rule rule) sequence pattern ↔ HasEmbedding links rule sequence pattern) }
+        → (IsPatternOf links (tree_of_rule rule) sequence pattern
+        ↔ HasEmbedding links rule sequence pattern) }
 {}
 
-/// An answer to the expression of a rule is an answer by embeddings, and the other way round, for lengths from
-/// 1 on.
+/// An answer to the expression of a rule is an answer by embeddings, and the other way round, for lengths
+/// from 1 on.
 pub fn answer_is_that_of_the_embeddings()
     ensures { (rule : GapRule) (links : List (Link (List ℕ))) (sequences : List (Sequence (List ℕ)))
         (threshold : ℕ) (answer : List NamedRow) → 1 ≤ rule.min_length → 1 ≤ rule.max_length

@@ -9,7 +9,8 @@ use Rattle.gap_front.proofs.rule.expression.Goals as goal
 
 pub returns-clause-leaves : goal.returns-clause-leaves
 returns-clause-leaves c =
-    ap (λ (tree : Tree Item). unfolded_leaves tree) c.in_ok-expression.ensures ∙ leaves-of Item c.args.rule.now
+    ap (λ (tree : Tree Item). unfolded_leaves tree) c.in_ok-expression.ensures
+    ∙ leaves-of Item c.args.rule.now
 
 pub returns-clause-patterns : goal.returns-clause-patterns
 returns-clause-patterns c links sequence pattern =
