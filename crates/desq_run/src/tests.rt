@@ -8,6 +8,7 @@ use std::test::Fail;
 use std::thread::Threads;
 use text_ports::{MemFile, MemFiles, MemSink};
 
+mod gaps;
 mod gates;
 mod limits;
 mod outside_faults;
