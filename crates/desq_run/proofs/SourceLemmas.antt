@@ -6,6 +6,7 @@ use Rattle.mine_model.specs.Expression.{Tree, tree_by, named_in}
 use Rattle.mine_model.specs.Grammar.{Use}
 use Rattle.mine_model.specs.Answer.{NamedRow, IsAnswer}
 use Rattle.mine_model.specs.Refusal.{IsUnknown, links_of, sequences_of}
+use Rattle.mine_model.proofs.ListLemmas.{Contains-none}
 use Rattle.mine_model.proofs.AnswerLemmas.{IsAnswer-unique, Rises-unique}
 use Rattle.mine_model.proofs.RefusalLemmas.{ReadsAs-unique}
 use Rattle.gap_front.specs.declared.rule.GapRule.{GapRule}
@@ -78,6 +79,6 @@ rule-read rule file uses tree none same =
     record {
       says = ap (named_tree uses) same ∙ ap (tree_by (λ (u : Use). u.name)) (tree-renamed (use_at uses) rule) ∙ tree-renamed (λ (u : Use). u.name) rule;
       within = subst (AreWithin (length uses)) (sym names) tt;
-      used = λ u inside. absurd (subst (λ us. Contains us u) none inside);
+      used = λ u inside. absurd (Contains-none u (subst (λ us. Contains us u) none inside));
       unknown = λ known fault. ((λ no. absurd no), (λ is. absurd (subst (λ us. IsUnknown known us fault) none is)));
     }

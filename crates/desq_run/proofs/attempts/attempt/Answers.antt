@@ -59,6 +59,6 @@ returns-clause-cut g c = λ same input is_input.
     )
 
 pub mine_files-requires-clause-ranges : goal.mine_files-requires-clause-ranges
-mine_files-requires-clause-ranges g c =
+mine_files-requires-clause-ranges g c = λ _ _.
     let is = rw c.in-Some.is at c.in_ok-command.ensures in
     has-ranges (map string_bytes c.args.words.now) (command_said c.in-Some.command) is
