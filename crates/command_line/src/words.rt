@@ -210,7 +210,7 @@ fn has_no_rule(matches: &ArgMatches<'_>) -> bool
 
 /// The length of a pattern that was given for an option, or else the default. None where the value that was
 /// given is none.
-fn given_length(matches: &ArgMatches<'_>, name: &str, default: &str) -> Option<u64>
+fn given_length<'a>(matches: &ArgMatches<'a>, name: &str, default: &'a str) -> Option<u64>
     ensures { MatchOption result
         ((n : ℕ) → GivesLength (rows_of (found_of matches.now)) name.now default.now n → ⊥)
         (λ n. GivesLength (rows_of (found_of matches.now)) name.now default.now n) }
