@@ -1,29 +1,32 @@
+ghost use Rattle.std.specs.Prelude.{◌≤◌};
+ghost use Rattle.gap_front.specs.Embedding.{most_gap, most_rule_length};
+
 use super::{GapRule, expression};
 use std::test::Fail;
 
-// A rule with patterns of at least one item.
-fn rule_to(max_gap: u32, max_length: u32) -> GapRule {
-    GapRule {
+// The leaves of a rule with this greatest gap and this greatest length.
+fn leaves_of(max_gap: u32, max_length: u32) -> u64
+    requires gap { max_gap ≤ most_gap }
+    requires some { 1 ≤ max_length }
+    requires most { max_length ≤ most_rule_length }
+{
+    let rule = GapRule {
         max_gap,
         min_length: 1,
         max_length,
         generalize: false,
-    }
+    };
+    rule.leaves()
 }
 
 #[test]
 fn counts_the_leaves(rt: HostRuntime) -> Result<(), Fail> {
-    for (max_gap, max_length, leaves) in [
-        (0, 1, 3),
-        (1000, 1, 3),
-        (0, 5, 7),
-        (509, 3, 1023),
-        (145, 8, 1025),
-        (1000, 4, 3006),
-        (1000, 1000, 1_000_002),
-    ] {
-        assert_eq!(rt; rule_to(max_gap, max_length).leaves(), leaves);
-    }
+    assert_eq!(rt; leaves_of(1000, 1), 3);
+    assert_eq!(rt; leaves_of(0, 5), 7);
+    assert_eq!(rt; leaves_of(509, 3), 1023);
+    assert_eq!(rt; leaves_of(510, 3), 1025);
+    assert_eq!(rt; leaves_of(1000, 4), 3006);
+    assert_eq!(rt; leaves_of(1000, 1000), 1_000_002);
     Ok(())
 }
 
