@@ -69,13 +69,13 @@ module _ (words : List (List ℕ)) (holds : List ℕ → Option (List ℕ)) (c :
         let same : c ≡ input.command = same_command words holds c has input is in
         subst (λ (d : Command). IsAnswerTo d.source input (map (named_row (known ++ added)) rows)) same
         (answer-to c.source input (named_tree uses tree) (map (named_row (known ++ added)) rows) ranges is_read.says
-          (rows-answer input (named_tree uses tree) known added before db are.expression rows distinct
-              (read_at words holds c has known before read input is) within
-              (found_at words holds c has known before read (known ++ added) db found input is) numbered are.same are.named
-              (subst (λ (d : Command). 1 ≤ d.threshold) same some)
-              (subst (λ (d : Command). (row : Row) → Contains rows row
-              ↔ IsFrequent (record { links = before.links; sequences = db; expression = are.expression; threshold = d.threshold }) row.pattern row.support) same are.frequent)
-              are.rises));
+        (rows-answer input (named_tree uses tree) known added before db are.expression rows distinct
+        (read_at words holds c has known before read input is) within
+        (found_at words holds c has known before read (known ++ added) db found input is) numbered are.same are.named
+        (subst (λ (d : Command). 1 ≤ d.threshold) same some)
+        (subst (λ (d : Command). (row : Row) → Contains rows row
+        ↔ IsFrequent (record { links = before.links; sequences = db; expression = are.expression; threshold = d.threshold }) row.pattern row.support) same are.frequent)
+        are.rises));
     work = λ input is.
         let same : c ≡ input.command = same_command words holds c has input is in (
           named_tree uses tree,

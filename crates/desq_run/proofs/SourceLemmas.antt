@@ -66,7 +66,7 @@ parsed-read expression file uses tree parsed =
       used = λ u inside. (over_uses, parsed.reads, subst (λ us. Contains us u) (sym parsed.named) inside);
       unknown = λ known fault. (
         (λ unknown. let (other, reads, is) = unknown in
-        subst (λ us. IsUnknown known us fault) (ap named_in (ReadsAs-unique expression other over_uses reads parsed.reads) ∙ parsed.named) is),
+            subst (λ us. IsUnknown known us fault) (ap named_in (ReadsAs-unique expression other over_uses reads parsed.reads) ∙ parsed.named) is),
         (λ is. (over_uses, parsed.reads, subst (λ us. IsUnknown known us fault) (sym parsed.named) is)),
       );
     }
