@@ -2,7 +2,7 @@ use Rattle.std.proofs.Common.{map}
 use Rattle.mine_model.specs.Numbered.{tree_of}
 use Rattle.patex_parser.specs.Parsing.{use_view}
 use Rattle.desq_run.proofs.LeafCountLemmas.{parsed_leaves}
-use Rattle.desq_run.proofs.rows.read_expression.Goals as goal
+use Rattle.desq_run.proofs.sources.read_expression.Goals as goal
 
 pub returns-clause-leaves : goal.returns-clause-leaves
 returns-clause-leaves c =
