@@ -9,8 +9,8 @@ use Rattle.command_line.specs.Options.{faults, rows}
 use Rattle.command_line.specs.declared.words.Engine.{Engine}
 use Rattle.command_line.specs.declared.words.Engine.TheVariants.{Count, Dfs, Pivot}
 
--- what a run mines: the patterns of an expression in the sequences of a file, or those that are embedded in them
--- under a rule on gaps and lengths
+-- what a run mines: the patterns of an expression in the sequences of a file, or those that are embedded in
+-- them under a rule on gaps and lengths
 pub data Source : Type 0 where
   read : (expression file : Text) → Source
   embed : (rule : GapRule) → (file : Text) → Source
@@ -79,8 +79,8 @@ pub record GivesMode (found : List Row) (engine : Engine) (seed : Option ℕ) : 
 abbrev pub IsAway : List Row → Text → Type 0
 IsAway found name = first_of name found ≡ None
 
--- No word of a rule was given. Clap finds the value `false` for an option that stands alone and was not given, so
--- such an option is away where it was not given, and not where it has no value.
+-- No word of a rule was given. Clap finds the value `false` for an option that stands alone and was not
+-- given, so such an option is away where it was not given, and not where it has no value.
 pub record HasNoRule (found : List Row) : Type 0 where
   pub gap : IsAway found (codes "max-gap")
   pub least : IsAway found (codes "min-length")
@@ -91,8 +91,8 @@ pub record HasNoRule (found : List Row) : Type 0 where
 abbrev pub GivesLength : List Row → Text → Text → ℕ → Type 0
 GivesLength found name default n = IsNumber 1 most_rule_length (unwrap_or (first_of name found) default) n
 
--- this rule was given: a greatest gap, and the least and the greatest length of a pattern, 1 and 5 where none is
--- given
+-- this rule was given: a greatest gap, and the least and the greatest length of a pattern, 1 and 5 where none
+-- is given
 pub record GivesRule (found : List Row) (rule : GapRule) : Type 0 where
   pub digits : Text
   pub given : first_of (codes "max-gap") found ≡ Some digits

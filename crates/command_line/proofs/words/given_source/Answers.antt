@@ -8,11 +8,12 @@ use Rattle.command_line.proofs.words.given_source.Goals as goal
 
 pub unwrap-word-requires : goal.unwrap-word-requires
 unwrap-word-requires c =
-    shown string_bytes c.in_ok-given_text.field-0 _ c.in_ok-given_text.ensures (needed_expression (rows_of (found_of c.args.matches.now)) c.requires)
+    let there = needed_expression (rows_of (found_of c.args.matches.now)) c.requires in
+    shown string_bytes c.in_ok-given_text.field-0 _ c.in_ok-given_text.ensures there
 
 -- without FILE and with no rule there is no source
-no_source : (found : List Row) → first_of (codes "file") found ≡ None → ((rule : GapRule) → GivesRule found rule → ⊥)
-    → (source : Source) → GivesSource found source → ⊥
+no_source : (found : List Row) → first_of (codes "file") found ≡ None
+    → ((rule : GapRule) → GivesRule found rule → ⊥) → (source : Source) → GivesSource found source → ⊥
 no_source found away none (read expression file) gives = none-some file (sym away ∙ gives.1)
 no_source found away none (embed rule file) gives = none rule gives.2
 
