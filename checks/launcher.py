@@ -142,13 +142,20 @@ for number, (what, change) in enumerate([
     write(f"{top}/crates/desq_program/src/main.rt", f"after {number}")
     end = ended(begun())
     rows.hold(f"a source that is {what} builds again", end[:2] == (3, f"after {number}\n") and len(calls()) == 4, f"the end is {end}")
+
+
+def builds(name, times):
+    """A row: a run is the program's, and makes so many calls of the kit."""
+    end, made = ended(begun()), calls()
+    rows.hold(name, end[0] == 3 and len(made) == times, f"the end is {end}, the calls {made}")
+
+
 write(f"{kit}/rt", KIT + "# A newer one.\n")
-rows.hold("a new kit builds again", ended(begun())[0] == 3 and len(calls()) == 4)
-rows.hold("and once", ended(begun())[0] == 3 and not calls())
+builds("a new kit builds again", 4)
+builds("and once", 0)
 write(f"{kit}/rattle", "a checker")
-rows.hold("a new checker of the kit builds again", ended(begun())[0] == 3 and len(calls()) == 4)
+builds("a new checker of the kit builds again", 4)
 shutil.copytree(kit, f"{WORK}/kit 2")
-os.remove(f"{WORK}/kit 2/calls") if os.path.exists(f"{WORK}/kit 2/calls") else None
 end = ended(begun(path=f"{WORK}/kit 2"))
 rows.hold("a kit in another place builds again", end[0] == 3 and os.path.exists(f"{WORK}/kit 2/calls"), f"the end is {end}")
 
@@ -161,7 +168,8 @@ for crate in ("middle", "desq_program"):
               and f"desq: the program could not be built: {crate} failed" in end[2], f"the end is {end}")
     rows.hold(f"and leaves nothing behind where it fails at {crate}", is_tidy())
     os.remove(f"{kit}/fail_at_{crate}")
-    rows.hold(f"and the next run builds again after {crate} failed", ended(begun())[0] == 3)
+    calls()
+    builds(f"and the next run builds again after {crate} failed", 4)
 
 anew()
 end = ended(begun(path=None))

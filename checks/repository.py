@@ -101,7 +101,7 @@ def imports_of(text):
 
 modules = {}
 page = subprocess.run(["rt", "doc"], capture_output=True, text=True).stdout.strip()
-SPECS = {crate: f"crates/{crate}/specs" for crate in OWN_CRATES} | {"clap": f"{os.path.dirname(page)}/rattle/clap/specs"}
+SPECS = {"clap": f"{os.path.dirname(page)}/rattle/clap/specs", **{crate: f"crates/{crate}/specs" for crate in OWN_CRATES}}
 
 
 def module_of(crate, path):
@@ -235,7 +235,7 @@ for page in pages:
     if page in ("README.md", "docs/DEFINITIONS.md", "docs/ARCHITECTURE.md", "docs/DECISIONS.md"):
         mine = set(re.findall(r"[A-Za-z_][\w']*", " ".join(text_of(path) for path in files if path.startswith(("check", "desq", "build")))))
         lost += [f"the name {span}" for span in spans if re.fullmatch(r"[A-Za-z_][\w']*", span)
-                 and span not in known | mine | set(sum(listed.values(), []))]
+                 and span not in known | mine | {*listed, *sum(listed.values(), [])}]
     rows.hold(f"what {page} names is there", not lost, "\n".join(lost))
 
 # The repository stands alone: no citation by number, no absolute path.
