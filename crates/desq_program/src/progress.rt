@@ -13,11 +13,14 @@ const QUIET: u64 = 1000;
 /// Milliseconds from one line to the next, at least.
 const PAUSE: u64 = 100;
 
+/// A worker tells what it has done in each of its first rounds, so many, and then once in so many rounds.
+const ROUNDS: u64 = 64;
+
 /// Takes away the line in which the cursor stands.
 const CLEAR: &[u8] = b"\r\x1b[K";
 
-/// The gate that counts how often it is passed, and after the first second shows the count, at most ten times a
-/// second, on one line that is written over itself. Where standard error is no terminal it writes nothing.
+/// The gate that counts what the workers have done, and after the first second shows the count, at most ten times
+/// a second, on one line that is written over itself. Where standard error is no terminal it writes nothing.
 #[derive(Drop)]
 pub(crate) struct Progress<'a> {
     rt: &'a HostRuntime,
@@ -25,14 +28,15 @@ pub(crate) struct Progress<'a> {
     start: Option<Instant>,
     /// What is counted.
     what: &'static str,
-    passes: AtomicU64,
+    /// How much of it was told by the workers.
+    done: AtomicU64,
     /// Milliseconds from the start before which no more is shown.
     due: AtomicU64,
     /// 1 where a line stands on the terminal, else 0.
     stands: AtomicU64,
 }
 
-/// What a worker has done with what it had in hand at the gate.
+/// What a worker has done once more in each round.
 fn what_is_done(rt: &HostRuntime, words: &[String]) -> &'static str {
     match read_words(rt.alloc(), words) {
         Ok(Some(command)) => match command.engine {
@@ -65,7 +69,7 @@ impl<'a> Progress<'a> {
             rt,
             start,
             what,
-            passes: AtomicU64::new(0),
+            done: AtomicU64::new(0),
             due: AtomicU64::new(QUIET),
             stands: AtomicU64::new(0),
         }
@@ -91,9 +95,9 @@ impl<'a> Progress<'a> {
     }
 
     /// Writes the line over what stands there. Without memory for it, there is none.
-    fn show(&self, passes: u64) {
+    fn show(&self, done: u64) {
         let what = self.what;
-        if let Ok(line) = format!(in self.rt.alloc(); "\rdesq: {passes} {what}\x1b[K") {
+        if let Ok(line) = format!(in self.rt.alloc(); "\rdesq: {done} {what}\x1b[K") {
             self.stands.store(1, Ordering::SeqCst);
             let _ = self.rt.stderr().write(line.as_bytes());
         }
@@ -108,13 +112,26 @@ impl<'a> Progress<'a> {
 }
 
 impl<'a> Gate for Progress<'a> {
-    fn pass(&self, _worker: u32, _round: u64) {
-        if let Some(start) = self.start {
-            let passes = self.passes.fetch_add(1, Ordering::SeqCst);
+    fn pass(&self, _worker: u32, round: u64) {
+        let Some(start) = self.start else {
+            return;
+        };
+        if round <= ROUNDS || round % ROUNDS == 0 {
+            let more = rounds_since(round);
+            let before = self.done.fetch_add(more, Ordering::SeqCst);
             if self.is_due(start) {
-                self.show(passes);
+                self.show(before.saturating_add(more));
             }
         }
+    }
+}
+
+/// How many rounds a worker has done that it has not told, where it tells them at the beginning of this one.
+fn rounds_since(round: u64) -> u64 {
+    match round {
+        0 => 0,
+        1..=ROUNDS => 1,
+        _ => ROUNDS,
     }
 }
 
