@@ -77,9 +77,8 @@ def write_lines(count):
 
 
 def words_of(engine, path):
-    if engine == "count":
-        return ["--support", "1000000", "--workers", "2", "--engine", "count", ".*(.)[.{0,2}(.)]{1,3}.*", path]
-    return ["--support", "12", "--workers", "2", "--engine", engine, ".*(.)[.{0,3}(.)]{1,4}.*", path]
+    gaps = ".*(.)[.{0,2}(.)]{1,3}.*" if engine == "count" else ".*(.)[.{0,3}(.)]{1,4}.*"
+    return ["--support", "12", "--workers", "2", "--engine", engine, gaps, path]
 
 
 def text_of(pieces):
@@ -92,7 +91,7 @@ def processor_seconds():
 
 def long_run(engine, least):
     """Words of a run of so many processor seconds in which a line is seen three times, and what was seen."""
-    count = 1000
+    count = 3000
     while True:
         words = words_of(engine, write_lines(count))
         before = processor_seconds()
@@ -101,7 +100,7 @@ def long_run(engine, least):
         is_long = processor_seconds() - before >= least
         if len(LINE.findall(text_of(pieces))) >= 3 and is_long or count > 10**6 or seconds > 120:
             return words, status, pieces, seconds
-        count *= 2
+        count += count // 2
 
 
 def check_engine(engine, what, least=0):
@@ -131,10 +130,8 @@ def main():
     check_engine("count", "blocks counted")
     check_engine("pivot", "nodes grown")
     # So long that on two processors, and on faster ones than now, it takes more than a second each time.
-    words, told = check_engine("dfs", "nodes grown", least=4)
+    words, told = check_engine("dfs", "nodes grown", least=3)
 
-    plain = subprocess.run([DESQ, *words], stdin=subprocess.DEVNULL, capture_output=True, timeout=600)
-    hold("no byte comes through a pipe", (plain.returncode, plain.stderr) == (0, b""), plain.stderr)
     status, pieces, _ = on_terminal(words, None)
     text = text_of(pieces)
     hold("progress is shown where the answer goes to the terminal too", LINE.search(text), text[:300])
@@ -147,6 +144,8 @@ def main():
     with open(f"{WORK}/out", "wb") as out:
         status, pieces, _ = on_terminal(words, out)
     hold("nothing stands after a run without a message", (status, screen(text_of(pieces))) == (0, [""]), text_of(pieces))
+    plain = subprocess.run([DESQ, *words], stdin=subprocess.DEVNULL, capture_output=True, timeout=600)
+    hold("no byte comes through a pipe", (plain.returncode, plain.stderr) == (0, b""), plain.stderr)
     with open(f"{WORK}/few", "w") as few:
         few.write("a b\n")
     status, pieces, _ = on_terminal(["--support", "1", "(a)(b)", f"{WORK}/few"], None)
