@@ -1,10 +1,11 @@
 #!/usr/bin/env python3
 """The examples and the pages for users: every command that they show writes what they show.
 
-The convention of these pages, which `examples/README.md` tells their readers: indented blocks, cut at blank lines and
-at prose, come in pairs, a command as it is typed at the top of the repository and then what it writes to standard
-output and standard error, with a last line `[status N]` where its status is not 0, or `(nothing)`. The commands of a
-page run in their order, in one fresh folder that has `desq`, `examples` and `docs`. Fenced blocks are not run."""
+The convention of these pages, which `examples/README.md` tells their readers: indented blocks, cut at blank
+lines and at prose, come in pairs, a command as it is typed at the top of the repository and then what it writes
+to standard output and standard error, with a last line `[status N]` where its status is not 0, or `(nothing)`.
+The commands of a page run in their order, in one fresh folder that has `desq`, `examples` and `docs`. Fenced
+blocks are not run."""
 import glob
 import os
 import re
@@ -15,7 +16,7 @@ import sys
 PROGRAM, WORK = os.path.abspath(os.environ["DESQ"]), os.environ["WORK"]
 FOLDERS = sorted(os.path.dirname(page) for page in glob.glob("examples/*/README.md"))
 GUIDES = ["docs/COMING_FROM.md", "docs/ENGINES.md", "docs/EXPRESSIONS.md"]
-# No copy of a language's words in messages of other tools, and one order of bytes for `sort`.
+# One order for `sort`, that of bytes.
 ENVIRONMENT = {**os.environ, "LC_ALL": "C.UTF-8"}
 rows = []
 
@@ -63,8 +64,12 @@ def written(command, folder):
     return text or "(nothing)\n"
 
 
+def folder_of(page):
+    return os.path.join(WORK, page.replace("/", "_"))
+
+
 def fresh_folder(page):
-    folder = os.path.join(WORK, page.replace("/", "_"))
+    folder = folder_of(page)
     os.makedirs(folder)
     os.symlink(PROGRAM, os.path.join(folder, "desq"))
     for name in ["examples", "docs"]:
@@ -80,18 +85,21 @@ def page_holds(page):
         told = written(command, folder)
         hold(f"{page}:{line}: the command writes what is shown", told == shown, command + "writes", told)
     for link in re.findall(r"\]\(([^)#:]+)(?:#[^)]*)?\)", text_of(page)):
-        hold(f"{page}: the link {link} leads somewhere", os.path.exists(os.path.join(os.path.dirname(page), link)))
+        place = os.path.join(os.path.dirname(page), link)
+        hold(f"{page}: the link {link} leads somewhere", os.path.exists(place))
 
 
 def example_holds(folder):
-    parts = {name: text_of(f"{folder}/{name}") for name in ["README.md", "command", "expected", "hierarchy", "sequences"]}
+    names = ["README.md", "command", "expected", "hierarchy", "sequences"]
+    parts = {name: text_of(f"{folder}/{name}") for name in names}
     for name, text in parts.items():
         hold(f"{folder} has a file {name} with something in it", text)
     hold(f"the command of {folder} runs the program", parts["command"].startswith("./desq "))
     shown = [(command, output) for _, command, output in pairs_of(f"{folder}/README.md")]
     hold(f"the page of {folder} shows its command and, below it, its output",
          (parts["command"], parts["expected"]) in shown)
-    hold(f"examples/README.md speaks of {folder}", f"]({os.path.basename(folder)})" in text_of("examples/README.md"))
+    link = f"]({os.path.basename(folder)})"
+    hold(f"examples/README.md speaks of {folder}", link in text_of("examples/README.md"))
 
 
 def words_of_picture(path):
@@ -102,14 +110,15 @@ def refusals_are_shown():
     """Each message on an expression, as the definitions have it, is what a command of the page writes."""
     definitions = text_of("crates/mine_model/specs/Status.antt")
     columns = re.findall(r'at_column column \(codes "([^"]+)"\)', definitions)
-    others = re.findall(r'codes "(expression: more[^"]+)"', definitions) + re.findall(r'codes "( leaves[^"]+)"', definitions)
+    others = re.findall(r'codes "(expression: more[^"]+| leaves[^"]+)"', definitions)
     shown = "".join(output for _, _, output in pairs_of("docs/EXPRESSIONS.md"))
     hold("the definitions have messages on expressions", len(columns) >= 6 and len(others) >= 2)
     for message in columns:
         hold(f"docs/EXPRESSIONS.md shows '{message}'",
              re.search(rf"^desq: expression: column \d+{re.escape(message)}$", shown, re.M))
     for message in others:
-        hold(f"docs/EXPRESSIONS.md shows '{message}'", re.search(rf"^desq: .*{re.escape(message)}$", shown, re.M))
+        hold(f"docs/EXPRESSIONS.md shows '{message}'",
+             re.search(rf"^desq: .*{re.escape(message)}$", shown, re.M))
 
 
 for folder in FOLDERS:
@@ -119,7 +128,8 @@ for page in [f"{folder}/README.md" for folder in FOLDERS] + GUIDES:
 pictures = glob.glob("examples/*/*.svg")
 hold("there is a picture of an answer", pictures)
 for picture in pictures:
-    made = os.path.join(WORK, f"{os.path.dirname(picture)}/README.md".replace("/", "_"), "out", os.path.basename(picture))
+    page = f"{os.path.dirname(picture)}/README.md"
+    made = os.path.join(folder_of(page), "out", os.path.basename(picture))
     hold(f"{picture} has the words of the picture that the page makes",
          words_of_picture(picture) and words_of_picture(picture) == words_of_picture(made))
 refusals_are_shown()

@@ -1,9 +1,9 @@
 #!/usr/bin/env python3
-"""The journal's export format on standard input to the files of desq. `to_events.py lines` writes the events of each
-boot as one line, and `to_events.py kinds` each event and its kinds.
+"""The journal's export format on standard input to the files of desq. `to_events.py lines` writes the events of
+each boot as one line, and `to_events.py kinds` each event and its kinds.
 
-An event is a unit that started, stopped or failed, as `nginx.service/failed`, or a program that warned or met an error,
-as `kernel/error`; its kinds are what happened, and the unit or the program. All other entries are left out."""
+An event is a unit that started, stopped or failed, as `nginx.service/failed`, or a program that warned or met an
+error, as `kernel/error`; its kinds are what happened, and the unit or program. Other entries are left out."""
 import sys
 
 UNIT_EVENTS = {
@@ -14,8 +14,8 @@ UNIT_EVENTS = {
 
 
 def entries(file):
-    """Entries end with an empty line. A field is `NAME=value`; where the value has control bytes, it is a line with the
-    name alone, then the value's length, eight bytes from the lowest up, the value, and the end of a line."""
+    """Entries end with an empty line. A field is `NAME=value`; where the value has control bytes, it is a line
+    with the name alone, then the value's length, eight bytes from the lowest up, the value, and a line's end."""
     entry = {}
     while line := file.readline():
         key, is_text, value = line.rstrip(b"\n").partition(b"=")

@@ -1,5 +1,5 @@
 # A bar for each pattern of an answer of desq: gnuplot -e "answer = 'FILE'; picture = 'FILE.svg'" chart.gp
-# gnuplot would take a double quote in a name for the begin of a quoted text, so each is shown as two single ones.
+# gnuplot would take a double quote in a name for the begin of a quoted text, so two single ones are shown.
 set terminal svg size 720,360 noenhanced font "sans-serif,12"
 set output picture
 set datafile separator "\t"

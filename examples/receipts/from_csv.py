@@ -1,6 +1,6 @@
 #!/usr/bin/env python3
-"""CSV to the files of desq: `from_csv.py baskets FILE` writes each customer's purchases, by date, as one line, and
-`from_csv.py kinds FILE` each item and its kind. A name of desq has no blank, so each blank becomes `_`."""
+"""CSV to the files of desq: `from_csv.py baskets FILE` writes each customer's purchases, by date, as one line,
+and `from_csv.py kinds FILE` each item and its kind. A name of desq has no blank, so blanks become `_`."""
 import csv
 import sys
 
