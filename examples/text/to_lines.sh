@@ -1,7 +1,7 @@
 #!/bin/sh
-# Plain text on standard input to one sentence a line on standard output: a sentence ends with . ? or ! before a
-# blank or the end; words are in lower case, and each sign is a word of its own, but for those inside a word or a
-# number.
+# Plain text on standard input to one sentence a line on standard output: a sentence ends with . ? or ! before
+# a blank or the end; words are in lower case, and each sign is a word of its own, but for those inside a word
+# or a number.
 export LC_ALL=C.UTF-8
 { tr '\r\n\t' '   ' && echo; } \
     | sed -E 's/([.?!]+["”’)]*) +/\1\n/g' \
