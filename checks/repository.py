@@ -10,7 +10,7 @@ sys.dont_write_bytecode = True
 from rows import Rows
 
 COLUMNS = 110
-OWN_CRATES = ("mine_model", "command_line", "desq_run", "text_ports")
+OWN_CRATES = ("mine_model", "gap_front", "command_line", "desq_run", "text_ports")
 
 
 def text_of(path):
@@ -175,9 +175,9 @@ told = {label for row in rows_behind(readme, "| Clause of `run` |") for label in
 rows.hold("the README tells each clause of run, and no other", labels == told != set(), f"in one of both alone: {labels ^ told}")
 
 # The options of the command are those that the README's usage names, and each has a word of its own there.
-options = set(re.findall(r'(?:value|flag) \(codes "(\w+)"\)', text_of("crates/command_line/specs/Options.antt")))
-usage = next((line for line in readme.split("\n") if line.startswith("    desq --support")), "")
-rows.hold("the usage of the README has each option, and no other", set(re.findall(r"--(\w+)", usage)) == options != set(),
+options = set(re.findall(r'(?:value|flag) \(codes "([\w-]+)"\)', text_of("crates/command_line/specs/Options.antt")))
+usage = "\n".join(line for line in readme.split("\n") if line.startswith("    desq --support"))
+rows.hold("the usage of the README has each option, and no other", set(re.findall(r"--([\w-]+)", usage)) == options != set(),
           f"the options are {sorted(options)}")
 
 # Each word that the tables on the definitions name stands in the file that they name.
