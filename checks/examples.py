@@ -56,8 +56,11 @@ def pairs_of(page):
 
 
 def written(command, folder):
-    ran = subprocess.run(["sh", "-c", command], cwd=folder, env=ENVIRONMENT, stdin=subprocess.DEVNULL,
-                         stdout=subprocess.PIPE, stderr=subprocess.STDOUT, timeout=120)
+    try:
+        ran = subprocess.run(["sh", "-c", command], cwd=folder, env=ENVIRONMENT, stdin=subprocess.DEVNULL,
+                             stdout=subprocess.PIPE, stderr=subprocess.STDOUT, timeout=120)
+    except subprocess.TimeoutExpired:
+        return "[no end within two minutes]\n"
     text = ran.stdout.decode("utf-8", "replace")
     if ran.returncode != 0:
         text += f"[status {ran.returncode}]\n"
