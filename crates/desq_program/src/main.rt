@@ -2,8 +2,10 @@
 //! the run.
 #![tactic(auto)]
 
+mod progress;
+
 use desq_run::run;
-use mine_model::OpenGate;
+use progress::{Cleared, Progress};
 use std::io::ErrorKind;
 use std::process::ExitCode;
 use std::{env, io};
@@ -17,18 +19,19 @@ fn read_words(rt: &HostRuntime) -> io::Result<Vec<String>> {
 }
 
 fn main(rt: HostRuntime) -> ExitCode {
-    let mut err = StdSink::err(&rt);
     let words = match read_words(&rt) {
         Ok(words) => words,
         // Words that are not UTF-8 are no command, as no words are.
         Err(error) if error.kind() == ErrorKind::InvalidData => Vec::new(rt.alloc()),
         Err(_) => {
-            let _ = err.write(b"desq: out of memory\n");
+            let _ = StdSink::err(&rt).write(b"desq: out of memory\n");
             return ExitCode::from(7);
         }
     };
+    let progress = Progress::new(&rt, words.as_slice());
     let mut files = DiskFiles::new(&rt);
-    let mut out = StdSink::out(&rt);
+    let mut out = Cleared::new(&progress, StdSink::out(&rt));
+    let mut err = Cleared::new(&progress, StdSink::err(&rt));
     let status = run(
         &rt,
         rt.alloc(),
@@ -36,7 +39,8 @@ fn main(rt: HostRuntime) -> ExitCode {
         &mut files,
         &mut out,
         &mut err,
-        &OpenGate,
+        &progress,
     );
+    progress.clear();
     ExitCode::from(status)
 }
