@@ -1,18 +1,14 @@
 -- What a command mines by, as it was read and as the promise has it.
-use Rattle.std.proofs.Common.{◌≡◌, ◌↔◌, ℕ, List, [], length, Contains, refl, sym, ap, ◌∙◌, subst}
+use Rattle.std.proofs.Common.{◌≡◌, ℕ, List, Contains, refl, sym, ap, ◌∙◌, subst}
 use Rattle.mine_model.specs.declared.item.Item.{Item}
-use Rattle.mine_model.specs.declared.fault.Fault.{Fault}
 use Rattle.mine_model.specs.Expression.{Tree, tree_by, named_in}
 use Rattle.mine_model.specs.Grammar.{Use}
 use Rattle.mine_model.specs.Answer.{NamedRow, IsAnswer}
 use Rattle.mine_model.specs.Refusal.{IsUnknown, links_of, sequences_of}
-use Rattle.mine_model.proofs.ListLemmas.{Contains-none}
 use Rattle.mine_model.proofs.AnswerLemmas.{IsAnswer-unique, Rises-unique}
 use Rattle.mine_model.proofs.RefusalLemmas.{ReadsAs-unique}
-use Rattle.gap_front.specs.declared.rule.GapRule.{GapRule}
-use Rattle.gap_front.specs.Embedding.{tree_of_rule}
-use Rattle.gap_front.proofs.AnswerLemmas.{same_answers, names-none, tree-renamed}
-use Rattle.patex_parser.specs.Parsing.{use_at, IsParsed, AreWithin, named_tree}
+use Rattle.gap_front.proofs.AnswerLemmas.{same_answers}
+use Rattle.patex_parser.specs.Parsing.{use_at, IsParsed}
 use Rattle.command_line.specs.Options.{rows}
 use Rattle.command_line.specs.Words.{Source, read, embed, Command, IsCommand, GivesSource}
 use Rattle.desq_run.specs.Ends.{Input, data_of, IsAnswerTo}
@@ -69,16 +65,4 @@ parsed-read expression file uses tree parsed =
             subst (λ us. IsUnknown known us fault) (ap named_in (ReadsAs-unique expression other over_uses reads parsed.reads) ∙ parsed.named) is),
         (λ is. (over_uses, parsed.reads, subst (λ us. IsUnknown known us fault) (sym parsed.named) is)),
       );
-    }
-
--- so is the expression of a rule, which uses no name
-pub rule-read : (rule : GapRule) (file : List ℕ) (uses : List Use) (tree : Tree Item) → uses ≡ [] → tree ≡ tree_of_rule rule
-    → IsRead (embed rule file) uses tree
-rule-read rule file uses tree none same =
-    let names : named_in tree ≡ [] = ap named_in same ∙ names-none Item rule in
-    record {
-      says = ap (named_tree uses) same ∙ ap (tree_by (λ (u : Use). u.name)) (tree-renamed (use_at uses) rule) ∙ tree-renamed (λ (u : Use). u.name) rule;
-      within = subst (AreWithin (length uses)) (sym names) tt;
-      used = λ u inside. absurd (Contains-none u (subst (λ us. Contains us u) none inside));
-      unknown = λ known fault. ((λ no. absurd no), (λ is. absurd (subst (λ us. IsUnknown known us fault) none is)));
     }

@@ -46,8 +46,8 @@ hierarchy_names input = names_of (lines_of input.hierarchy)
 abbrev pub known_names : Input → List (List ℕ)
 known_names input = hierarchy_names input ++ items_of (sequences_of input.command.weighted input.sequences)
 
--- the first refusal: of the expression or the rule, of the hierarchy, of the sequences, of an unknown name, in
--- this order
+-- the first refusal: of the expression or the rule, of the hierarchy, of the sequences, of an unknown name,
+-- in this order
 abbrev pub IsFirstRefusal : Input → Fault → Type 0
 IsFirstRefusal input = FirstOf (IsSourceRefusal input.command.source)
     (FirstOf (IsHierarchyRefusal input.hierarchy)

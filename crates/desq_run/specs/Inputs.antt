@@ -55,7 +55,8 @@ pub record AreInputs (holds : List ℕ → Option (List ℕ)) (command : Command
   pub within : AreLinksWithin before
   pub links : h.links ≡ before.links
   pub hierarchy : IfSome (bytes_named holds command.hierarchy) (λ bytes. IsHierarchyOf bytes known before)
-  pub sequences : IfSome (holds (file_of command.source)) (λ bytes. IsDatabaseOf command.weighted bytes known names db)
+  pub sequences : IfSome (holds (file_of command.source))
+      (λ bytes. IsDatabaseOf command.weighted bytes known names db)
 
 -- reading a file, where one is named, ended with this fault: a refusal of its bytes, a counted fault, or want
 -- of memory

@@ -121,8 +121,8 @@ fn gaps_and_lengths_are_answered_by_each_engine(rt: HostRuntime) -> Result<(), F
     Ok(())
 }
 
-/// What a run with one more word, which it would read as the file, leaves, where the file has a byte that is none
-/// of a name.
+/// What a run with the word `f` behind these leaves, which reads it as the file where they are a command. The
+/// file has a byte that is none of a name.
 macro_rules! refused {
     ($status:literal, $err:literal, $($word:literal),+) => {
         Case {
@@ -143,8 +143,8 @@ macro_rules! no_command {
     };
 }
 
-// A rule with a gap G and the greatest length B has 3 + (B - 1)(G + 1) leaves. None has 1,024, since 1,021 is a
-// prime.
+// A rule with a gap G and the greatest length B has 3 + (B - 1)(G + 1) leaves. None has 1,024, since
+// 1,021 is a prime.
 const REFUSED: &[Case<'static>] = &[
     refused!(
         4,
