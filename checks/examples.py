@@ -16,8 +16,8 @@ import sys
 PROGRAM, WORK = os.path.abspath(os.environ["DESQ"]), os.environ["WORK"]
 FOLDERS = sorted(os.path.dirname(page) for page in glob.glob("examples/*/README.md"))
 GUIDES = ["docs/COMING_FROM.md", "docs/ENGINES.md", "docs/EXPRESSIONS.md", "docs/GAPS.md"]
-# One order for `sort`, that of bytes.
-ENVIRONMENT = {**os.environ, "LC_ALL": "C.UTF-8"}
+# One order for `sort`, that of bytes. The programs of the system come first, as its python3 has pandas.
+ENVIRONMENT = {**os.environ, "LC_ALL": "C.UTF-8", "PATH": f"{os.defpath}:{os.environ['PATH']}"}
 rows = []
 
 
@@ -56,8 +56,11 @@ def pairs_of(page):
 
 
 def written(command, folder):
-    ran = subprocess.run(["sh", "-c", command], cwd=folder, env=ENVIRONMENT, stdin=subprocess.DEVNULL,
-                         stdout=subprocess.PIPE, stderr=subprocess.STDOUT, timeout=120)
+    try:
+        ran = subprocess.run(["sh", "-c", command], cwd=folder, env=ENVIRONMENT, stdin=subprocess.DEVNULL,
+                             stdout=subprocess.PIPE, stderr=subprocess.STDOUT, timeout=120)
+    except subprocess.TimeoutExpired:
+        return "[no end within two minutes]\n"
     text = ran.stdout.decode("utf-8", "replace")
     if ran.returncode != 0:
         text += f"[status {ran.returncode}]\n"
@@ -73,7 +76,7 @@ def fresh_folder(page):
     os.makedirs(folder)
     os.symlink(PROGRAM, os.path.join(folder, "desq"))
     for name in ["examples", "docs"]:
-        shutil.copytree(name, os.path.join(folder, name), ignore=shutil.ignore_patterns("out"))
+        shutil.copytree(name, os.path.join(folder, name))
     return folder
 
 
@@ -129,7 +132,7 @@ pictures = glob.glob("examples/*/*.svg")
 hold("there is a picture of an answer", pictures)
 for picture in pictures:
     page = f"{os.path.dirname(picture)}/README.md"
-    made = os.path.join(folder_of(page), "out", os.path.basename(picture))
+    made = os.path.join(folder_of(page), "try", os.path.basename(picture))
     hold(f"{picture} has the words of the picture that the page makes",
          words_of_picture(picture) and words_of_picture(picture) == words_of_picture(made))
 refusals_are_shown()

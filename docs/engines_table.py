@@ -3,7 +3,7 @@
 
     docs/engines_table.py [--program ./desq] [--built WORDS] [--data FOLDER] [--limit SECONDS]
 
-The questions are asked of lines that this script makes, always the same, into out/engines, and, where --data
+The questions are asked of lines that this script makes, always the same, into try/engines, and, where --data
 names a folder with the files news-medium.hier, news-medium.seq, packages-medium.hier and packages-medium.seq, of
 these too. Each figure is the median of three runs, or of one or two where the last took more than five seconds.
 --built says how the program was built, in the words that the page has."""
@@ -16,7 +16,7 @@ import subprocess
 import tempfile
 import time
 
-PAGE, MADE = "docs/ENGINES.md", "out/engines"
+PAGE, MADE = "docs/ENGINES.md", "try/engines"
 BEGIN, END = "<!-- figures: begin, written by docs/engines_table.py -->\n", "<!-- figures: end -->\n"
 # a name, the set, the expression, the threshold
 MADE_QUESTIONS = [
