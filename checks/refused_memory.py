@@ -86,5 +86,5 @@ with multiprocessing.get_context("fork").Pool(processors()) as pool:
                         wrong.append(f"allocation {number} refused {which}: {shown(end)}")
                 first += AT_ONCE
             rows.hold(f"{search}, an allocation refused {which}: done, or told that memory is missing",
-                      not wrong and ends == {done, NO_MEMORY}, "\n".join(wrong) or f"the ends are {ends}")
+                      not wrong and ends == {done, NO_MEMORY}, "\n".join(wrong[:8]) or f"the ends are {ends}")
 rows.finish()

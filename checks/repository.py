@@ -238,6 +238,20 @@ for page in pages:
                  and span not in known | mine | {*listed, *sum(listed.values(), [])}]
     rows.hold(f"what {page} names is there", not lost, "\n".join(lost))
 
+# What the pages name as a definition is one, and the map's contracts are those of public items of the linked files.
+defined = {word for text in code.values() for word in re.findall(
+    r"(?m)^\s*(?:pub(?:\(crate\))? )?(?:unsafe )?(?:fn|struct|enum|trait|mod|ensures|requires) (\w+)|^\s*ghost (\w+):"
+    r"|^ *(?:abbrev pub|unfoldable pub|pub data|pub record) (\w+)|^ *(?:pub )?(\w+) :", text) for word in word if word}
+defined |= {re.sub(r"\.\w+$", "", os.path.basename(path)) for path in code} | set(listed) | {"clap", "std"}
+defined |= set(imports_of(text_of("crates/command_line/specs/Options.antt")))
+stray = sorted(set(re.findall(r"`([A-Za-z_][\w']*)`", definitions_page)) - defined)
+rows.hold("what docs/DEFINITIONS.md names is defined", not stray, f"{stray} is not")
+lost = []
+for word, path in re.findall(r"\[`(\w+)`\]\(\.\./(crates/[^)]*)\)", map_page):
+    if not re.search(rf"pub (?:fn|struct|enum|trait) {word}\b", code.get(path, "")):
+        lost.append(f"{word} is no public item of {path}")
+rows.hold("the contracts of the map are those of public items", not lost, "\n".join(lost))
+
 # The repository stands alone: no citation by number, no absolute path.
 CITED = re.compile(r"(?i)\b(?:issue|paper|demand|theorem|proposition|corollary|section|chapter|footnote|requirement)s? #?\d"
                    r"|(?<![\w&'\"])#\d|§|\bet al\b|\[\d+\]\(|\barXiv\b|\bdoi\b")

@@ -6,6 +6,7 @@ import sys
 PROGRAM = os.environ["DESQ"]
 WORK = os.environ["WORK"]
 SECONDS = 120
+MOST_TOLD = 4_000
 
 
 class Rows:
@@ -20,7 +21,7 @@ class Rows:
         self.rows += 1
         self.held += bool(holds)
         if not holds:
-            print(f"FAILED: {name}" + (f"\n{told}" if told else ""), flush=True)
+            print(f"FAILED: {name}" + (f"\n{told[:MOST_TOLD]}" if told else ""), flush=True)
 
     def ends(self, name, ran, wanted):
         """A row: the run left exactly this status, output and error output."""
