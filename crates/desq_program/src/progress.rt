@@ -1,4 +1,4 @@
-//! Progress of a long run, for eyes alone: how much is done, on one line of the terminal behind standard error.
+//! Progress of a long run, for eyes alone: how much is done, on one line of a terminal behind standard error.
 
 use command_line::{Engine, read_words};
 use mine_model::Gate;
@@ -19,8 +19,9 @@ const ROUNDS: u64 = 64;
 /// Takes away the line in which the cursor stands.
 const CLEAR: &[u8] = b"\r\x1b[K";
 
-/// The gate that counts what the workers have done, and after the first second shows the count, at most ten times
-/// a second, on one line that is written over itself. Where standard error is no terminal it writes nothing.
+/// The gate that counts what the workers have done, and after the first second shows the count, at most ten
+/// times a second, on one line that is written over itself. Where standard error is no terminal it writes
+/// nothing.
 #[derive(Drop)]
 pub(crate) struct Progress<'a> {
     rt: &'a HostRuntime,
