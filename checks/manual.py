@@ -1,8 +1,8 @@
 #!/usr/bin/env python3
 """The manual page says what the program does.
 
-Its options, defaults, ranges, statuses, messages, limits and examples are held against the sources that define
-them, and provoked in the program one by one.
+Its options, defaults, ranges, statuses, messages, limits and examples are held against the sources that
+define them, and provoked in the program one by one.
 """
 import os
 import re
@@ -133,6 +133,8 @@ def check_uses():
     """The program takes each option, at both ends of its range and not beyond, and none twice."""
     hold("uses of all options", sorted(USES), sorted(OPTIONS))
     for name, (tag, text) in OPTIONS.items():
+        if name not in USES:
+            continue
         values = re.search(r"(\d+) to (\d+)", text)
         if values:
             least, most = int(values.group(1)), int(values.group(2))
@@ -167,7 +169,7 @@ def check_uses():
          "desq: expression: column 1: unknown name\n")
     hold("standard input", runs(["--support", "2", ".*(a)(b).*", "-"], b"a b\na b\n")[:2], (0, b"2\ta b\n"))
     if "max-gap" in OPTIONS:
-        for name in ("min-length", "max-length", "generalize"):
+        for name in {"min-length", "max-length", "generalize"} & set(OPTIONS):
             given = [f"--{name}", "1"] if " Ar " in OPTIONS[name][0] else [f"--{name}"]
             hold(f"{name} without max-gap", runs(["--support", "1", *given, "(a).*", LINES])[0], 2)
         gap = ["--support", "1", "--max-gap", "0"]
@@ -177,7 +179,7 @@ def check_uses():
 
 
 def told(name, what, pattern):
-    found = re.search(pattern, OPTIONS[name][1])
+    found = re.search(pattern, OPTIONS.get(name, ("", ""))[1])
     hold(f"the page tells {what}", bool(found), True)
     return found.groups() if found else (None, None)
 

@@ -99,7 +99,7 @@ def long_run(engine, least):
         with open(f"{WORK}/out", "wb") as out:
             status, pieces, seconds = on_terminal([*words, "--stats"], out)
         is_long = processor_seconds() - before >= least
-        if len(LINE.findall(text_of(pieces))) >= 3 and is_long or count > 10**6 or seconds > 120:
+        if len(LINE.findall(text_of(pieces))) >= 3 and is_long or seconds > 30:
             return words, status, pieces, seconds
         count += count // 2
 
@@ -110,11 +110,11 @@ def check_engine(engine, what, least=0):
     shown = LINE.findall(text)
     hold(f"{engine} is done", status == 0, status)
     hold(f"{engine} shows lines", len(shown) >= 3, text)
-    hold(f"{engine} says what is counted", {name.decode() for _, name in shown} == {what}, shown)
-    hold(f"{engine} shows nothing in the first second", pieces[0][0] >= 1, pieces[0])
+    hold(f"{engine} says what is counted", {name.decode() for _, name in shown} == {what}, shown[:3])
+    hold(f"{engine} shows nothing in the first second", bool(pieces) and pieces[0][0] >= 1, pieces[:1])
     hold(f"{engine} shows at most ten a second", len(shown) <= 10 * seconds + 1, (len(shown), seconds))
     counts = [int(number) for number, _ in shown]
-    hold(f"{engine} goes on", counts[-1] > counts[0], counts)
+    hold(f"{engine} goes on", counts[-1:] > counts[:1], counts)
     told = subprocess.run([DESQ, *words, "--stats"], stdin=subprocess.DEVNULL, capture_output=True,
                           timeout=600)
     with open(f"{WORK}/out", "rb") as out:
@@ -126,7 +126,7 @@ def check_engine(engine, what, least=0):
          screen(text))
     if engine != "count":
         nodes = int(told.stderr.split()[2])
-        hold(f"{engine} tells no more than there are", counts[-1] <= nodes, (counts[-1], nodes))
+        hold(f"{engine} tells no more than there are", max(counts, default=0) <= nodes, (counts, nodes))
     return words, told
 
 
