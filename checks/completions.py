@@ -1,7 +1,8 @@
 #!/usr/bin/env python3
-"""The completions of bash, zsh and fish offer the command's options, engines and files, each where it may come.
+"""The completions of bash, zsh and fish offer the options, engines and files, each where it may come.
 
-Each shell is asked itself. The options are those of the sources of `command_line`, the engines those of its words.
+Each shell is asked itself. The options are those of the sources of `command_line`, the engines those of its
+words.
 """
 import os
 import re
@@ -52,7 +53,8 @@ _desq
 def told(words):
     """The lines that a shell prints, or None where it fails."""
     environment = dict(os.environ, HOME=WORK, XDG_CONFIG_HOME=f"{WORK}/config", TERM="dumb", LC_ALL="C.UTF-8")
-    ran = subprocess.run(words, cwd=f"{WORK}/data", env=environment, capture_output=True, text=True, timeout=120,
+    ran = subprocess.run(words, cwd=f"{WORK}/data", env=environment, capture_output=True, text=True,
+                         timeout=120,
                          stdin=subprocess.DEVNULL)
     return ran.stdout.split("\n")[:-1] if ran.returncode == 0 else [f"status {ran.returncode}: {ran.stderr}"]
 
@@ -64,7 +66,8 @@ def in_bash(line):
 
 
 def in_zsh(line):
-    return {word.replace("\\ ", " ") for word in told(["zsh", "-f", "-c", ZSH, "zsh", f"{TOP}/completions", line])}
+    return {word.replace("\\ ",
+                         " ") for word in told(["zsh", "-f", "-c", ZSH, "zsh", f"{TOP}/completions", line])}
 
 
 def in_fish(line):
@@ -82,7 +85,8 @@ def main():
         if kind in ("Value", "NeededValue", "Flag"):
             options.append(f"--{name}")
             (flags if kind == "Flag" else valued).add(f"--{name}")
-    engines = set(re.findall(r'^engine_name \w+ = codes "(\w+)"', open("crates/command_line/specs/Words.antt").read(), re.M))
+    engines = set(re.findall(r'^engine_name \w+ = codes "(\w+)"',
+                             open("crates/command_line/specs/Words.antt").read(), re.M))
     files = {"alpha.seq", "beta.hier", "with blank", "folder"}
     os.makedirs(f"{WORK}/data/folder")
     for name in files - {"folder"}:
@@ -107,7 +111,8 @@ def main():
         ("desq --simulate ", set()),
     ]
     if "--max-gap" in valued:
-        table += [("desq --max-gap 1 ", files), ("desq --max-gap=1 al", {"alpha.seq"}), ("desq --max-gap 1 alpha.seq be", set())]
+        table += [("desq --max-gap 1 ", files), ("desq --max-gap=1 al", {"alpha.seq"}),
+                  ("desq --max-gap 1 alpha.seq be", set())]
     # An option is offered by its beginning, and no second time.
     for option in options:
         table.append((f"desq {option}", {other for other in options if other.startswith(option)}))

@@ -1,6 +1,6 @@
 #!/bin/bash
-# `./install` puts what it says, takes away exactly that, and spoils nothing; and the program alone runs in an empty root
-# with nothing but what it is linked to.
+# `./install` puts what it says, takes away exactly that, and spoils nothing; and the program alone runs in an
+# empty root with nothing but what it is linked to.
 top=$(pwd)
 held=0
 rows=0
@@ -27,7 +27,8 @@ fails() {
 
 # tree FOLDER: all that is in it, with kinds, modes and sums.
 tree() {
-    (cd "$1" && find . -printf '%p %y %m\n' | LC_ALL=C sort && find . -type f -exec sha256sum {} + | LC_ALL=C sort -k 2)
+    (cd "$1" && find . -printf '%p %y %m\n' | LC_ALL=C sort \
+        && find . -type f -exec sha256sum {} + | LC_ALL=C sort -k 2)
 }
 
 same_tree() {
@@ -60,7 +61,8 @@ has_wanted() {
 }
 hold "these files, with these modes" has_wanted
 says_files() {
-    diff <(grep "^$one/[^ ]*$" "$WORK/put" | LC_ALL=C sort) <(echo "$wanted" | sed "s|^|$one/|; s/ [0-9]*\$//" | LC_ALL=C sort)
+    diff <(grep "^$one/[^ ]*$" "$WORK/put" | LC_ALL=C sort) \
+        <(echo "$wanted" | sed "s|^|$one/|; s/ [0-9]*\$//" | LC_ALL=C sort)
 }
 hold "it says each file" says_files
 hold "the program" cmp "$DESQ" "$one/bin/desq"
@@ -69,7 +71,9 @@ hold "bash's" cmp "$top/completions/desq.bash" "$one/share/bash-completion/compl
 hold "zsh's" cmp "$top/completions/_desq" "$one/share/zsh/site-functions/_desq"
 hold "fish's" cmp "$top/completions/desq.fish" "$one/share/fish/vendor_completions.d/desq.fish"
 runs_elsewhere() {
-    cd / && [ "$(printf 'a b\na b\na c\n' | env -i PATH="$one/bin:/usr/bin:/bin" desq --support 2 '.*(a)(b).*' -)" = "2	a b" ]
+    cd / && printf 'a b\na b\na c\n' > "$WORK/some" \
+        && env -i PATH="$one/bin:/usr/bin:/bin" desq --support 2 '.*(a)(b).*' "$WORK/some" > "$WORK/out" \
+        && [ "$(cat "$WORK/out")" = "2	a b" ]
 }
 hold "the program runs from the path" runs_elsewhere
 finds_page() {
@@ -98,7 +102,8 @@ hold "it puts them once more" "$source/install" "$two"
 echo theirs > "$two/share/zsh/site-functions/_other"
 hold "with a file of another in a folder that it made" "$source/install" --remove "$two"
 keeps_folder() {
-    [ -e "$two/share/zsh/site-functions/_other" ] && [ ! -e "$two/share/zsh/site-functions/_desq" ] && [ ! -e "$two/share/desq" ]
+    [ -e "$two/share/zsh/site-functions/_other" ] && [ ! -e "$two/share/zsh/site-functions/_desq" ] \
+        && [ ! -e "$two/share/desq" ]
 }
 hold "that folder stays" keeps_folder
 for place in bin/desq share/man/man1/desq.1 share/fish/vendor_completions.d/desq.fish; do
@@ -166,7 +171,8 @@ ldd "$DESQ" | grep -o '/[^ ]*' | while read -r library; do
     cp -L "$library" "$root$library"
 done
 has_two() {
-    [ "$(find "$root" -type f | sed 's|.*/||' | LC_ALL=C sort | tr '\n' ' ')" = "desq ld-linux-x86-64.so.2 libc.so.6 " ]
+    [ "$(find "$root" -type f | sed 's|.*/||' | LC_ALL=C sort | tr '\n' ' ')" \
+        = "desq ld-linux-x86-64.so.2 libc.so.6 " ]
 }
 hold "the root has three files" has_two
 printf 'a b\na b\na c\n' > "$root/lines"
@@ -187,12 +193,15 @@ runs() {
     [ $status = "$1" ] && diff "$WORK/want_out" "$WORK/out" && diff "$WORK/want_err" "$WORK/err"
 }
 for engine in dfs pivot count; do
-    hold "in an empty root, by $engine" runs 0 '2\ta b\n' '' --support 2 --engine $engine --workers 8 '.*(a)(b).*' lines
+    hold "in an empty root, by $engine" runs 0 '2\ta b\n' '' --support 2 --engine $engine --workers 8 \
+        '.*(a)(b).*' lines
 done
 hold "in an empty root, a hierarchy" runs 0 '3\ta B\n' '' --support 3 --hierarchy above '.*(a)(B^=).*' -
 hold "in an empty root, no command" runs 2 '' 'desq: usage: desq --support N [options] EXPR [FILE]\n'
-hold "in an empty root, a malformed expression" runs 3 '' 'desq: expression: column 4: unexpected\n' --support 1 '(a))' lines
-hold "in an empty root, a file that is missing" runs 5 '' 'desq: sequences: read fault\n' --support 1 '(a)' absent
+hold "in an empty root, a malformed expression" runs 3 '' 'desq: expression: column 4: unexpected\n' \
+    --support 1 '(a))' lines
+hold "in an empty root, a file that is missing" runs 5 '' 'desq: sequences: read fault\n' \
+    --support 1 '(a)' absent
 
 echo "$held of $rows rows hold"
 [ "$held" = "$rows" ] && [ "$rows" -gt 0 ]

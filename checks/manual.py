@@ -1,7 +1,8 @@
 #!/usr/bin/env python3
-"""The manual page says what the program does: its options, defaults, ranges, statuses, messages, limits and examples.
+"""The manual page says what the program does.
 
-They are held against the sources that define them, and provoked in the program one by one.
+Its options, defaults, ranges, statuses, messages, limits and examples are held against the sources that
+define them, and provoked in the program one by one.
 """
 import os
 import re
@@ -30,7 +31,8 @@ def runs(words, data=b"", out=subprocess.PIPE, memory=None):
     def narrow():
         if memory is not None:
             resource.setrlimit(resource.RLIMIT_AS, (memory, memory))
-    ran = subprocess.run([DESQ, *words], input=data, stdout=out, stderr=subprocess.PIPE, timeout=300, preexec_fn=narrow)
+    ran = subprocess.run([DESQ, *words], input=data, stdout=out, stderr=subprocess.PIPE, timeout=300,
+                         preexec_fn=narrow)
     return ran.returncode, ran.stdout or b"", ran.stderr.decode()
 
 
@@ -100,7 +102,8 @@ def check_options():
     hold("the options", list(OPTIONS), list(options))
     synopsis = "\n".join(SECTIONS["SYNOPSIS"])
     for name, (tag, _) in OPTIONS.items():
-        hold(f"the value of {name}", " Ar " in tag or " Cm " in tag, options.get(name) in ("Value", "NeededValue"))
+        hold(f"the value of {name}", " Ar " in tag or " Cm " in tag,
+             options.get(name) in ("Value", "NeededValue"))
         hold(f"{name} in the synopsis", bool(re.search(rf"^\.(Op )?Fl -{name}( |$)", synopsis, re.M)), True)
         hold(f"{name} is needed", bool(re.search(rf"^\.Fl -{name}( |$)", synopsis, re.M)),
              options.get(name) == "NeededValue" or name == "max-gap")
@@ -119,16 +122,19 @@ USES = {
     "simulate": lambda value: ["--support", "1", "--simulate", value, "(a).*", LINES],
     "stats": lambda: ["--support", "1", "--stats", "(a).*", LINES],
     "max-gap": lambda value: ["--support", "1", "--max-gap", value, "--max-length", "1", LINES],
-    "min-length": lambda value: ["--support", "1", "--max-gap", "0", "--min-length", value, "--max-length", "1000", LINES],
+    "min-length": lambda value: ["--support", "1", "--max-gap", "0", "--min-length", value, "--max-length",
+                                 "1000", LINES],
     "max-length": lambda value: ["--support", "1", "--max-gap", "0", "--max-length", value, LINES],
     "generalize": lambda: ["--support", "1", "--max-gap", "0", "--generalize", LINES],
 }
 
 
 def check_uses():
-    """The program takes each option, with a value at both ends of its range and none beyond, and none twice."""
+    """The program takes each option, at both ends of its range and not beyond, and none twice."""
     hold("uses of all options", sorted(USES), sorted(OPTIONS))
     for name, (tag, text) in OPTIONS.items():
+        if name not in USES:
+            continue
         values = re.search(r"(\d+) to (\d+)", text)
         if values:
             least, most = int(values.group(1)), int(values.group(2))
@@ -157,11 +163,13 @@ def check_uses():
             hold(f"{name} by an equals sign", runs([*words[:at], "=".join(given), *words[at + 2:]])[0], 0)
         hold(f"{name} at the end", runs([*words[:at], *words[at + len(given):], *given])[0], 0)
     hold("no support", runs(["(a).*", LINES])[0], 2)
-    hold("a seed with count", runs(["--support", "1", "--engine", "count", "--simulate", "1", "(a)", LINES])[0], 2)
-    hold("an expression behind dashes", runs(["--support", "1", "--", "-", LINES])[2], "desq: expression: column 1: unknown name\n")
+    hold("a seed with count",
+         runs(["--support", "1", "--engine", "count", "--simulate", "1", "(a)", LINES])[0], 2)
+    hold("an expression behind dashes", runs(["--support", "1", "--", "-", LINES])[2],
+         "desq: expression: column 1: unknown name\n")
     hold("standard input", runs(["--support", "2", ".*(a)(b).*", "-"], b"a b\na b\n")[:2], (0, b"2\ta b\n"))
     if "max-gap" in OPTIONS:
-        for name in ("min-length", "max-length", "generalize"):
+        for name in {"min-length", "max-length", "generalize"} & set(OPTIONS):
             given = [f"--{name}", "1"] if " Ar " in OPTIONS[name][0] else [f"--{name}"]
             hold(f"{name} without max-gap", runs(["--support", "1", *given, "(a).*", LINES])[0], 2)
         gap = ["--support", "1", "--max-gap", "0"]
@@ -171,28 +179,33 @@ def check_uses():
 
 
 def told(name, what, pattern):
-    found = re.search(pattern, OPTIONS[name][1])
+    found = re.search(pattern, OPTIONS.get(name, ("", ""))[1])
     hold(f"the page tells {what}", bool(found), True)
     return found.groups() if found else (None, None)
 
 
 def check_defaults():
     """Defaults and ranges are those of the definitions, and of the program where it shows them."""
-    hold("support", told("support", "the range of support", r"(\d+) to (\d+)"), ("1", str(LIMITS["most_support"])))
-    hold("workers", told("workers", "the range of workers", r"(\d+) to (\d+)"), ("1", str(LIMITS["most_workers"])))
-    hold("seeds", told("simulate", "the range of seeds", r"(\d+) to (\d+)"), ("0", str(constants("crates/command_line/specs/Words.antt")["most_seed"])))
+    hold("support", told("support", "the range of support", r"(\d+) to (\d+)"),
+         ("1", str(LIMITS["most_support"])))
+    hold("workers", told("workers", "the range of workers", r"(\d+) to (\d+)"),
+         ("1", str(LIMITS["most_workers"])))
+    hold("seeds", told("simulate", "the range of seeds", r"(\d+) to (\d+)"),
+         ("0", str(constants("crates/command_line/specs/Words.antt")["most_seed"])))
     default = re.search(r'codes "workers"\) found\) \(codes "(\d+)"\)', WORDS).group(1)
     hold("the default of workers", told("workers", "the default of workers", r"default (\d+)"), (default,))
     default = re.search(r'codes "engine"\) found\) \(codes "(\w+)"\)', WORDS).group(1)
     hold("the default engine", told("engine", "the default engine", r"default \.Cm (\w+)"), (default,))
     by = {engine: runs(["--support", "1", "--stats", *engine, ".*(.)(.).*", LINES])[2]
           for engine in [(), ("--engine", "dfs"), ("--engine", "pivot"), ("--engine", "count")]}
-    hold("the engine of a run that names none", [e for e in by if e and by[e] == by[()]], [("--engine", default)])
+    hold("the engine of a run that names none", [e for e in by if e and by[e] == by[()]],
+         [("--engine", default)])
     least = told("min-length", "the default of the least length", r"default (\d+)")
     most = told("max-length", "the default of the greatest length", r"default (\d+)")
     _, out, _ = runs(["--support", "1", "--max-gap", "0", "-"], b"a b c d e f g h\n")
     lengths = sorted({len(line.split(b"\t")[1].split()) for line in out.splitlines()})
-    hold("the lengths of a run that names none", lengths[:1] + lengths[-1:], [int(least[0] or 0), int(most[0] or 0)])
+    hold("the lengths of a run that names none", lengths[:1] + lengths[-1:],
+         [int(least[0] or 0), int(most[0] or 0)])
 
 
 # What provokes each message: words, standard input, the least memory in which the program may work.
@@ -226,17 +239,23 @@ MESSAGES = [
     ("sequences: line N column N: bad weight", lambda: sequences(b"1000000001 a\n", "--weighted"),
      lambda: sequences(b"1000000000 a\n", "--weighted")),
     ("hierarchy: line N: cycle", lambda: hierarchy(b"a b\nb a\n"), None),
-    ("expression: more than 4096 bytes", lambda: expression("(a)" + " " * 4094), lambda: expression("(a)" + " " * 4093)),
-    ("expression: column N: repeat over 1024", lambda: expression("(a){1025}"), lambda: expression("(a){1024}")),
+    ("expression: more than 4096 bytes", lambda: expression("(a)" + " " * 4094),
+     lambda: expression("(a)" + " " * 4093)),
+    ("expression: column N: repeat over 1024", lambda: expression("(a){1025}"),
+     lambda: expression("(a){1024}")),
     ("expression: column N: nested over 128", lambda: expression("[" * 129 + "(a)" + "]" * 129),
      lambda: expression("[" * 127 + "(a)" + "]" * 127)),
     ("expression: N leaves, over 1024", lambda: expression("(a){1024} a"), lambda: expression("(a){1023} a")),
     ("FILE: more than 67108864 bytes", lambda: sequences((b"a" * 63 + b"\n") * 2**20 + b"a"),
      lambda: sequences((b"a" * 63 + b"\n") * 2**20)),
-    ("FILE: line N column N: name over 255 bytes", lambda: sequences(b"a" * 256 + b"\n"), lambda: sequences(b"a" * 255 + b"\n")),
-    ("FILE: line N: more than 1048576 items", lambda: sequences(name_lines(2**20 + 1)), lambda: sequences(name_lines(2**20))),
-    ("hierarchy: more than 33554432 ancestors", lambda: hierarchy(chain(8192)), lambda: hierarchy(chain(8191))),
-    ("sequences: line N: more than 4194304 sequences", lambda: sequences(b"a\n" * (2**22 + 1)), lambda: sequences(b"a\n" * 2**22)),
+    ("FILE: line N column N: name over 255 bytes", lambda: sequences(b"a" * 256 + b"\n"),
+     lambda: sequences(b"a" * 255 + b"\n")),
+    ("FILE: line N: more than 1048576 items", lambda: sequences(name_lines(2**20 + 1)),
+     lambda: sequences(name_lines(2**20))),
+    ("hierarchy: more than 33554432 ancestors", lambda: hierarchy(chain(8192)),
+     lambda: hierarchy(chain(8191))),
+    ("sequences: line N: more than 4194304 sequences", lambda: sequences(b"a\n" * (2**22 + 1)),
+     lambda: sequences(b"a\n" * 2**22)),
     ("sequences: line N: more than 65535 items in a sequence", lambda: sequences(b"a " * 65536 + b"\n"),
      lambda: sequences(b"a " * 65535 + b"\n")),
 ]
@@ -255,7 +274,8 @@ def defined_messages():
     found = {}
     for name, body in re.findall(r"^fault_text \(?(\w+)[^=]*= (.*)$", text, re.M):
         body = re.sub(r"at_column column \(codes \"(.*)\"\)", r'codes "expression: column N\1"', body)
-        body = re.sub(r"at_place (\S+) line column \(codes \"(.*)\"\)", r'\1: codes "line N column N\2"', body)
+        body = re.sub(r"at_place (\S+) line column \(codes \"(.*)\"\)", r'\1: codes "line N column N\2"',
+                      body)
         body = re.sub(r"at_line (\S+) line \(codes \"(.*)\"\)", r'\1: codes "line N\2"', body)
         body = re.sub(r"file_text file \+\+ codes", "FILE codes", body).replace("file:", "FILE: ")
         body = body.replace("Sequences: ", "sequences: ").replace("Hierarchy: ", "hierarchy: ")
@@ -284,7 +304,8 @@ def check_messages():
     page = page_messages()
     hold("all statuses have messages", sorted(n for statuses in page for n in statuses), sorted(defined))
     for statuses, texts in page.items():
-        hold(f"the messages of {statuses}", sorted(texts), sorted(set().union(*(defined[n] for n in statuses))))
+        hold(f"the messages of {statuses}", sorted(texts),
+             sorted(set().union(*(defined[n] for n in statuses))))
     by_text = {text: n for n, texts in defined.items() for text in texts}
     for message, brings, at_limit in MESSAGES:
         status, out, err = runs(*brings())
@@ -293,7 +314,8 @@ def check_messages():
         hold(f"'{message}' is written", bool(re.fullmatch(pattern(message), err)), True)
         if at_limit:
             hold(f"just at the limit of '{message}'", runs(*at_limit())[0], 0)
-    hold("all messages but those of statuses 2, 5, 6 and 7 are provoked", {f"desq: {message}" for message, _, _ in MESSAGES},
+    hold("all messages but those of statuses 2, 5, 6 and 7 are provoked",
+         {f"desq: {message}" for message, _, _ in MESSAGES},
          defined[3] | defined[4])
 
 
@@ -304,14 +326,18 @@ def check_statuses():
     hold("status 0", runs(["--support", "2", ".*(a)(b).*", LINES]), (0, b"2\ta b\n", ""))
     hold("status 2", runs([]), (2, b"", "desq: usage: desq --support N [options] EXPR [FILE]\n"))
     hold("status 3", runs(*expression("(a))")), (3, b"", "desq: expression: column 4: unexpected\n"))
-    hold("status 4", runs(*expression("(a){1025}")), (4, b"", "desq: expression: column 4: repeat over 1024\n"))
-    hold("status 5", runs(["--support", "1", "(a)", f"{WORK}/absent"]), (5, b"", "desq: sequences: read fault\n"))
+    hold("status 4", runs(*expression("(a){1025}")),
+         (4, b"", "desq: expression: column 4: repeat over 1024\n"))
+    hold("status 5", runs(["--support", "1", "(a)", f"{WORK}/absent"]),
+         (5, b"", "desq: sequences: read fault\n"))
     hold("status 5 of a hierarchy", runs(["--support", "1", "--hierarchy", f"{WORK}/absent", "(a)", LINES]),
          (5, b"", "desq: hierarchy: read fault\n"))
     with open("/dev/full", "wb") as full:
-        hold("status 6", runs(["--support", "2", ".*(a)(b).*", LINES], out=full), (6, b"", "desq: write fault\n"))
+        hold("status 6", runs(["--support", "2", ".*(a)(b).*", LINES], out=full),
+             (6, b"", "desq: write fault\n"))
     many = b"".join(b"%x %x\n" % (n, n + 1) for n in range(10**6))
-    hold("status 7", runs(["--support", "1", ".*(.).*", "-"], many, memory=40 * 2**20), (7, b"", "desq: out of memory\n"))
+    hold("status 7", runs(["--support", "1", ".*(.).*", "-"], many, memory=40 * 2**20),
+         (7, b"", "desq: out of memory\n"))
 
 
 def check_limits():
@@ -329,7 +355,8 @@ def check_limits():
         "brackets open at once": "most_nested",
         "signs of repetition in a row": "most_nested",
     }
-    table = {tag.split(" Ta ")[0]: tag.split(" Ta ")[1] for tag, _ in entries(SECTIONS["LIMITS"]) if not tag.startswith("Sy ")}
+    lines = [tag.split(" Ta ") for tag, _ in entries(SECTIONS["LIMITS"]) if not tag.startswith("Sy ")]
+    table = {what: most for what, most in lines}
     hold("the limits", table, {what: str(LIMITS[name]) for what, name in names.items()})
     weights = re.search(r"its weight, (\d+) to (\d+)", " ".join(SECTIONS["FILES"]))
     hold("weights", weights and weights.groups(), ("1", str(LIMITS["most_weight"])))
@@ -338,12 +365,15 @@ def check_limits():
     hold("128 signs of repetition", runs(*expression("(a)" + "*" * 128))[0], 0)
     hold("128 brackets", runs(*expression("[" * 127 + "(a)" + "]" * 127))[0], 0)
     if "max-gap" in OPTIONS:
-        formula = re.search(r"has 3 \+ \(B - 1\)\(G \+ 1\) item expressions, which are also at most (\d+)", " ".join(SECTIONS["LIMITS"]))
+        formula = re.search(r"has 3 \+ \(B - 1\)\(G \+ 1\) item expressions, which are also at most (\d+)",
+                            " ".join(SECTIONS["LIMITS"]))
         hold("item expressions with max-gap", formula and formula.group(1), str(LIMITS["most_leaves"]))
         gap = ["--support", "1", "--max-gap"]
         hold("1,023 of them", runs([*gap, "1", "--max-length", "511", LINES])[0], 0)
-        hold("1,025 of them", runs([*gap, "1", "--max-length", "512", LINES]), (4, b"", "desq: expression: 1025 leaves, over 1024\n"))
-        hold("3,006 of them", runs([*gap, "1000", "--max-length", "4", LINES]), (4, b"", "desq: expression: 3006 leaves, over 1024\n"))
+        hold("1,025 of them", runs([*gap, "1", "--max-length", "512", LINES]),
+             (4, b"", "desq: expression: 1025 leaves, over 1024\n"))
+        hold("3,006 of them", runs([*gap, "1000", "--max-length", "4", LINES]),
+             (4, b"", "desq: expression: 3006 leaves, over 1024\n"))
 
 
 def check_examples():
@@ -360,7 +390,8 @@ def check_examples():
         output_at = max(n for n, line in enumerate(lines) if line.startswith(("$ ", "    "))) + 1
         script = "\n".join(line.removeprefix("$ ") for line in lines[:output_at])
         ran = subprocess.run(["sh", "-c", script], cwd=WORK, env=environment, capture_output=True, text=True)
-        hold(f"the example {script!r}", (ran.returncode, ran.stdout, ran.stderr), (0, "\n".join(lines[output_at:]) + "\n", ""))
+        hold(f"the example {script!r}", (ran.returncode, ran.stdout, ran.stderr),
+             (0, "\n".join(lines[output_at:]) + "\n", ""))
 
 
 check_form()

@@ -1,8 +1,8 @@
 #!/usr/bin/env python3
 """A long run tells its progress to a terminal behind standard error, and to nothing else.
 
-A pseudo terminal is given to the program, and its screen is kept: each line of progress is written over the last, and none
-stands when other bytes come or the run is done. Through a pipe comes no byte of it.
+A pseudo terminal is given to the program, and its screen is kept: each line of progress is written over the
+last, and none stands when other bytes come or the run is done. Through a pipe comes no byte of it.
 """
 import os
 import pty
@@ -30,13 +30,14 @@ def hold(what, holds, shown=""):
 
 
 def on_terminal(words, out):
-    """A run with a terminal for standard error: its status, the bytes with the time of each piece, and how long it took.
+    """A run with a terminal for standard error: its status, its bytes with their times, and how long it took.
 
     `out` is a file for standard output, or None for the terminal.
     """
     reader, terminal = pty.openpty()
     begun = time.monotonic()
-    child = subprocess.Popen([DESQ, *words], stdin=subprocess.DEVNULL, stdout=terminal if out is None else out, stderr=terminal)
+    child = subprocess.Popen([DESQ, *words], stdin=subprocess.DEVNULL,
+                             stdout=terminal if out is None else out, stderr=terminal)
     os.close(terminal)
     pieces = []
     while True:
@@ -98,7 +99,7 @@ def long_run(engine, least):
         with open(f"{WORK}/out", "wb") as out:
             status, pieces, seconds = on_terminal([*words, "--stats"], out)
         is_long = processor_seconds() - before >= least
-        if len(LINE.findall(text_of(pieces))) >= 3 and is_long or count > 10**6 or seconds > 120:
+        if len(LINE.findall(text_of(pieces))) >= 3 and is_long or seconds > 30:
             return words, status, pieces, seconds
         count += count // 2
 
@@ -109,20 +110,23 @@ def check_engine(engine, what, least=0):
     shown = LINE.findall(text)
     hold(f"{engine} is done", status == 0, status)
     hold(f"{engine} shows lines", len(shown) >= 3, text)
-    hold(f"{engine} says what is counted", {name.decode() for _, name in shown} == {what}, shown)
-    hold(f"{engine} shows nothing in the first second", pieces[0][0] >= 1, pieces[0])
+    hold(f"{engine} says what is counted", {name.decode() for _, name in shown} == {what}, shown[:3])
+    hold(f"{engine} shows nothing in the first second", bool(pieces) and pieces[0][0] >= 1, pieces[:1])
     hold(f"{engine} shows at most ten a second", len(shown) <= 10 * seconds + 1, (len(shown), seconds))
     counts = [int(number) for number, _ in shown]
-    hold(f"{engine} goes on", counts[-1] > counts[0], counts)
-    told = subprocess.run([DESQ, *words, "--stats"], stdin=subprocess.DEVNULL, capture_output=True, timeout=600)
+    hold(f"{engine} goes on", counts[-1:] > counts[:1], counts)
+    told = subprocess.run([DESQ, *words, "--stats"], stdin=subprocess.DEVNULL, capture_output=True,
+                          timeout=600)
     with open(f"{WORK}/out", "rb") as out:
         hold(f"{engine} writes the answer that it writes without a terminal", out.read() == told.stdout)
-    hold(f"{engine} writes its work alone to a pipe", re.fullmatch(rb"desq: nodes \d+ parts \d+ candidates \d+\n", told.stderr),
+    hold(f"{engine} writes its work alone to a pipe",
+         re.fullmatch(rb"desq: nodes \d+ parts \d+ candidates \d+\n", told.stderr),
          told.stderr)
-    hold(f"{engine} leaves the line of its work alone", screen(text) == [told.stderr.decode().strip(), ""], screen(text))
+    hold(f"{engine} leaves the line of its work alone", screen(text) == [told.stderr.decode().strip(), ""],
+         screen(text))
     if engine != "count":
         nodes = int(told.stderr.split()[2])
-        hold(f"{engine} tells no more than there are", counts[-1] <= nodes, (counts[-1], nodes))
+        hold(f"{engine} tells no more than there are", max(counts, default=0) <= nodes, (counts, nodes))
     return words, told
 
 
@@ -135,15 +139,18 @@ def main():
     status, pieces, _ = on_terminal(words, None)
     text = text_of(pieces)
     hold("progress is shown where the answer goes to the terminal too", LINE.search(text), text[:300])
-    hold("then the answer alone stands there", (status, screen(text)) == (0, [*told.stdout.decode().split("\n")]), text[:300])
+    hold("then the answer alone stands there",
+         (status, screen(text)) == (0, [*told.stdout.decode().split("\n")]), text[:300])
     with open("/dev/full", "wb") as full:
         status, pieces, _ = on_terminal(words, full)
     text = text_of(pieces)
     hold("progress is shown before a write fault", LINE.search(text), text)
-    hold("then its message alone stands there", (status, screen(text)) == (6, ["desq: write fault", ""]), text)
+    hold("then its message alone stands there", (status, screen(text)) == (6, ["desq: write fault", ""]),
+         text)
     with open(f"{WORK}/out", "wb") as out:
         status, pieces, _ = on_terminal(words, out)
-    hold("nothing stands after a run without a message", (status, screen(text_of(pieces))) == (0, [""]), text_of(pieces))
+    hold("nothing stands after a run without a message", (status, screen(text_of(pieces))) == (0, [""]),
+         text_of(pieces))
     plain = subprocess.run([DESQ, *words], stdin=subprocess.DEVNULL, capture_output=True, timeout=600)
     hold("no byte comes through a pipe", (plain.returncode, plain.stderr) == (0, b""), plain.stderr)
     with open(f"{WORK}/few", "w") as few:

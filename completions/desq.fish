@@ -1,7 +1,7 @@
 # Completion of the words of desq in fish.
 
-# What stands before the cursor: tells, a line each, the options that were given, but not one whose value comes now,
-# and `expression` or `file` where a word that is no option may come and is that.
+# What stands before the cursor: tells, a line each, the options that were given, but not one whose value
+# comes now, and `expression` or `file` where a word that is no option may come and is that.
 function __desq_before
     set -l given
     set -l value_of
@@ -52,7 +52,8 @@ complete -c desq -n 'not __desq_has --weighted' -l weighted -d 'the first field 
 complete -c desq -n 'not __desq_has --engine' -l engine -x -d 'how patterns are found' \
     -a "dfs\t'grow prefixes' pivot\t'grow prefixes in parts' count\t'count all candidates'"
 complete -c desq -n 'not __desq_has --workers' -l workers -x -d 'how many workers share the work, 1 to 64'
-complete -c desq -n 'not __desq_has --simulate' -l simulate -x -d 'search on one thread, in the order of a seed'
+complete -c desq -n 'not __desq_has --simulate' -l simulate -x \
+    -d 'search on one thread, in the order of a seed'
 complete -c desq -n 'not __desq_has --stats' -l stats -d 'tell how much work there was'
 complete -c desq -n 'not __desq_has --max-gap' -l max-gap -x \
     -d 'mine without an expression, most items between neighbours'
