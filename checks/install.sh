@@ -72,7 +72,7 @@ hold "zsh's" cmp "$top/completions/_desq" "$one/share/zsh/site-functions/_desq"
 hold "fish's" cmp "$top/completions/desq.fish" "$one/share/fish/vendor_completions.d/desq.fish"
 runs_elsewhere() {
     cd / && printf 'a b\na b\na c\n' > "$WORK/some" \
-        && env -i PATH="$one/bin:/usr/bin:/bin" desq --support 2 '.*(a)(b).*' "$WORK/some" > "$WORK/out" \
+        && env -i PATH="$one/bin:$(getconf PATH)" desq --support 2 '.*(a)(b).*' "$WORK/some" > "$WORK/out" \
         && [ "$(cat "$WORK/out")" = "2	a b" ]
 }
 hold "the program runs from the path" runs_elsewhere

@@ -66,12 +66,3 @@ entered-writing space depth position state found now ranks pushed says t at next
       (λ h. elim (law.0 h) [ inl old ↦ inl old | inr (held, follows) ↦ inr ((says t next at).0 held, follows) ]),
       (λ h. law.1 (elim h [ inl old ↦ inl old | inr (writes, follows) ↦ inr ((says t next at).1 writes, follows) ])),
     )
-
--- where no path goes on behind the state nothing is found there
-pub entered-nowhere : (space : Space) (position state : ℕ) (found : List Place)
-    → (((ranks : List ℕ) × Writes space (drop (position + 1) space.sequence) state ranks) → ⊥)
-    → (t : Item) → slice_get space.sequence position ≡ Some t → (next : ℕ) (others : List ℕ)
-    → FollowsFound space found next others ↔ (FollowsFound space found next others
-    ⊎ (WritesAs space.problem t state next × Writes space (drop (position + 1) space.sequence) state others))
-entered-nowhere space position state found nowhere t at next others =
-    (inl, (λ h. elim h [ inl old ↦ old | inr (writes, follows) ↦ absurd (nowhere (others, follows)) ]))

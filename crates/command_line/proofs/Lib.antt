@@ -4,4 +4,3 @@ pub mod Needed
 pub mod PlainWordLemmas
 pub mod PlainDigits
 pub mod PlainCommand
-pub mod Examples

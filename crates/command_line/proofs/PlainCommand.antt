@@ -7,7 +7,7 @@ use Rattle.clap.specs.Walk.{Walk, finished, idle, nothing_held, option, settled,
 use Rattle.clap.specs.Faults.{check_fault, defaults_fault, entered_fault, settle_fault, turn_fault, walk_fault}
 use Rattle.clap.proofs.OnLiterals.{clap_on_literals}
 use Rattle.command_line.specs.Options.{options, desq, faults, rows}
-use Rattle.command_line.specs.Words.{GivesSupport, GivesMode, IsCommand, IsNumber, KeepsRules, Says}
+use Rattle.command_line.specs.Words.{GivesSource, GivesSupport, GivesMode, HasNoRule, IsCommand, IsNumber, KeepsRules, Says, read}
 use Rattle.mine_model.specs.Limits.{most_support, most_workers}
 use Rattle.command_line.specs.declared.words.Engine.TheVariants.{Dfs}
 use Rattle.command_line.specs.PlainWords.{IsPlainWord, plain_command}
@@ -29,6 +29,10 @@ faults_at w k =
 -- a flag that was not given
 flag_off : (value : Option Text) → value ≡ Some (codes "false") → IsTrue false ↔ (value ≡ Some (codes "true"))
 flag_off value off = search rules
+
+-- an option that stands alone and was not given is not given
+not_given : (value : Option Text) → value ≡ Some (codes "false") → value ≡ Some (codes "true") → ⊥
+not_given value off = search rules
 
 -- the number of workers of a run that asks for none
 four : IsNumber 1 most_workers (codes "4") 4
@@ -108,16 +112,28 @@ module _ (digits : Text) (p : IsPlainWord digits) where
     unfolding clap_on_literals options desq
     end_mode = record { named = refl; given = refl; suits = tt }
 
+    no_rule : HasNoRule found
+    unfolding clap_on_literals options desq
+    no_rule = record { gap = refl; least = refl; most = refl; generalize = not_given _ refl }
+
+    end_source : GivesSource found (read expression file)
+    unfolding clap_on_literals options desq
+    end_source = (refl, refl, no_rule)
+
     end_rules : KeepsRules found
     unfolding clap_on_literals options desq
-    end_rules = record { support = (n, end_support); mode = (Dfs, None, end_mode); workers = (4, four); file = refl }
+    end_rules = record {
+      support = (n, end_support);
+      mode = (Dfs, None, end_mode);
+      workers = (4, four);
+      source = (read expression file, end_source);
+    }
 
     end_says : Says found (plain_command n expression file)
     unfolding clap_on_literals options desq
     end_says = record {
       support = end_support;
-      expression = refl;
-      file = refl;
+      source = end_source;
       hierarchy = refl;
       weighted = flag_off _ refl;
       mode = end_mode;

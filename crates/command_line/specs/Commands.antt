@@ -1,17 +1,22 @@
 -- What a command of the code says, in the words of its meaning.
 use Rattle.std.specs.Prelude.{option_map, string_bytes}
-use Rattle.command_line.specs.declared.words.Command.{Command as Read}
-use Rattle.command_line.specs.Words.{Command}
+use Rattle.command_line.specs.declared.words.Command.{Command as ReadCommand}
+use Rattle.command_line.specs.declared.words.Source.{Source as ReadSource}
+use Rattle.command_line.specs.declared.words.Source.TheVariants.{Read, Embed}
+use Rattle.command_line.specs.Words.{Command, Source, read, embed}
 
-abbrev pub command_said : Read → Command
-command_said read = record {
-  threshold = read.support;
-  expression = string_bytes read.expression;
-  file = string_bytes read.file;
-  hierarchy = option_map string_bytes read.hierarchy;
-  weighted = read.weighted;
-  engine = read.engine;
-  workers = read.workers;
-  seed = read.seed;
-  stats = read.stats;
+abbrev pub source_said : ReadSource → Source
+source_said (Read expression file) = read (string_bytes expression) (string_bytes file)
+source_said (Embed rule file) = embed rule (string_bytes file)
+
+abbrev pub command_said : ReadCommand → Command
+command_said said = record {
+  threshold = said.support;
+  source = source_said said.source;
+  hierarchy = option_map string_bytes said.hierarchy;
+  weighted = said.weighted;
+  engine = said.engine;
+  workers = said.workers;
+  seed = said.seed;
+  stats = said.stats;
 }

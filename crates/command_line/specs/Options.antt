@@ -24,7 +24,8 @@ needed rule = record rule { required = true }
 unfoldable pub options : List Rule
 options = needed (value (codes "support")) ∷ value (codes "hierarchy") ∷ flag (codes "weighted")
     ∷ value (codes "engine") ∷ value (codes "workers") ∷ value (codes "simulate") ∷ flag (codes "stats")
-    ∷ needed (word (codes "expression")) ∷ word (codes "file") ∷ []
+    ∷ value (codes "max-gap") ∷ value (codes "min-length") ∷ value (codes "max-length")
+    ∷ flag (codes "generalize") ∷ needed (word (codes "expression")) ∷ word (codes "file") ∷ []
 
 -- the command, as clap sees it: no program's name comes before the words, and no word asks for help
 unfoldable pub desq : App

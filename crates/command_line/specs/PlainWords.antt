@@ -3,7 +3,7 @@ use Rattle.std.specs.Prelude.{◌≡◌, ◌⊎◌, ◌==◌, ℕ, Bool, false, 
 use Rattle.mine_model.specs.Bytes.{dash}
 use Rattle.mine_model.specs.Tokens.{BeginsOtherwise}
 use Rattle.clap.specs.Words.{Text}
-use Rattle.command_line.specs.Words.{Command}
+use Rattle.command_line.specs.Words.{Command, read}
 use Rattle.command_line.specs.declared.words.Engine.TheVariants.{Dfs}
 
 abbrev pub is_dash : ℕ → Bool
@@ -17,8 +17,7 @@ IsPlainWord word = (word ≡ codes "-") ⊎ BeginsOtherwise is_dash word
 abbrev pub plain_command : ℕ → Text → Text → Command
 plain_command threshold expression file = record {
   threshold = threshold;
-  expression = expression;
-  file = file;
+  source = read expression file;
   hierarchy = None;
   weighted = false;
   engine = Dfs;

@@ -1,17 +1,24 @@
 -- What the words of a command say: what clap finds in them, and the rules beyond clap's.
-use Rattle.std.specs.Prelude.{◌≡◌, ◌≢◌, ◌↔◌, ◌⊎◌, ℕ, ◌≤◌, Bool, List, [], codes, Option, Some, None, unwrap_or, IsSome, IsTrue}
+use Rattle.std.specs.Prelude.{◌≡◌, ◌≢◌, ◌↔◌, ◌⊎◌, ℕ, ◌≤◌, Bool, List, [], codes, Option, Some, None, unwrap_or, IsTrue}
 use Rattle.mine_model.specs.Limits.{most_support, most_workers}
 use Rattle.mine_model.specs.Grammar.{IsDecimal}
 use Rattle.clap.specs.Words.{Row, Text, first_of}
+use Rattle.gap_front.specs.declared.rule.GapRule.{GapRule}
+use Rattle.gap_front.specs.Embedding.{most_gap, most_rule_length}
 use Rattle.command_line.specs.Options.{faults, rows}
 use Rattle.command_line.specs.declared.words.Engine.{Engine}
 use Rattle.command_line.specs.declared.words.Engine.TheVariants.{Count, Dfs, Pivot}
 
+-- what a run mines: the patterns of an expression in the sequences of a file, or those that are embedded in
+-- them under a rule on gaps and lengths
+pub data Source : Type 0 where
+  read : (expression file : Text) → Source
+  embed : (rule : GapRule) → (file : Text) → Source
+
 -- what the words of a command say
 pub record Command : Type 0 where
   pub threshold : ℕ
-  pub expression : Text
-  pub file : Text
+  pub source : Source
   pub hierarchy : Option Text
   pub weighted : Bool
   pub engine : Engine
@@ -68,19 +75,53 @@ pub record GivesMode (found : List Row) (engine : Engine) (seed : Option ℕ) : 
   pub given : GivesSeed found seed
   pub suits : Suits engine seed
 
+-- no value was given for the argument
+abbrev pub IsAway : List Row → Text → Type 0
+IsAway found name = first_of name found ≡ None
+
+-- No word of a rule was given. Clap finds the value `false` for an option that stands alone and was not
+-- given, so such an option is away where it was not given, and not where it has no value.
+pub record HasNoRule (found : List Row) : Type 0 where
+  pub gap : IsAway found (codes "max-gap")
+  pub least : IsAway found (codes "min-length")
+  pub most : IsAway found (codes "max-length")
+  pub generalize : IsGiven found (codes "generalize") → ⊥
+
+-- this length of a pattern was given, or none and it is that of the digits
+abbrev pub GivesLength : List Row → Text → Text → ℕ → Type 0
+GivesLength found name default n = IsNumber 1 most_rule_length (unwrap_or (first_of name found) default) n
+
+-- this rule was given: a greatest gap, and the least and the greatest length of a pattern, 1 and 5 where none
+-- is given
+pub record GivesRule (found : List Row) (rule : GapRule) : Type 0 where
+  pub digits : Text
+  pub given : first_of (codes "max-gap") found ≡ Some digits
+  pub gap : IsNumber 0 most_gap digits rule.max_gap
+  pub least : GivesLength found (codes "min-length") (codes "1") rule.min_length
+  pub most : GivesLength found (codes "max-length") (codes "5") rule.max_length
+  pub order : rule.min_length ≤ rule.max_length
+  pub generalize : IsTrue rule.generalize ↔ IsGiven found (codes "generalize")
+
+-- Exactly one of FILE and a greatest gap is there. With a gap the one word by its place, which is else the
+-- expression, is the name of the file.
+abbrev pub GivesSource : List Row → Source → Type 0
+GivesSource found (read expression file) = (first_of (codes "expression") found ≡ Some expression)
+    × (first_of (codes "file") found ≡ Some file) × HasNoRule found
+GivesSource found (embed rule file) = (first_of (codes "expression") found ≡ Some file)
+    × IsAway found (codes "file") × GivesRule found rule
+
 -- the rules beyond clap's, a line each: each number is in its range, the engine is one that there is, without
--- a seed where it counts, FILE is there
+-- a seed where it counts, there is one source
 pub record KeepsRules (found : List Row) : Type 0 where
   pub support : (n : ℕ) × GivesSupport found n
   pub mode : (engine : Engine) × (seed : Option ℕ) × GivesMode found engine seed
   pub workers : (n : ℕ) × GivesWorkers found n
-  pub file : IsSome (first_of (codes "file") found)
+  pub source : (source : Source) × GivesSource found source
 
 -- the values that were found say this command, a line for each argument
 pub record Says (found : List Row) (command : Command) : Type 0 where
   pub support : GivesSupport found command.threshold
-  pub expression : first_of (codes "expression") found ≡ Some command.expression
-  pub file : first_of (codes "file") found ≡ Some command.file
+  pub source : GivesSource found command.source
   pub hierarchy : first_of (codes "hierarchy") found ≡ command.hierarchy
   pub weighted : IsTrue command.weighted ↔ IsGiven found (codes "weighted")
   pub mode : GivesMode found command.engine command.seed
@@ -97,9 +138,14 @@ pub record IsCommand (words : List Text) (command : Command) : Type 0 where
 abbrev pub IsUsage : List Text → Type 0
 IsUsage words = (faults words ≢ []) ⊎ (KeepsRules (rows words) → ⊥)
 
+-- the file of sequences
+abbrev pub file_of : Source → Text
+file_of (read expression file) = file
+file_of (embed rule file) = file
+
 -- the command names this file
 abbrev pub NamesFile : Command → Text → Type 0
-NamesFile command name = (command.file ≡ name) ⊎ (command.hierarchy ≡ Some name)
+NamesFile command name = (file_of command.source ≡ name) ⊎ (command.hierarchy ≡ Some name)
 
 -- the words name this file
 abbrev pub IsNamed : List Text → Text → Type 0

@@ -1,9 +1,11 @@
 //! Laws over the definitions. Each is the contract of a function that does nothing.
 
-ghost use Rattle.std.specs.Prelude.{◌≡◌, ℕ, List, [], ◌∷◌, codes};
+ghost use Rattle.std.specs.Prelude.{◌≡◌, ◌≤◌, ℕ, List, [], ◌∷◌, codes};
 ghost use Rattle.clap.specs.Words.{Text};
 ghost use Rattle.mine_model.specs.Limits.{most_support};
-ghost use Rattle.command_line.specs.Words.{Command, IsCommand, IsNumber, IsUsage};
+ghost use Rattle.gap_front.specs.declared.rule.GapRule.{GapRule};
+ghost use Rattle.gap_front.specs.Embedding.{IsRule};
+ghost use Rattle.command_line.specs.Words.{Command, IsCommand, IsNumber, IsUsage, embed};
 ghost use Rattle.command_line.specs.PlainWords.{IsPlainWord, plain_command};
 
 /// Words say at most one command.
@@ -15,6 +17,14 @@ pub fn at_most_one_command()
 /// Words that are usage say no command.
 pub fn usage_says_no_command()
     ensures { (words : List Text) (command : Command) → IsUsage words → IsCommand words command → ⊥ }
+{}
+
+/// The numbers of a rule that words say are in their ranges, and its least length is no greater than its
+/// greatest.
+pub fn a_rule_is_in_its_ranges()
+    ensures { (words : List Text) (command : Command) (rule : GapRule) (file : Text)
+        → IsCommand words command → command.source ≡ embed rule file
+        → IsRule rule × (rule.min_length ≤ rule.max_length) }
 {}
 
 /// What `--support DIGITS EXPRESSION FILE` says, where neither word begins with a dash.

@@ -27,7 +27,7 @@ pub enum Argument {
 }
 
 /// The arguments of the command, in order.
-static ARGUMENTS: [Argument; 9] = [
+static ARGUMENTS: [Argument; 13] = [
     Argument::NeededValue("support"),
     Argument::Value("hierarchy"),
     Argument::Flag("weighted"),
@@ -35,6 +35,10 @@ static ARGUMENTS: [Argument; 9] = [
     Argument::Value("workers"),
     Argument::Value("simulate"),
     Argument::Flag("stats"),
+    Argument::Value("max-gap"),
+    Argument::Value("min-length"),
+    Argument::Value("max-length"),
+    Argument::Flag("generalize"),
     Argument::NeededWord("expression"),
     Argument::Word("file"),
 ];

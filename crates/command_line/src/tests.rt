@@ -1,4 +1,4 @@
-use super::{Command, Engine, read_words};
+use super::{Command, Engine, Source, read_words};
 use std::alloc::Global;
 use std::test::Fail;
 
@@ -9,6 +9,17 @@ fn read(alloc: Global, text: &str) -> Result<Option<Command>, Fail> {
         words.push(String::from_str(alloc, word)?)?;
     }
     Ok(read_words(alloc, words.as_slice())?)
+}
+
+/// Whether the patterns of this expression are mined in this file.
+fn reads(source: &Source, expression: &str, file: &str) -> bool {
+    match source {
+        Source::Read {
+            expression: found,
+            file: name,
+        } => found.as_str() == expression && name.as_str() == file,
+        Source::Embed { .. } => false,
+    }
 }
 
 /// Whether the words say this support, expression and file, and no other option.
@@ -22,8 +33,7 @@ fn says(
     match read(alloc, text)? {
         Some(command) => Ok(
             command.support == support
-                && command.expression.as_str() == expression
-                && command.file.as_str() == file
+                && reads(&command.source, expression, file)
                 && command.hierarchy.is_none()
                 && !command.weighted
                 && command.engine == Engine::Dfs
@@ -89,8 +99,7 @@ fn options_are_read(rt: HostRuntime) -> Result<(), Fail> {
     match read(rt.alloc(), "--weighted (a) --hierarchy h --support 2 f")? {
         Some(command) => {
             assert_eq!(rt; command.support, 2);
-            assert_eq!(rt; command.expression.as_str(), "(a)");
-            assert_eq!(rt; command.file.as_str(), "f");
+            assert!(rt; reads(&command.source, "(a)", "f"));
             assert!(rt; command.weighted);
             match &command.hierarchy {
                 Some(name) => assert_eq!(rt; name.as_str(), "h"),
@@ -202,6 +211,82 @@ fn a_search_by_prefixes_may_have_a_seed(rt: HostRuntime) -> Result<(), Fail> {
         }
     }
     for text in NO_SEEDS {
+        assert!(rt; read(rt.alloc(), text)?.is_none());
+    }
+    Ok(())
+}
+
+/// Words and the greatest gap, the least and the greatest length that they say, and whether items are
+/// generalised. The file is `f`.
+const RULES: &[(&str, u32, u32, u32, bool)] = &[
+    ("--support 2 --max-gap 0 f", 0, 1, 5, false),
+    (
+        "f --generalize --max-gap=1000 --support 2",
+        1000,
+        1,
+        5,
+        true,
+    ),
+    (
+        "--max-length 1 --support 2 f --min-length 1 --max-gap 003",
+        3,
+        1,
+        1,
+        false,
+    ),
+    (
+        "--min-length=1000 --generalize --max-length=1000 --max-gap 1 --support=2 -- f",
+        1,
+        1000,
+        1000,
+        true,
+    ),
+];
+
+const NO_RULES: &[&str] = &[
+    "--support 2 --max-gap 1 (a) f",
+    "--support 2 --max-gap 1",
+    "--support 2 --max-gap 1001 f",
+    "--support 2 --max-gap -1 f",
+    "--support 2 --max-gap= f",
+    "--support 2 f --max-gap",
+    "--support 2 --max-gap 1 --max-gap 1 f",
+    "--support 2 --max-gap 1 --min-length 0 f",
+    "--support 2 --max-gap 1 --min-length 1001 --max-length 1001 f",
+    "--support 2 --max-gap 1 --min-length 6 f",
+    "--support 2 --max-gap 1 --min-length 3 --max-length 2 f",
+    "--support 2 --max-gap 1 f --min-length",
+    "--support 2 --max-gap 1 --min-length 1 --min-length 1 f",
+    "--support 2 --max-gap 1 --max-length 0 f",
+    "--support 2 --max-gap 1 --max-length 1001 f",
+    "--support 2 --max-gap 1 f --max-length",
+    "--support 2 --max-gap 1 --max-length 5 --max-length 5 f",
+    "--support 2 --max-gap 1 --generalize --generalize f",
+    "--support 2 --max-gap 1 --generalize=true f",
+    "--support 2 --min-length 1 (a) f",
+    "--support 2 --max-length 5 (a) f",
+    "--support 2 --generalize (a) f",
+    "--support 2 --generalize f",
+];
+
+#[test]
+fn a_rule_is_read(rt: HostRuntime) -> Result<(), Fail> {
+    for (text, max_gap, min_length, max_length, generalize) in RULES {
+        match read(rt.alloc(), text)? {
+            Some(command) => match &command.source {
+                Source::Embed { rule, file } => {
+                    assert_eq!(rt; rule.max_gap, *max_gap);
+                    assert_eq!(rt; rule.min_length, *min_length);
+                    assert_eq!(rt; rule.max_length, *max_length);
+                    assert_eq!(rt; rule.generalize, *generalize);
+                    assert_eq!(rt; file.as_str(), "f");
+                }
+                Source::Read { .. } => assert!(rt; false),
+            },
+            None => assert!(rt; false),
+        }
+    }
+    for text in NO_RULES {
         assert!(rt; read(rt.alloc(), text)?.is_none());
     }
     Ok(())

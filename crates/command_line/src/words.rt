@@ -2,14 +2,15 @@
 
 ghost use Rattle.std.specs.Prelude.{◌≡◌, ◌↔◌, ℕ, List, Option, Some, IsTrue, IfOk, MatchOption, map, option_map, unwrap_or, string_bytes, codes};
 ghost use Rattle.clap.specs.Words.{first_of, found_of, rows_of};
-ghost use Rattle.command_line.specs.Words.{GivesSupport, GivesEngine, GivesWorkers, GivesSeed, GivesMode, Suits, IsGiven, KeepsRules, Says, IsCommand, IsUsage};
+ghost use Rattle.command_line.specs.Words.{GivesSupport, GivesEngine, GivesWorkers, GivesSeed, GivesLength, GivesMode, GivesRule, GivesSource, HasNoRule, Source as SourceSaid, Suits, IsGiven, KeepsRules, Says, IsCommand, IsUsage};
 ghost use Rattle.command_line.specs.Arguments.{HasNeeded};
-ghost use Rattle.command_line.specs.Commands.{command_said};
+ghost use Rattle.command_line.specs.Commands.{command_said, source_said};
 ghost use Rattle.command_line.specs.declared.words.Engine.{Engine};
 
 use super::number::read_number;
 use super::options::taken;
 use clap::ArgMatches;
+use gap_front::GapRule;
 use mine_model::NoMemory;
 use std::alloc::Global;
 
@@ -22,6 +23,12 @@ const MOST_WORKERS: u64 = 64;
 /// The greatest seed that may be given.
 const MOST_SEED: u64 = 18_446_744_073_709_551_615;
 
+/// The greatest gap that may be asked for.
+const MOST_GAP: u64 = 1_000;
+
+/// The greatest length of a pattern that may be asked for.
+const MOST_RULE_LENGTH: u64 = 1_000;
+
 /// How a run searches.
 #[derive(Clone, Copy, Debug, PartialEq, Eq)]
 pub enum Engine {
@@ -33,15 +40,32 @@ pub enum Engine {
     Pivot,
 }
 
+/// What a run mines.
+#[derive(Debug, Drop)]
+pub enum Source {
+    /// The patterns of an expression.
+    Read {
+        /// The pattern expression, as it was given. It may be empty.
+        expression: String,
+        /// The name of the file of sequences, `-` for standard input.
+        file: String,
+    },
+    /// The patterns that are embedded in a sequence under a rule on gaps and lengths.
+    Embed {
+        /// The rule, in its ranges, with the lengths 1 to 5 where none are given.
+        rule: GapRule,
+        /// The name of the file of sequences, `-` for standard input.
+        file: String,
+    },
+}
+
 /// What the words of a command say.
 #[derive(Debug, Drop)]
 pub struct Command {
     /// The least support of a pattern of the answer, 1 to 1,000,000,000,000,000,000.
     pub support: u64,
-    /// The pattern expression, as it was given. It may be empty.
-    pub expression: String,
-    /// The name of the file of sequences, `-` for standard input.
-    pub file: String,
+    /// What is mined, and in which sequences.
+    pub source: Source,
     /// The name of the file of the hierarchy, `-` for standard input.
     pub hierarchy: Option<String>,
     /// Whether the first field of each line of the sequences is its weight.
@@ -174,6 +198,77 @@ fn given_mode(matches: &ArgMatches<'_>) -> Option<(Engine, Option<u64>)>
     }
 }
 
+/// Whether no word of a rule was given.
+fn has_no_rule(matches: &ArgMatches<'_>) -> bool
+    ensures { IsTrue result ↔ HasNoRule (rows_of (found_of matches.now)) }
+{
+    given(matches, "max-gap").is_none()
+        && given(matches, "min-length").is_none()
+        && given(matches, "max-length").is_none()
+        && !is_given(matches, "generalize")
+}
+
+/// The length of a pattern that was given for an option, or else the default. None where the value that was
+/// given is none.
+fn given_length<'a>(matches: &ArgMatches<'a>, name: &str, default: &'a str) -> Option<u64>
+    ensures { MatchOption result
+        ((n : ℕ) → GivesLength (rows_of (found_of matches.now)) name.now default.now n → ⊥)
+        (λ n. GivesLength (rows_of (found_of matches.now)) name.now default.now n) }
+{
+    read_number(
+        given_or(matches, name, default).as_bytes(),
+        1,
+        MOST_RULE_LENGTH,
+    )
+}
+
+/// The rule that was given. None where none was, or a value that was given is none.
+fn given_rule(matches: &ArgMatches<'_>) -> Option<GapRule>
+    ensures { MatchOption result
+        ((rule : GapRule) → GivesRule (rows_of (found_of matches.now)) rule → ⊥)
+        (λ rule. GivesRule (rows_of (found_of matches.now)) rule) }
+{
+    let max_gap = read_number(given(matches, "max-gap")?.as_bytes(), 0, MOST_GAP)?;
+    let min_length = given_length(matches, "min-length", "1")?;
+    let max_length = given_length(matches, "max-length", "5")?;
+    if min_length <= max_length {
+        Some(GapRule {
+            max_gap: max_gap as u32,
+            min_length: min_length as u32,
+            max_length: max_length as u32,
+            generalize: is_given(matches, "generalize"),
+        })
+    } else {
+        None
+    }
+}
+
+/// What is mined. None where the values say no source.
+fn given_source(alloc: Global, matches: &ArgMatches<'_>) -> Result<Option<Source>, NoMemory>
+    requires { HasNeeded (rows_of (found_of matches.now)) }
+    ensures { IfOk result (λ given. MatchOption given
+        ((source : SourceSaid) → GivesSource (rows_of (found_of matches.now)) source → ⊥)
+        (λ source. GivesSource (rows_of (found_of matches.now)) (source_said source))) }
+{
+    let word = given_text(alloc, matches, "expression")?.unwrap();
+    match given_text(alloc, matches, "file")? {
+        Some(file) => {
+            if has_no_rule(matches) {
+                Ok(Some(Source::Read {
+                    expression: word,
+                    file,
+                }))
+            } else {
+                Ok(None)
+            }
+        }
+        None => match given_rule(matches) {
+            Some(rule) => Ok(Some(Source::Embed { rule, file: word })),
+            None => Ok(None),
+        },
+    }
+}
+
 /// The command that the values say. None where they break a rule.
 fn said(alloc: Global, matches: &ArgMatches<'_>) -> Result<Option<Command>, NoMemory>
     requires { HasNeeded (rows_of (found_of matches.now)) }
@@ -194,14 +289,13 @@ fn said(alloc: Global, matches: &ArgMatches<'_>) -> Result<Option<Command>, NoMe
         Some(workers) => workers,
         None => return Ok(None),
     };
-    let file = match given_text(alloc, matches, "file")? {
-        Some(file) => file,
+    let source = match given_source(alloc, matches)? {
+        Some(source) => source,
         None => return Ok(None),
     };
     Ok(Some(Command {
         support,
-        expression: given_text(alloc, matches, "expression")?.unwrap(),
-        file,
+        source,
         hierarchy: given_text(alloc, matches, "hierarchy")?,
         weighted: is_given(matches, "weighted"),
         engine,

@@ -6,7 +6,6 @@ use Rattle.std.proofs.lemmas.List.{map-append, append-nil}
 use Rattle.std.proofs.lemmas.List.FromFn.{filter_of_map_range_with_len_more}
 use Rattle.std.proofs.lemmas.List.Sums.{sum_by-cons, sum_by-append}
 use Rattle.mine_model.specs.Labels.{SameLabels}
-use Rattle.mine_model.specs.Counted.{told_of}
 use Rattle.count_shards.specs.Blocks.{SumsBy}
 use Rattle.count_shards.specs.Shard.{entry_of}
 use Rattle.count_engine.specs.Shares.{share_of}
@@ -150,10 +149,3 @@ pub sums-flat : (Has : ℕ → ℕ → Type 0) (f : ℕ → List ℕ) (ws : List
 sums-flat Has f [] n none = none
 sums-flat Has f (w ∷ ws) n (first, rest, here, later, is) =
     subst (SumsBy Has (f w ++ flat_map f ws)) (sym is) (sums-append Has (f w) (flat_map f ws) first rest here (sums-flat Has f ws rest later))
-
--- what is told of a sum hangs on what is told of one part
-pub told-left : (n m : ℕ) → told_of (told_of n + m) ≡ told_of (n + m)
-told-left n m = omega arith
-
-pub told-right : (n m : ℕ) → told_of (n + told_of m) ≡ told_of (n + m)
-told-right n m = omega arith

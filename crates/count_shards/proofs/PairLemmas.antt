@@ -66,9 +66,6 @@ pairs_push d [] s n m before here = (m, 0, omega (arith, before), here, refl)
 pairs_push d (first ∷ done) s n m before here =
     (before.0, before.1 + m, omega (arith, before.2), before.3, pairs_push d done s before.1 m before.4 here)
 
-pub pairs_begin : (problem : Problem) → ArePairs problem [] 0
-pairs_begin problem = (0, refl, refl)
-
 -- what is told is added up up to the greatest
 pub pairs_more : (problem : Problem) (done next : List (Sequence Item)) (s : Sequence Item) (pairs more m : ℕ) → next ≡ done ++ s ∷ [] → more ≡ told_of (pairs + m)
     → HasCandidates (data_of problem) s.items m → ArePairs problem done pairs → ArePairs problem next more

@@ -26,9 +26,6 @@ PassList = Vec ShardPass Global
 
 -- ---- the shards are opened
 
-pub opened_begins : (problem : Problem) (workers : ℕ) → AreOpened problem workers 0 [] []
-opened_begins problem workers = record { lock_count = refl; list_count = refl; each = λ home lock list at_lock at_list. absurd (cc) }
-
 pub opened_more : (problem : Problem) (workers home : ℕ) (locks : List Lock) (lists : PassLists) (lock : Lock) (list : PassList)
     → AreOpened problem workers home locks lists → IsOpened problem workers home lock list.items → AreOpened problem workers (home + 1) (locks ++ lock ∷ []) (lists ++ list ∷ [])
 opened_more problem workers home locks lists lock list opened new = record {
@@ -102,12 +99,6 @@ module _ (problem : Problem) (workers homes : ℕ) (shards : Shards) (lists : Pa
         (opened.each home lock row at_lock at_row).fresh worker pass in_row))
 
 -- ---- a block is merged
-
-pub merged_begins : (block start : ℕ) (passes : List ShardPass) → HasMerged block start start passes passes
-merged_begins block start passes = record {
-  inside = λ home was is from below at_old at_new. absurd (omega (arith, from, below));
-  outside = λ home apart. refl;
-}
 
 pub merged_more : (block start home : ℕ) (old middle new : List ShardPass) (was is : ShardPass) → start ≤ home → slice_get middle home ≡ Some was → new ≡ set middle home is
     → made is ≡ made was ++ entry_of block ∷ [] → HasMerged block start home old middle → HasMerged block start (home + 1) old new

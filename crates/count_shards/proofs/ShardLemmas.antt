@@ -1,5 +1,5 @@
 -- What a shard has after one more block, and after all blocks.
-use Rattle.std.proofs.Common.{◌≡◌, ℕ, ◌+◌, ◌<◌, List, [], ◌∷◌, ◌++◌, length, map, refl, sym, subst, ap, ◌∙◌, arith, sum_by, length-append}
+use Rattle.std.proofs.Common.{◌≡◌, ℕ, ◌+◌, List, [], ◌∷◌, ◌++◌, length, map, refl, sym, subst, ap, ◌∙◌, arith, sum_by, length-append}
 use Rattle.std.specs.List.{range_with_len}
 use Rattle.std.proofs.lemmas.List.{map-append}
 use Rattle.std.proofs.lemmas.List.Sums.{sum_by-cons}
@@ -8,7 +8,7 @@ use Rattle.mine_model.specs.Support.{Counts}
 use Rattle.fst_simulate.specs.Problems.{Problem}
 use Rattle.pattern_counts.specs.Tally.{Tally, sum_of, AddsAll}
 use Rattle.turn_lock.specs.History.{Made}
-use Rattle.count_shards.specs.Blocks.{home_count, Block, block_count, home_of, tally_of, AreCountsOf, HasCandidate, InBlock, SumsTo}
+use Rattle.count_shards.specs.Blocks.{Block, block_count, home_of, tally_of, AreCountsOf, HasCandidate, InBlock, SumsTo}
 use Rattle.count_shards.specs.Shard.{ShardSums, IsShard, entry_of, history_of, blocks_of}
 use Rattle.count_shards.proofs.BlockSums.{sums_more, sums_reordered, sums_all}
 
@@ -27,15 +27,6 @@ shard_more problem home number old new added next block is counts adds e =
       homes = λ ranks apart. omega (arith, adds ranks, is.homes ranks apart, counts.homes home ranks apart);
       most = λ ranks. omega (arith, adds ranks, is.most ranks, counts.most home ranks, ap length e, length-append added ((number, block.number) ∷ []));
     }
-
--- nothing is added
-pub shard_begins : (problem : Problem) (home : ℕ) → home < home_count → IsShard (record { problem = problem; home = home; tally = record { lists = []; sums = [] }; added = [] })
-shard_begins problem home within = record {
-  within = within;
-  exact = λ ranks at. refl;
-  homes = λ ranks apart. refl;
-  most = λ ranks. omega arith;
-}
 
 -- all blocks are added
 pub shard_counts : (problem : Problem) (shard : ShardSums) → IsShard shard → shard.problem ≡ problem

@@ -2,7 +2,7 @@
 use Rattle.std.proofs.Common.{◌≡◌, ℕ, ◌+◌, ◌-◌, ◌*◌, ◌<◌, ◌≤◌, List, [], ◌∷◌, ◌++◌, length, get_or, take, drop, min, refl, sym, subst, ap, ◌∙◌, inl, inr, arith}
 use Rattle.std.specs.List.{All}
 use Rattle.std.proofs.lemmas.Bool.{cases_eq, cases_lt}
-use Rattle.std.proofs.lemmas.List.{get_or_past, get_or-drop, length-drop, length-take, take_more, take_all}
+use Rattle.std.proofs.lemmas.List.{get_or-drop, length-drop, length-take, take_more, take_all}
 use Rattle.std.proofs.Math.Nat.{min-le_left}
 use Rattle.std.proofs.lemmas.List.Elements.{All-take, All-drop, All-weaker}
 use Rattle.mine_model.specs.declared.item.Item.{Item}
@@ -12,7 +12,7 @@ use Rattle.mine_model.specs.Support.{Sequence, Counts}
 use Rattle.mine_model.proofs.FrequencyLemmas.{Counts-append, Counts-most}
 use Rattle.fst_simulate.specs.Problems.{Problem}
 use Rattle.candidate_gen.specs.Candidates.{AreCandidateRanks}
-use Rattle.pattern_counts.specs.Tally.{Tally, no_lists, sum_of}
+use Rattle.pattern_counts.specs.Tally.{Tally, sum_of}
 use Rattle.count_shards.specs.Blocks.{block_size, home_of, sequences_in, HasCandidate, tally_of}
 use Rattle.count_shards.specs.Tallied.{sum_at, AddsEach, AreTallied}
 use Rattle.mine_model.proofs.OnceLemmas.{list_or_not}
@@ -54,18 +54,6 @@ between_block problem block first end is within ends =
     ]
 
 -- ---- the sums
-
-tally_none : (tallies : List Tally) (home : ℕ) → All (λ tally. tally ≡ no_lists) tallies → tally_of tallies home ≡ no_lists
-tally_none tallies home none = elim (cases_lt home (length tallies)) [
-  | inl below ↦ none home no_lists below
-  | inr past ↦ get_or_past tallies home no_lists past
-]
-
-pub tallied_begins : (problem : Problem) (tallies : List Tally) → All (λ tally. tally ≡ no_lists) tallies → AreTallied problem [] tallies
-tallied_begins problem tallies none = record {
-  exact = λ list. ap (λ t. sum_of t list) (tally_none tallies (home_of list) none);
-  homes = λ home list apart. ap (λ t. sum_of t list) (tally_none tallies home none);
-}
 
 -- one more sequence
 pub tallied_more : (problem : Problem) (done next : List (Sequence Item)) (n : ℕ) (listed : List (List ℕ)) (old new : List Tally) → next ≡ done ++ sequence_at problem.sequences n ∷ []

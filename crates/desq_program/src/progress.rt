@@ -1,4 +1,5 @@
-//! Progress of a long run, for eyes alone: how much is done, on one line of a terminal behind standard error.
+//! Progress of a long run, for eyes alone: how much is done, on one line of the terminal behind standard
+//! error.
 
 use command_line::{Engine, read_words};
 use mine_model::Gate;

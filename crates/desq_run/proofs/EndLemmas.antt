@@ -1,11 +1,11 @@
 -- How a run ends, from what its parts answer; and what follows from how it ended.
-use Rattle.std.proofs.Common.{◌≡◌, ◌⊎◌, inl, inr, ℕ, List, [], ◌∷◌, ◌++◌, Option, Some, IfSome, Result, Ok, Err, OnOk, Contains, refl, sym, ap, ◌∙◌, subst, arith}
+use Rattle.std.proofs.Common.{◌≡◌, ◌⊎◌, ◌↔◌, inl, inr, ℕ, List, [], ◌∷◌, ◌++◌, Option, Some, IfSome, Result, Ok, Err, OnOk, Contains, refl, sym, ap, ◌∙◌, subst, arith}
 use Rattle.mine_model.specs.declared.item.Item.{Item}
 use Rattle.mine_model.specs.declared.fault.Fault.{Fault}
 use Rattle.mine_model.specs.declared.fault.Fault.TheVariants.{Usage, BadToken, BadRepeat, Unexpected, Unknown, BadByte, BadWeight, Cycle, ExprTooLong, RepeatLimit, TooDeep, TooManyLeaves, TooLarge, NameTooLong, TooManyItems, TooManyAncestors, TooManySequences, SequenceTooLong, Read, Write, NoMemory}
 use Rattle.mine_model.specs.declared.fault.Which.{Which}
 use Rattle.mine_model.specs.Expression.{Tree, named_in}
-use Rattle.mine_model.specs.Grammar.{Use, ReadsAs}
+use Rattle.mine_model.specs.Grammar.{Use}
 use Rattle.mine_model.specs.Support.{Sequence}
 use Rattle.mine_model.specs.Ancestry.{Ancestry}
 use Rattle.mine_model.specs.First.{FirstAmong}
@@ -15,10 +15,11 @@ use Rattle.mine_model.specs.Status.{fault_status, status_of}
 use Rattle.mine_model.proofs.ListLemmas.{Contains-first, Contains-other}
 use Rattle.mine_model.proofs.FirstLemmas.{AtMostOne, FirstOf-unique, FirstAmong-unique}
 use Rattle.mine_model.proofs.RefusalLemmas.{ReadsAs-unique, IsExpressionRefusal-unique}
-use Rattle.command_line.specs.Words.{Command, IsCommand, IsUsage}
+use Rattle.command_line.specs.Words.{Source, read, embed, Command, IsCommand, IsUsage, file_of}
 use Rattle.command_line.proofs.CommandLemmas.{IsCommand-unique, IsUsage-excludes}
-use Rattle.desq_run.specs.Ends.{Input, IsInput, bytes_named, hierarchy_names, known_names, IsFirstRefusal, IsAccepted, HasExpression, IsOfKind, IsOfFiles, Ends, done, no_command, refused_expression, refused_file, read_fault, write_fault, no_memory}
-use Rattle.desq_run.specs.Inputs.{IsHierarchyOf, IsDatabaseOf}
+use Rattle.desq_run.specs.Sources.{IsSourceRefusal, IsUnknownIn}
+use Rattle.desq_run.specs.Ends.{Input, IsInput, bytes_named, hierarchy_names, known_names, IsFirstRefusal, IsAccepted, HasSource, IsOfKind, IsOfFiles, Ends, done, no_command, refused_source, refused_file, read_fault, write_fault, no_memory}
+use Rattle.desq_run.specs.Inputs.{IsHierarchyOf, IsDatabaseOf, IsRead}
 use Rattle.desq_run.proofs.LinkLemmas.{Contains-both, Contains-front, Contains-back}
 use Rattle.desq_run.proofs.SameRefusals.{HoldSame, sequences-alike, unknown-alike}
 use Rattle.desq_run.proofs.UniqueRefusals.{hierarchy-unique, sequences-unique}
@@ -35,6 +36,15 @@ expression-status text fault (inr (a, inr (b, inr (c, inl p)))) = inr (ap fault_
 expression-status text fault (inr (a, inr (b, inr (c, inr (d, inl p))))) = inl (ap fault_status p.4)
 expression-status text fault (inr (a, inr (b, inr (c, inr (d, inr (e, inl p)))))) = inr (ap fault_status p.4)
 expression-status text fault (inr (a, inr (b, inr (c, inr (d, inr (e, inr (g, p))))))) = inr (ap fault_status p.5)
+
+-- so is a source
+pub source-status : (source : Source) (fault : Fault) → IsSourceRefusal source fault → (fault_status fault ≡ 3) ⊎ (fault_status fault ≡ 4)
+source-status (read expression file) fault refused = expression-status expression fault refused
+source-status (embed rule file) fault (many, same) = inr (ap fault_status same)
+
+source-unique : (source : Source) → AtMostOne (IsSourceRefusal source)
+source-unique (read expression file) = IsExpressionRefusal-unique expression
+source-unique (embed rule file) = λ f g p q. p.1 ∙ sym q.1
 
 -- an unknown name is that of a use
 pub unknown-use : (known : List (List ℕ)) (before uses : List Use) (fault : Fault)
@@ -71,38 +81,42 @@ kind-status kind NoMemory none = absurd none
 -- a fault of the files is malformed or beyond a limit
 pub files-status : (c : Command) (fault : Fault) → IsOfFiles c fault → (fault_status fault ≡ 3) ⊎ (fault_status fault ≡ 4)
 files-status c fault (inl (kind, named, of_kind)) = kind-status kind fault of_kind
-files-status c fault (inr (tree, reads, u, inside, same)) = inl (ap fault_status same)
+files-status c fault (inr (u, has, same)) = inl (ap fault_status same)
+
+unknown-unique : (known : List (List ℕ)) (source : Source) → AtMostOne (IsUnknownIn known source)
+unknown-unique known (embed rule file) = λ f g p q. absurd p
+unknown-unique known (read expression file) = λ f g p q.
+    let same : p.0 ≡ q.0 = ReadsAs-unique expression p.0 q.0 p.1 q.1 in
+    FirstAmong-unique _ (λ before u j k r s. r.1 ∙ sym s.1) [] (named_in q.0) f g
+    (subst (λ t. IsUnknown known (named_in t) f) same p.2) q.2
 
 -- there is at most one first refusal
 pub first-unique : (input : Input) → AtMostOne (IsFirstRefusal input)
 first-unique input =
-    FirstOf-unique _ _ (IsExpressionRefusal-unique input.command.expression)
+    FirstOf-unique _ _ (source-unique input.command.source)
     (FirstOf-unique _ _ (hierarchy-unique input.hierarchy)
     (FirstOf-unique _ _ (sequences-unique input.command.weighted (hierarchy_names input) input.sequences)
-    (λ f g p q.
-    let same : p.0 ≡ q.0 = ReadsAs-unique input.command.expression p.0 q.0 p.1 q.1 in
-    FirstAmong-unique _ (λ before u j k r s. r.1 ∙ sym s.1) [] (named_in q.0) f g
-    (subst (λ t. IsUnknown (known_names input) (named_in t) f) same p.2) q.2)))
+    (unknown-unique (known_names input) input.command.source)))
 
-module _ (words : List (List ℕ)) (holds : List ℕ → Option (List ℕ)) (c : Command) (has : HasExpression words c) where
+module _ (words : List (List ℕ)) (holds : List ℕ → Option (List ℕ)) (c : Command) (has : HasSource words c) where
   pub same_command : (input : Input) → IsInput words holds input → c ≡ input.command
   same_command input is = IsCommand-unique words c input.command has.0 is.said
 
-  -- the expression of the input is not refused
-  no_expression : (input : Input) → IsInput words holds input → (fault : Fault) → IsExpressionRefusal input.command.expression fault → ⊥
-  no_expression input is = subst (λ (d : Command). (fault : Fault) → IsExpressionRefusal d.expression fault → ⊥) (same_command input is) has.1
+  -- the source of the input is not refused
+  no_source : (input : Input) → IsInput words holds input → (fault : Fault) → IsSourceRefusal input.command.source fault → ⊥
+  no_source input is = subst (λ (d : Command). (fault : Fault) → IsSourceRefusal d.source fault → ⊥) (same_command input is) has.1
 
   hierarchy_at : (input : Input) → IsInput words holds input → bytes_named holds c.hierarchy ≡ Some input.hierarchy
   hierarchy_at input is = ap (λ (d : Command). bytes_named holds d.hierarchy) (same_command input is) ∙ is.hierarchy
 
-  sequences_at : (input : Input) → IsInput words holds input → holds c.file ≡ Some input.sequences
-  sequences_at input is = ap (λ (d : Command). holds d.file) (same_command input is) ∙ is.sequences
+  sequences_at : (input : Input) → IsInput words holds input → holds (file_of c.source) ≡ Some input.sequences
+  sequences_at input is = ap (λ (d : Command). holds (file_of d.source)) (same_command input is) ∙ is.sequences
 
   pub hierarchy-refused : (fault : Fault) → IfSome (bytes_named holds c.hierarchy) (λ bytes. IsHierarchyRefusal bytes fault)
       → IsOfFiles c fault → Ends words holds (Err fault)
   hierarchy-refused fault refused of_files = refused_file c fault has
       (λ input is. inr (
-        no_expression input is,
+        no_source input is,
         inl (IfSome-at (λ bytes. IsHierarchyRefusal bytes fault) (bytes_named holds c.hierarchy) input.hierarchy refused (hierarchy_at input is)),
       )) of_files
 
@@ -113,26 +127,26 @@ module _ (words : List (List ℕ)) (holds : List ℕ → Option (List ℕ)) (c :
     known_same : (input : Input) → IsInput words holds input → HoldSame known (hierarchy_names input)
     known_same input is = (read_at input is).held
 
-    pub sequences-refused : (fault : Fault) → IfSome (holds c.file) (λ bytes. IsSequencesRefusal c.weighted known bytes fault)
+    pub sequences-refused : (fault : Fault) → IfSome (holds (file_of c.source)) (λ bytes. IsSequencesRefusal c.weighted known bytes fault)
         → IsOfFiles c fault → Ends words holds (Err fault)
     sequences-refused fault refused of_files = refused_file c fault has
         (λ input is. inr (
-          no_expression input is,
+          no_source input is,
           inr (
             (read_at input is).accepted,
             inl (
                 let here : IsSequencesRefusal c.weighted known input.sequences fault =
-                IfSome-at (λ bytes. IsSequencesRefusal c.weighted known bytes fault) (holds c.file) input.sequences refused (sequences_at input is) in
+                IfSome-at (λ bytes. IsSequencesRefusal c.weighted known bytes fault) (holds (file_of c.source)) input.sequences refused (sequences_at input is) in
                 let there : IsSequencesRefusal input.command.weighted known input.sequences fault =
                 subst (λ (d : Command). IsSequencesRefusal d.weighted known input.sequences fault) (same_command input is) here in
                 (sequences-alike input.command.weighted known (hierarchy_names input) input.sequences (known_same input is) fault).0 there),
           ),
         )) of_files
 
-    module _ (names : List (List ℕ)) (db : List (Sequence Item)) (found : IfSome (holds c.file) (λ bytes. IsDatabaseOf c.weighted bytes known names db)) where
+    module _ (names : List (List ℕ)) (db : List (Sequence Item)) (found : IfSome (holds (file_of c.source)) (λ bytes. IsDatabaseOf c.weighted bytes known names db)) where
       pub found_at : (input : Input) → IsInput words holds input → IsDatabaseOf input.command.weighted input.sequences known names db
       found_at input is = subst (λ (d : Command). IsDatabaseOf d.weighted input.sequences known names db) (same_command input is)
-          (IfSome-at (λ bytes. IsDatabaseOf c.weighted bytes known names db) (holds c.file) input.sequences found (sequences_at input is))
+          (IfSome-at (λ bytes. IsDatabaseOf c.weighted bytes known names db) (holds (file_of c.source)) input.sequences found (sequences_at input is))
 
       no_sequences : (input : Input) → IsInput words holds input → (fault : Fault)
           → IsSequencesRefusal input.command.weighted (hierarchy_names input) input.sequences fault → ⊥
@@ -151,34 +165,34 @@ module _ (words : List (List ℕ)) (holds : List ℕ → Option (List ℕ)) (c :
         ])),
       )
 
-      module _ (tree : Tree Use) (reads : ReadsAs c.expression tree) where
-        pub reads_at : (input : Input) → IsInput words holds input → ReadsAs input.command.expression tree
-        reads_at input is = subst (λ (d : Command). ReadsAs d.expression tree) (same_command input is) reads
+      module _ (uses : List Use) (tree : Tree Item) (is_read : IsRead c.source uses tree) where
+        unknown_at : (input : Input) → IsInput words holds input → (fault : Fault)
+            → IsUnknownIn (known_names input) input.command.source fault ↔ IsUnknown names uses fault
+        unknown_at input is fault =
+            let here : IsUnknownIn (known_names input) input.command.source fault ↔ IsUnknown (known_names input) uses fault =
+            subst (λ (d : Command). IsUnknownIn (known_names input) d.source fault ↔ IsUnknown (known_names input) uses fault) (same_command input is)
+            (is_read.unknown (known_names input) fault) in
+            let alike = unknown-alike names (known_names input) uses (names_same input is) fault in
+            ((λ p. alike.1 (here.0 p)), (λ p. here.1 (alike.0 p)))
 
-        pub unknown-refused : (fault : Fault) → IsUnknown names (named_in tree) fault → Ends words holds (Err fault)
+        pub unknown-refused : (fault : Fault) → IsUnknown names uses fault → Ends words holds (Err fault)
         unknown-refused fault unknown = refused_file c fault has
             (λ input is. inr (
-              no_expression input is,
+              no_source input is,
               inr (
                 (read_at input is).accepted,
-                inr (
-                  no_sequences input is,
-                  (tree, reads_at input is, (unknown-alike names (known_names input) (named_in tree) (names_same input is) fault).0 unknown),
-                ),
+                inr (no_sequences input is, (unknown_at input is fault).1 unknown),
               ),
             ))
-            (let (u, inside, same) = unknown-use names [] (named_in tree) fault unknown in inr (tree, reads, u, inside, same))
+            (let (u, inside, same) = unknown-use names [] uses fault unknown in inr (u, is_read.used u inside, same))
 
         -- where no name is unknown nothing is refused
-        pub nothing-refused : ((fault : Fault) → IsUnknown names (named_in tree) fault → ⊥)
+        pub nothing-refused : ((fault : Fault) → IsUnknown names uses fault → ⊥)
             → (input : Input) → IsInput words holds input → IsAccepted input
-        nothing-refused known_all input is fault (inl p) = no_expression input is fault p
+        nothing-refused known_all input is fault (inl p) = no_source input is fault p
         nothing-refused known_all input is fault (inr (a, inl p)) = (read_at input is).accepted fault p
         nothing-refused known_all input is fault (inr (a, inr (b, inl p))) = no_sequences input is fault p
-        nothing-refused known_all input is fault (inr (a, inr (b, inr (d, (other, reads', unknown))))) =
-            let same : other ≡ tree = ReadsAs-unique input.command.expression other tree reads' (reads_at input is) in
-            known_all fault ((unknown-alike names (known_names input) (named_in tree) (names_same input is) fault).1
-            (subst (λ t. IsUnknown (known_names input) (named_in t) fault) same unknown))
+        nothing-refused known_all input is fault (inr (a, inr (b, inr (d, unknown)))) = known_all fault ((unknown_at input is fault).0 unknown)
 
 -- What follows from how a run ended
 
@@ -190,8 +204,8 @@ module _ (words : List (List ℕ)) (holds : List ℕ → Option (List ℕ)) wher
   pub usage-ended : (outcome : Result (Option Work) Fault) → Ends words holds outcome → status_of outcome ≡ 2 → IsUsage words
   usage-ended _ (done c told has asked ends) status = absurd (omega (arith, status))
   usage-ended _ (no_command usage) status = usage
-  usage-ended _ (refused_expression c fault is refused) status =
-      absurd (other_status (fault_status fault) 2 (expression-status c.expression fault refused) status (λ e. omega (arith, e)) (λ e. omega (arith, e)))
+  usage-ended _ (refused_source c fault is refused) status =
+      absurd (other_status (fault_status fault) 2 (source-status c.source fault refused) status (λ e. omega (arith, e)) (λ e. omega (arith, e)))
   usage-ended _ (refused_file c fault has refused malformed) status =
       absurd (other_status (fault_status fault) 2 (files-status c fault malformed) status (λ e. omega (arith, e)) (λ e. omega (arith, e)))
   usage-ended _ (read_fault c file has names) status = absurd (omega (arith, status))
@@ -202,26 +216,26 @@ module _ (words : List (List ℕ)) (holds : List ℕ → Option (List ℕ)) wher
   pub ended-usage : (outcome : Result (Option Work) Fault) → Ends words holds outcome → IsUsage words → (status_of outcome ≡ 2) ⊎ (status_of outcome ≡ 7)
   ended-usage _ (done c told has asked ends) usage = absurd (IsUsage-excludes words c usage has.0)
   ended-usage _ (no_command is) usage = inl refl
-  ended-usage _ (refused_expression c fault is refused) usage = absurd (IsUsage-excludes words c usage is)
+  ended-usage _ (refused_source c fault is refused) usage = absurd (IsUsage-excludes words c usage is)
   ended-usage _ (refused_file c fault has refused malformed) usage = absurd (IsUsage-excludes words c usage has.0)
   ended-usage _ (read_fault c file has names) usage = absurd (IsUsage-excludes words c usage has.0)
   ended-usage _ (write_fault c has accepted) usage = absurd (IsUsage-excludes words c usage has.0)
   ended-usage _ no_memory usage = inr refl
 
-  -- a command whose expression is refused ends so, unless memory ran out
-  pub ended-expression : (outcome : Result (Option Work) Fault) → Ends words holds outcome → (c : Command) (fault : Fault) → IsCommand words c
-      → IsExpressionRefusal c.expression fault → (status_of outcome ≡ fault_status fault) ⊎ (status_of outcome ≡ 7)
-  ended-expression _ ended c fault is refused = by _ ended
+  -- a command whose source is refused ends so, unless memory ran out
+  pub ended-source : (outcome : Result (Option Work) Fault) → Ends words holds outcome → (c : Command) (fault : Fault) → IsCommand words c
+      → IsSourceRefusal c.source fault → (status_of outcome ≡ fault_status fault) ⊎ (status_of outcome ≡ 7)
+  ended-source _ ended c fault is refused = by _ ended
     where
-      contradicts : (d : Command) → HasExpression words d → ⊥
-      contradicts d has = has.1 fault (subst (λ (e : Command). IsExpressionRefusal e.expression fault) (IsCommand-unique words c d is has.0) refused)
+      contradicts : (d : Command) → HasSource words d → ⊥
+      contradicts d has = has.1 fault (subst (λ (e : Command). IsSourceRefusal e.source fault) (IsCommand-unique words c d is has.0) refused)
 
       by : (outcome : Result (Option Work) Fault) → Ends words holds outcome → (status_of outcome ≡ fault_status fault) ⊎ (status_of outcome ≡ 7)
       by _ (done d told has asked ends) = absurd (contradicts d has)
       by _ (no_command usage) = absurd (IsUsage-excludes words c usage is)
-      by _ (refused_expression d other is_d refused_d) =
-          let here : IsExpressionRefusal d.expression fault = subst (λ (e : Command). IsExpressionRefusal e.expression fault) (IsCommand-unique words c d is is_d) refused in
-          inl (ap fault_status (IsExpressionRefusal-unique d.expression other fault refused_d here))
+      by _ (refused_source d other is_d refused_d) =
+          let here : IsSourceRefusal d.source fault = subst (λ (e : Command). IsSourceRefusal e.source fault) (IsCommand-unique words c d is is_d) refused in
+          inl (ap fault_status (source-unique d.source other fault refused_d here))
       by _ (refused_file d other has refused_d malformed) = absurd (contradicts d has)
       by _ (read_fault d file has names) = absurd (contradicts d has)
       by _ (write_fault d has accepted) = absurd (contradicts d has)
@@ -235,8 +249,8 @@ module _ (words : List (List ℕ)) (holds : List ℕ → Option (List ℕ)) wher
     refusal-ended _ (done c told has asked ends) (inr e) = absurd (omega (arith, e))
     refusal-ended _ (no_command usage) (inl e) = absurd (omega (arith, e))
     refusal-ended _ (no_command usage) (inr e) = absurd (omega (arith, e))
-    refusal-ended _ (refused_expression c fault is_c refused) status =
-        (fault, inl (subst (λ (d : Command). IsExpressionRefusal d.expression fault) (IsCommand-unique words c input.command is_c is.said) refused), refl)
+    refusal-ended _ (refused_source c fault is_c refused) status =
+        (fault, inl (subst (λ (d : Command). IsSourceRefusal d.source fault) (IsCommand-unique words c input.command is_c is.said) refused), refl)
     refusal-ended _ (refused_file c fault has refused malformed) status = (fault, refused input is, refl)
     refusal-ended _ (read_fault c file has names) (inl e) = absurd (omega (arith, e))
     refusal-ended _ (read_fault c file has names) (inr e) = absurd (omega (arith, e))
@@ -250,9 +264,9 @@ module _ (words : List (List ℕ)) (holds : List ℕ → Option (List ℕ)) wher
         → (status_of outcome ≡ fault_status fault) ⊎ (status_of outcome ≡ 7) ⊎ (status_of outcome ≡ 5)
     ended-refusal _ (done c told has asked ends) fault refused = absurd ((ends input is).0 fault refused)
     ended-refusal _ (no_command usage) fault refused = absurd (IsUsage-excludes words input.command usage is.said)
-    ended-refusal _ (refused_expression c other is_c refused_c) fault refused =
+    ended-refusal _ (refused_source c other is_c refused_c) fault refused =
         let here : IsFirstRefusal input other =
-        inl (subst (λ (d : Command). IsExpressionRefusal d.expression other) (IsCommand-unique words c input.command is_c is.said) refused_c) in
+        inl (subst (λ (d : Command). IsSourceRefusal d.source other) (IsCommand-unique words c input.command is_c is.said) refused_c) in
         inl (ap fault_status (first-unique input other fault here refused))
     ended-refusal _ (refused_file c other has refused_c malformed) fault refused =
         inl (ap fault_status (first-unique input other fault (refused_c input is) refused))
@@ -265,8 +279,8 @@ module _ (words : List (List ℕ)) (holds : List ℕ → Option (List ℕ)) wher
         → (status_of outcome ≡ 0) ⊎ (status_of outcome ≡ 5) ⊎ (status_of outcome ≡ 6) ⊎ (status_of outcome ≡ 7)
     ended-accepted _ (done c told has asked ends) all = inl refl
     ended-accepted _ (no_command usage) all = absurd (IsUsage-excludes words input.command usage is.said)
-    ended-accepted _ (refused_expression c fault is_c refused) all =
-        absurd (all fault (inl (subst (λ (d : Command). IsExpressionRefusal d.expression fault) (IsCommand-unique words c input.command is_c is.said) refused)))
+    ended-accepted _ (refused_source c fault is_c refused) all =
+        absurd (all fault (inl (subst (λ (d : Command). IsSourceRefusal d.source fault) (IsCommand-unique words c input.command is_c is.said) refused)))
     ended-accepted _ (refused_file c fault has refused malformed) all = absurd (all fault (refused input is))
     ended-accepted _ (read_fault c file has names) all = inr (inl refl)
     ended-accepted _ (write_fault c has accepted) all = inr (inr (inl refl))
@@ -353,10 +367,10 @@ pub accepted-ended : (words : List (List ℕ)) (holds : List ℕ → Option (Lis
 accepted-ended words holds input is _ (done c told has asked ends) status = (ends input is).0
 accepted-ended words holds input is _ (no_command usage) (inl e) = absurd (omega (arith, e))
 accepted-ended words holds input is _ (no_command usage) (inr e) = absurd (omega (arith, e))
-accepted-ended words holds input is _ (refused_expression c fault is_c refused) (inl e) =
-    absurd (other_status (fault_status fault) 0 (expression-status c.expression fault refused) e (λ p. omega (arith, p)) (λ p. omega (arith, p)))
-accepted-ended words holds input is _ (refused_expression c fault is_c refused) (inr e) =
-    absurd (other_status (fault_status fault) 6 (expression-status c.expression fault refused) e (λ p. omega (arith, p)) (λ p. omega (arith, p)))
+accepted-ended words holds input is _ (refused_source c fault is_c refused) (inl e) =
+    absurd (other_status (fault_status fault) 0 (source-status c.source fault refused) e (λ p. omega (arith, p)) (λ p. omega (arith, p)))
+accepted-ended words holds input is _ (refused_source c fault is_c refused) (inr e) =
+    absurd (other_status (fault_status fault) 6 (source-status c.source fault refused) e (λ p. omega (arith, p)) (λ p. omega (arith, p)))
 accepted-ended words holds input is _ (refused_file c fault has refused of_files) (inl e) =
     absurd (other_status (fault_status fault) 0 (files-status c fault of_files) e (λ p. omega (arith, p)) (λ p. omega (arith, p)))
 accepted-ended words holds input is _ (refused_file c fault has refused of_files) (inr e) =

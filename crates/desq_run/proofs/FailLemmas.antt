@@ -16,8 +16,8 @@ use Rattle.item_hierarchy.specs.Refusing.{IsReadRefusal}
 use Rattle.mine_model.specs.Refusal.{IsHierarchyRefusal, IsSequencesRefusal}
 use Rattle.mine_model.specs.Status.{fault_status}
 use Rattle.mine_model.specs.Ancestry.{Ancestry}
-use Rattle.command_line.specs.Words.{Command}
-use Rattle.desq_run.specs.Ends.{bytes_named, HasExpression, NamesKind, IsOfKind, Ends}
+use Rattle.command_line.specs.Words.{Command, file_of}
+use Rattle.desq_run.specs.Ends.{bytes_named, HasSource, NamesKind, IsOfKind, Ends}
 use Rattle.desq_run.specs.Ends as ends
 use Rattle.desq_run.specs.Inputs.{FailsBy, refused, failed, no_memory, IsHierarchyOf}
 use Rattle.desq_run.proofs.EndLemmas.{hierarchy-refused, sequences-refused}
@@ -81,7 +81,7 @@ named-kind c some = by c.hierarchy some refl
     by None none same = absurd (true≢false (sym none))
     by (Some name) is same = (name, same)
 
-module _ (words : List (List ℕ)) (holds : List ℕ → Option (List ℕ)) (c : Command) (has : HasExpression words c) (Faulty : Type 0) where
+module _ (words : List (List ℕ)) (holds : List ℕ → Option (List ℕ)) (c : Command) (has : HasSource words c) (Faulty : Type 0) where
   -- how a run ends where reading the hierarchy fails
   pub hierarchy-ends : (fault : Fault) → FailsBy (bytes_named holds c.hierarchy) IsHierarchyRefusal Hierarchy (IsSome c.hierarchy) Faulty fault
       → Ends words holds (Err fault)
@@ -92,7 +92,7 @@ module _ (words : List (List ℕ)) (holds : List ℕ → Option (List ℕ)) (c :
 
   -- how a run ends where reading the sequences fails
   pub sequences-ends : (known : List (List ℕ)) (h : Ancestry) → IfSome (bytes_named holds c.hierarchy) (λ bytes. IsHierarchyOf bytes known h)
-      → (fault : Fault) → FailsBy (holds c.file) (IsSequencesRefusal c.weighted known) Sequences (Unit {0}) Faulty fault → Ends words holds (Err fault)
+      → (fault : Fault) → FailsBy (holds (file_of c.source)) (IsSequencesRefusal c.weighted known) Sequences (Unit {0}) Faulty fault → Ends words holds (Err fault)
   sequences-ends known h read _ (refused fault named is of_kind) =
       sequences-refused words holds c has known h read fault is (inl (Sequences, tt, of_kind))
   sequences-ends known h read _ (failed named faulty) = ends.read_fault c Sequences has tt

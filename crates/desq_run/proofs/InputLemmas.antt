@@ -6,7 +6,6 @@ use Rattle.mine_model.specs.declared.item.Item.{Item}
 use Rattle.mine_model.specs.declared.row.Row.{Row}
 use Rattle.mine_model.specs.Hierarchy.{Link}
 use Rattle.mine_model.specs.Expression.{Tree, tree_by, named_in}
-use Rattle.mine_model.specs.Grammar.{Use}
 use Rattle.mine_model.specs.Support.{Sequence}
 use Rattle.mine_model.specs.Answer.{Data, Rises, IsAnswer, IsFrequent}
 use Rattle.mine_model.specs.Names.{name_of, HasName, AreDistinct, named_row, sequence_by}
@@ -31,13 +30,13 @@ each-contained P [] each = tt
 each-contained P (x ∷ xs) each = (each x (Contains-first x xs), each-contained P xs (λ y inside. each y (Contains-other x xs y inside)))
 
 -- the rows found by numbers, in order, are the answer by names
-pub rows-answer : (input : Input) (tree : Tree Use) (known added : List (List ℕ)) (h : Ancestry) (db : List (Sequence Item)) (e : Tree Item) (rows : List Row)
+pub rows-answer : (input : Input) (tree : Tree (List ℕ)) (known added : List (List ℕ)) (h : Ancestry) (db : List (Sequence Item)) (e : Tree Item) (rows : List Row)
     → AreDistinct (known ++ added)
     → IsHierarchyOf input.hierarchy known h
     → AreLinksWithin h
     → IsDatabaseOf input.command.weighted input.sequences known (known ++ added) db
     → AllByRecursion (λ (s : Sequence Item). AllByRecursion (HasName (known ++ added)) s.items) db
-    → tree_by (name_of (known ++ added)) e ≡ tree_by (λ (u : Use). u.name) tree
+    → tree_by (name_of (known ++ added)) e ≡ tree
     → AllByRecursion (HasName (known ++ added)) (named_in e)
     → 1 ≤ input.command.threshold
     → ((row : Row) → Contains rows row ↔ IsFrequent (record { links = h.links; sequences = db; expression = e; threshold = input.command.threshold }) row.pattern row.support)
@@ -54,17 +53,17 @@ rows-answer input tree known added h db e rows distinct read within is_db number
     let answer : IsAnswer (named_data names (links_of input.hierarchy) d) (map (named_row names) rows) =
     answer-named names (links_of input.hierarchy) d (names-rename input.hierarchy known added h distinct read within)
     (record { links = links_named; sequences = numbered; expression = named }) some rows frequent rises in
-    subst (λ (s : List (Sequence (List ℕ))). IsAnswer (record { links = links_of input.hierarchy; sequences = s; expression = tree_by (λ (u : Use). u.name) tree; threshold = input.command.threshold }) (map (named_row names) rows)) is_db.sequences
+    subst (λ (s : List (Sequence (List ℕ))). IsAnswer (record { links = links_of input.hierarchy; sequences = s; expression = tree; threshold = input.command.threshold }) (map (named_row names) rows)) is_db.sequences
     (subst (λ (t : Tree (List ℕ)). IsAnswer (record { links = links_of input.hierarchy; sequences = map (sequence_by (name_of names)) db; expression = t; threshold = input.command.threshold }) (map (named_row names) rows)) same_tree answer)
 
 -- the work found by numbers is the work by names
-pub work-answer : (input : Input) (tree : Tree Use) (known added : List (List ℕ)) (h : Ancestry) (db : List (Sequence Item)) (e : Tree Item) (engine : Engine) (work : Work)
+pub work-answer : (input : Input) (tree : Tree (List ℕ)) (known added : List (List ℕ)) (h : Ancestry) (db : List (Sequence Item)) (e : Tree Item) (engine : Engine) (work : Work)
     → AreDistinct (known ++ added)
     → IsHierarchyOf input.hierarchy known h
     → AreLinksWithin h
     → IsDatabaseOf input.command.weighted input.sequences known (known ++ added) db
     → AllByRecursion (λ (s : Sequence Item). AllByRecursion (HasName (known ++ added)) s.items) db
-    → tree_by (name_of (known ++ added)) e ≡ tree_by (λ (u : Use). u.name) tree
+    → tree_by (name_of (known ++ added)) e ≡ tree
     → AllByRecursion (HasName (known ++ added)) (named_in e) → 1 ≤ input.command.threshold
     → IsWorkOf (IsNamedBefore (known ++ added)) engine (record { links = h.links; sequences = db; expression = e; threshold = input.command.threshold }) work
     → IsWorkOf IsBytewiseBefore engine (data_of input tree) work
@@ -78,7 +77,7 @@ work-answer input tree known added h db e Count work distinct read within is_db 
       parts = is.parts;
       pairs = (
         is.pairs.0,
-        subst (λ (s : List (Sequence (List ℕ))). HasPairs (record { links = links_of input.hierarchy; sequences = s; expression = tree_by (λ (u : Use). u.name) tree; threshold = input.command.threshold }) s is.pairs.0) is_db.sequences
+        subst (λ (s : List (Sequence (List ℕ))). HasPairs (record { links = links_of input.hierarchy; sequences = s; expression = tree; threshold = input.command.threshold }) s is.pairs.0) is_db.sequences
             (subst (λ (t : Tree (List ℕ)). HasPairs (record { links = links_of input.hierarchy; sequences = map (sequence_by (name_of names)) db; expression = t; threshold = input.command.threshold }) (map (sequence_by (name_of names)) db) is.pairs.0) same_tree pairs),
         is.pairs.2,
       );
@@ -88,12 +87,12 @@ work-answer input tree known added h db e Dfs work distinct read within is_db nu
     let d : Data Item = record { links = h.links; sequences = db; expression = e; threshold = input.command.threshold } in
     let search = search-forth (name_of names) (links_of input.hierarchy) d (HasName names) (names-rename input.hierarchy known added h distinct read within)
     named numbered some work is in
-    subst (λ (s : List (Sequence (List ℕ))). IsSearchWork (record { links = links_of input.hierarchy; sequences = s; expression = tree_by (λ (u : Use). u.name) tree; threshold = input.command.threshold }) work) is_db.sequences
+    subst (λ (s : List (Sequence (List ℕ))). IsSearchWork (record { links = links_of input.hierarchy; sequences = s; expression = tree; threshold = input.command.threshold }) work) is_db.sequences
     (subst (λ (t : Tree (List ℕ)). IsSearchWork (record { links = links_of input.hierarchy; sequences = map (sequence_by (name_of names)) db; expression = t; threshold = input.command.threshold }) work) same_tree search)
 work-answer input tree known added h db e Pivot work distinct read within is_db numbered same_tree named some is =
     let names : List (List ℕ) = known ++ added in
     let d : Data Item = record { links = h.links; sequences = db; expression = e; threshold = input.command.threshold } in
     let partition = partition-names (name_of names) (links_of input.hierarchy) d (HasName names) (names-rename input.hierarchy known added h distinct read within)
     named numbered IsBytewiseBefore some work is in
-    subst (λ (s : List (Sequence (List ℕ))). IsPartitionWork IsBytewiseBefore (record { links = links_of input.hierarchy; sequences = s; expression = tree_by (λ (u : Use). u.name) tree; threshold = input.command.threshold }) work) is_db.sequences
+    subst (λ (s : List (Sequence (List ℕ))). IsPartitionWork IsBytewiseBefore (record { links = links_of input.hierarchy; sequences = s; expression = tree; threshold = input.command.threshold }) work) is_db.sequences
     (subst (λ (t : Tree (List ℕ)). IsPartitionWork IsBytewiseBefore (record { links = links_of input.hierarchy; sequences = map (sequence_by (name_of names)) db; expression = t; threshold = input.command.threshold }) work) same_tree partition)

@@ -3,6 +3,7 @@ pub mod LinkLemmas
 pub mod HierarchyLemmas
 pub mod PartitionWorkLemmas
 pub mod PartitionRankLemmas
+pub mod SourceLemmas
 pub mod InputLemmas
 pub mod SameRefusals
 pub mod UniqueRefusals

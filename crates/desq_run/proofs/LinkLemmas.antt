@@ -86,15 +86,6 @@ number-of (first ∷ names) name inside = elim (Contains-cases first names name 
   | inr other ↦ let (w, held, same) = number-of names name other in (record { 0 = suc w.0 }, omega (arith, held), same)
 ]
 
--- the name of a number is held
-pub named-held : (names : List (List ℕ)) (w : Item) → HasName names w → Contains names (name_of names w)
-named-held names w held = by names w.0 held
-  where
-    by : (names : List (List ℕ)) (n : ℕ) → n < length names → Contains names (slice_index_or names n [])
-    by [] n less = absurd (omega arith)
-    by (first ∷ names) zero less = Contains-first first names
-    by (first ∷ names) (suc n) less = Contains-other first names (slice_index_or names n []) (by names n (omega (arith, less)))
-
 -- names that come behind change no name of a number
 pub name-front : (names added : List (List ℕ)) (w : Item) → HasName names w → name_of (names ++ added) w ≡ name_of names w
 name-front names added w held = by names w.0 held

@@ -6,22 +6,25 @@ use Rattle.std.proofs.lemmas.List.Sorted.{Contains-permutation, IsPermutation-sy
 use Rattle.mine_model.specs.declared.item.Item.{Item}
 use Rattle.mine_model.specs.declared.row.Row.{Row}
 use Rattle.mine_model.specs.declared.fault.Fault.{Fault}
-use Rattle.mine_model.specs.Expression.{Tree, tree_by, named_in}
-use Rattle.mine_model.specs.Grammar.{Use, ReadsAs}
+use Rattle.mine_model.specs.Expression.{Tree}
+use Rattle.mine_model.specs.Grammar.{Use}
 use Rattle.mine_model.specs.Support.{Sequence}
 use Rattle.mine_model.specs.Answer.{IsFrequent, Rises}
 use Rattle.mine_model.specs.Numbered.{AreFrequent}
 use Rattle.mine_model.specs.Names.{HasName, AreDistinct, named_row}
 use Rattle.mine_model.specs.Ancestry.{Ancestry}
 use Rattle.mine_model.specs.Refusal.{IsUnknown}
-use Rattle.command_line.specs.Words.{Command}
+use Rattle.patex_parser.specs.Parsing.{named_tree}
+use Rattle.command_line.specs.Words.{Command, file_of}
 use Rattle.mine_model.specs.declared.mined.Work.{Work}
 use Rattle.command_line.specs.declared.words.Engine.{Engine}
 use Rattle.desq_run.specs.PartitionWork.{IsBytewiseBefore, IsNamedBefore}
-use Rattle.desq_run.specs.Ends.{bytes_named, data_of, HasExpression, IsWorkOf}
-use Rattle.desq_run.specs.Inputs.{IsHierarchyOf, IsDatabaseOf, AreLinksWithin, AreInputs, AreRows, AreOrdered, IsMined}
+use Rattle.desq_run.specs.Sources.{SaysTree}
+use Rattle.desq_run.specs.Ends.{bytes_named, data_of, HasSource, IsAnswerTo, IsWorkOf}
+use Rattle.desq_run.specs.Inputs.{IsHierarchyOf, IsDatabaseOf, AreLinksWithin, AreInputs, HasRanges, IsRead, AreRows, AreOrdered, IsMined}
 use Rattle.desq_run.proofs.HierarchyLemmas.{all-of}
-use Rattle.desq_run.proofs.EndLemmas.{same_command, read_at, found_at, reads_at, nothing-refused}
+use Rattle.desq_run.proofs.EndLemmas.{same_command, read_at, found_at, nothing-refused}
+use Rattle.desq_run.proofs.SourceLemmas.{answer-to}
 use Rattle.desq_run.proofs.InputLemmas.{rows-answer, work-answer}
 
 -- the items of rows have names, where those of a hierarchy have
@@ -44,42 +47,41 @@ rows-ordered names h db e threshold rows ordered frequent same rises = record {
   rises = rises;
 }
 
-module _ (words : List (List ℕ)) (holds : List ℕ → Option (List ℕ)) (c : Command) (has : HasExpression words c)
-    (known : List (List ℕ)) (before : Ancestry) (db : List (Sequence Item)) (tree : Tree Use) (rows : List Row) (work : Work) where
+module _ (words : List (List ℕ)) (holds : List ℕ → Option (List ℕ)) (c : Command) (has : HasSource words c)
+    (known : List (List ℕ)) (before : Ancestry) (db : List (Sequence Item)) (uses : List Use) (tree : Tree Item) (rows : List Row) (work : Work) where
   -- what was read and found, by these names, is mined
   Mines : List (List ℕ) → Type 0
   Mines names =
       AreDistinct names
-      → IfSome (holds c.file) (λ bytes. IsDatabaseOf c.weighted bytes known names db)
+      → IfSome (holds (file_of c.source)) (λ bytes. IsDatabaseOf c.weighted bytes known names db)
       → AllByRecursion (λ (s : Sequence Item). AllByRecursion (HasName names) s.items) db
-      → ((fault : Fault) → IsUnknown names (named_in tree) fault → ⊥)
-      → AreRows names before db (tree_by (λ (u : Use). u.name) tree) c.threshold c.engine rows work
+      → ((fault : Fault) → IsUnknown names uses fault → ⊥)
+      → AreRows names before db (named_tree uses tree) c.threshold c.engine rows work
       → IsMined words holds c names rows work
 
   mined-at : (added : List (List ℕ)) → AreLinksWithin before → IfSome (bytes_named holds c.hierarchy) (λ bytes. IsHierarchyOf bytes known before)
-      → ReadsAs c.expression tree → 1 ≤ c.threshold → Mines (known ++ added)
+      → IsRead c.source uses tree → HasRanges c.source → 1 ≤ c.threshold → Mines (known ++ added)
   unfolding Mines
-  mined-at added within read reads some distinct found numbered known_all are = record {
-    expression = has;
-    accepted = nothing-refused words holds c has known before read (known ++ added) db found tree reads known_all;
+  mined-at added within read is_read ranges some distinct found numbered known_all are = record {
+    source = has;
+    accepted = nothing-refused words holds c has known before read (known ++ added) db found uses tree is_read known_all;
     answer = λ input is.
-        let same : c ≡ input.command = same_command words holds c has input is in (
-          tree,
-          reads_at words holds c has known before read (known ++ added) db found tree reads input is,
-          rows-answer input tree known added before db are.expression rows distinct
-              (read_at words holds c has known before read input is) within
-              (found_at words holds c has known before read (known ++ added) db found input is) numbered are.same are.named
-              (subst (λ (d : Command). 1 ≤ d.threshold) same some)
-              (subst (λ (d : Command). (row : Row) → Contains rows row
-              ↔ IsFrequent (record { links = before.links; sequences = db; expression = are.expression; threshold = d.threshold }) row.pattern row.support) same are.frequent)
-              are.rises,
-        );
+        let same : c ≡ input.command = same_command words holds c has input is in
+        subst (λ (d : Command). IsAnswerTo d.source input (map (named_row (known ++ added)) rows)) same
+        (answer-to c.source input (named_tree uses tree) (map (named_row (known ++ added)) rows) ranges is_read.says
+        (rows-answer input (named_tree uses tree) known added before db are.expression rows distinct
+        (read_at words holds c has known before read input is) within
+        (found_at words holds c has known before read (known ++ added) db found input is) numbered are.same are.named
+        (subst (λ (d : Command). 1 ≤ d.threshold) same some)
+        (subst (λ (d : Command). (row : Row) → Contains rows row
+        ↔ IsFrequent (record { links = before.links; sequences = db; expression = are.expression; threshold = d.threshold }) row.pattern row.support) same are.frequent)
+        are.rises));
     work = λ input is.
         let same : c ≡ input.command = same_command words holds c has input is in (
-          tree,
-          reads_at words holds c has known before read (known ++ added) db found tree reads input is,
-          subst (λ (engine : Engine). IsWorkOf IsBytewiseBefore engine (data_of input tree) work) (ap (λ (d : Command). d.engine) same)
-              (work-answer input tree known added before db are.expression c.engine work distinct
+          named_tree uses tree,
+          subst (λ (d : Command). SaysTree d.source (named_tree uses tree)) same is_read.says,
+          subst (λ (engine : Engine). IsWorkOf IsBytewiseBefore engine (data_of input (named_tree uses tree)) work) (ap (λ (d : Command). d.engine) same)
+              (work-answer input (named_tree uses tree) known added before db are.expression c.engine work distinct
               (read_at words holds c has known before read input is) within
               (found_at words holds c has known before read (known ++ added) db found input is) numbered are.same are.named
               (subst (λ (d : Command). 1 ≤ d.threshold) same some)
@@ -88,22 +90,22 @@ module _ (words : List (List ℕ)) (holds : List ℕ → Option (List ℕ)) (c :
   }
 
   pub mined : (names : List (List ℕ)) (h : Ancestry) → (inputs : AreInputs holds c names h db) → inputs.known ≡ known → inputs.before ≡ before
-      → ReadsAs c.expression tree → 1 ≤ c.threshold
+      → IsRead c.source uses tree → HasRanges c.source → 1 ≤ c.threshold
       → AreDistinct names
       → AllByRecursion (λ (s : Sequence Item). AllByRecursion (HasName names) s.items) db
-      → ((fault : Fault) → IsUnknown names (named_in tree) fault → ⊥)
-      → AreRows names h db (tree_by (λ (u : Use). u.name) tree) c.threshold c.engine rows work
+      → ((fault : Fault) → IsUnknown names uses fault → ⊥)
+      → AreRows names h db (named_tree uses tree) c.threshold c.engine rows work
       → IsMined words holds c names rows work
   unfolding Mines
-  mined names h inputs known_is before_is reads some distinct numbered known_all are =
+  mined names h inputs known_is before_is is_read ranges some distinct numbered known_all are =
       let behind : names ≡ known ++ inputs.added = inputs.behind ∙ ap (λ k. k ++ inputs.added) known_is in
       let read : IfSome (bytes_named holds c.hierarchy) (λ bytes. IsHierarchyOf bytes known before) =
       subst (λ k. IfSome (bytes_named holds c.hierarchy) (λ bytes. IsHierarchyOf bytes k before)) known_is
       (subst (λ b. IfSome (bytes_named holds c.hierarchy) (λ bytes. IsHierarchyOf bytes inputs.known b)) before_is inputs.hierarchy) in
-      let found : IfSome (holds c.file) (λ bytes. IsDatabaseOf c.weighted bytes known names db) =
-      subst (λ k. IfSome (holds c.file) (λ bytes. IsDatabaseOf c.weighted bytes k names db)) known_is inputs.sequences in
+      let found : IfSome (holds (file_of c.source)) (λ bytes. IsDatabaseOf c.weighted bytes known names db) =
+      subst (λ k. IfSome (holds (file_of c.source)) (λ bytes. IsDatabaseOf c.weighted bytes k names db)) known_is inputs.sequences in
       let links : h.links ≡ before.links = inputs.links ∙ ap (λ (b : Ancestry). b.links) before_is in
-      let are_before : AreRows names before db (tree_by (λ (u : Use). u.name) tree) c.threshold c.engine rows work = record {
+      let are_before : AreRows names before db (named_tree uses tree) c.threshold c.engine rows work = record {
         expression = are.expression;
         same = are.same;
         named = are.named;
@@ -112,7 +114,7 @@ module _ (words : List (List ℕ)) (holds : List ℕ → Option (List ℕ)) (c :
         rises = are.rises;
         work = subst (λ l. IsWorkOf (IsNamedBefore names) c.engine (record { links = l; sequences = db; expression = are.expression; threshold = c.threshold }) work) links are.work;
       } in
-      subst Mines (sym behind) (mined-at inputs.added (subst AreLinksWithin before_is inputs.within) read reads some) distinct found numbered known_all are_before
+      subst Mines (sym behind) (mined-at inputs.added (subst AreLinksWithin before_is inputs.within) read is_read ranges some) distinct found numbered known_all are_before
 
 -- what is told is the work
 pub is-work : (P : Work → Type 0) (told : Option Work) (work : Work) → IfSome told (λ t. t ≡ work) → P work → IfSome told P

@@ -1,11 +1,11 @@
 -- How a run ends: what its outcome says of the words and of the files.
-use Rattle.std.specs.Prelude.{◌≡◌, ℕ, ◌⊎◌, ◌++◌, List, [], Option, Some, None, IfSome, is_some, Result, Ok, Err, Contains}
+use Rattle.std.specs.Prelude.{◌≡◌, ℕ, ◌⊎◌, ◌++◌, List, [], Option, Some, None, IfSome, is_some, Result, Ok, Err}
 use Rattle.mine_model.specs.declared.fault.Fault.{Fault}
 use Rattle.mine_model.specs.declared.fault.Fault.TheVariants.{Usage, Unknown, BadByte, BadWeight, Cycle, TooLarge, NameTooLong, TooManyItems, TooManyAncestors, TooManySequences, SequenceTooLong, Read, Write, NoMemory}
 use Rattle.mine_model.specs.declared.fault.Which.{Which}
 use Rattle.mine_model.specs.declared.fault.Which.TheVariants.{Hierarchy, Sequences}
 use Rattle.mine_model.specs.Text.{lines_of}
-use Rattle.mine_model.specs.Expression.{Tree, named_in, tree_by}
+use Rattle.mine_model.specs.Expression.{Tree, tree_by}
 use Rattle.mine_model.specs.Grammar.{Use, ReadsAs}
 use Rattle.mine_model.specs.Answer.{Data, NamedRow, IsAnswer}
 use Rattle.mine_model.specs.AnswerText.{text_of}
@@ -13,11 +13,13 @@ use Rattle.mine_model.specs.Counted.{IsCountingWork}
 use Rattle.mine_model.specs.Growth.{IsSearchWork}
 use Rattle.mine_model.specs.declared.mined.Work.{Work}
 use Rattle.mine_model.specs.First.{FirstOf}
-use Rattle.mine_model.specs.Refusal.{IsExpressionRefusal, IsHierarchyRefusal, IsSequencesRefusal, IsUnknown, names_of, links_of, items_of, sequences_of}
+use Rattle.mine_model.specs.Refusal.{IsHierarchyRefusal, IsSequencesRefusal, names_of, links_of, items_of, sequences_of}
+use Rattle.gap_front.specs.Answers.{IsEmbeddedAnswer}
 use Rattle.command_line.specs.declared.words.Engine.{Engine}
 use Rattle.command_line.specs.declared.words.Engine.TheVariants.{Count, Dfs, Pivot}
-use Rattle.command_line.specs.Words.{Command, IsCommand, IsUsage}
+use Rattle.command_line.specs.Words.{Source, read, embed, Command, IsCommand, IsUsage, file_of}
 use Rattle.desq_run.specs.PartitionWork.{IsBytewiseBefore, IsPartitionWork}
+use Rattle.desq_run.specs.Sources.{IsSourceRefusal, HasUse, IsUnknownIn, SaysTree}
 
 -- a command, and what its files hold
 pub record Input : Type 0 where
@@ -34,7 +36,7 @@ bytes_named holds (Some name) = holds name
 pub record IsInput (words : List (List ℕ)) (holds : List ℕ → Option (List ℕ)) (input : Input) : Type 0 where
   pub said : IsCommand words input.command
   pub hierarchy : bytes_named holds input.command.hierarchy ≡ Some input.hierarchy
-  pub sequences : holds input.command.file ≡ Some input.sequences
+  pub sequences : holds (file_of input.command.source) ≡ Some input.sequences
 
 -- the names of the hierarchy file
 abbrev pub hierarchy_names : Input → List (List ℕ)
@@ -44,31 +46,39 @@ hierarchy_names input = names_of (lines_of input.hierarchy)
 abbrev pub known_names : Input → List (List ℕ)
 known_names input = hierarchy_names input ++ items_of (sequences_of input.command.weighted input.sequences)
 
--- the first refusal: of the expression, of the hierarchy, of the sequences, of an unknown name, in this order
+-- the first refusal: of the expression or the rule, of the hierarchy, of the sequences, of an unknown name,
+-- in this order
 abbrev pub IsFirstRefusal : Input → Fault → Type 0
-IsFirstRefusal input = FirstOf (IsExpressionRefusal input.command.expression)
+IsFirstRefusal input = FirstOf (IsSourceRefusal input.command.source)
     (FirstOf (IsHierarchyRefusal input.hierarchy)
     (FirstOf (IsSequencesRefusal input.command.weighted (hierarchy_names input) input.sequences)
-    (λ fault. (tree : Tree Use) × ReadsAs input.command.expression tree
-    × IsUnknown (known_names input) (named_in tree) fault)))
+    (IsUnknownIn (known_names input) input.command.source)))
 
 -- nothing is refused
 abbrev pub IsAccepted : Input → Type 0
 IsAccepted input = (fault : Fault) → IsFirstRefusal input fault → ⊥
 
--- the data that the files and the tree of the expression say
-abbrev pub data_of : Input → Tree Use → Data (List ℕ)
+-- the data that the files say, with a tree over names
+abbrev pub data_of : Input → Tree (List ℕ) → Data (List ℕ)
 data_of input tree = record {
   links = links_of input.hierarchy;
   sequences = sequences_of input.command.weighted input.sequences;
-  expression = tree_by (λ (u : Use). u.name) tree;
+  expression = tree;
   threshold = input.command.threshold;
 }
 
+-- The rows are the answer: to an expression what it generates from the sequences, under a rule of gaps and
+-- lengths what is embedded in them.
+abbrev pub IsAnswerTo : Source → Input → List NamedRow → Type 0
+IsAnswerTo (read expression file) input answer = (tree : Tree Use) × ReadsAs expression tree
+    × IsAnswer (data_of input (tree_by (λ (u : Use). u.name) tree)) answer
+IsAnswerTo (embed rule file) input answer = IsEmbeddedAnswer (links_of input.hierarchy) rule
+    (sequences_of input.command.weighted input.sequences) input.command.threshold answer
+
 -- the text is that of the answer
 abbrev pub IsAnswerText : Input → List ℕ → Type 0
-IsAnswerText input text = (tree : Tree Use) × ReadsAs input.command.expression tree
-    × (answer : List NamedRow) × IsAnswer (data_of input tree) answer × (text ≡ text_of answer)
+IsAnswerText input text = (answer : List NamedRow) × IsAnswerTo input.command.source input answer
+    × (text ≡ text_of answer)
 
 -- the work is that of a run of the engine over the data, where Ties says which of two items of one frequency
 -- ranks first
@@ -79,7 +89,7 @@ IsWorkOf Ties Pivot d work = IsPartitionWork Ties d work
 
 -- the work is that of the command on its files, where items of one frequency rank by their names
 abbrev pub IsWork : Input → Work → Type 0
-IsWork input work = (tree : Tree Use) × ReadsAs input.command.expression tree
+IsWork input work = (tree : Tree (List ℕ)) × SaysTree input.command.source tree
     × IsWorkOf IsBytewiseBefore input.command.engine (data_of input tree) work
 
 -- the command names a file of this kind
@@ -103,29 +113,28 @@ IsOfKind kind _ = ⊥
 -- a fault of a file that the command names, or of a name of its expression where it stands
 abbrev pub IsOfFiles : Command → Fault → Type 0
 IsOfFiles command fault = ((kind : Which) × NamesKind command kind × IsOfKind kind fault)
-    ⊎ ((tree : Tree Use) × ReadsAs command.expression tree
-    × (u : Use) × Contains (named_in tree) u × (fault ≡ Unknown u.column))
+    ⊎ ((u : Use) × HasUse command.source u × (fault ≡ Unknown u.column))
 
--- the words say a command whose expression is not refused
-abbrev pub HasExpression : List (List ℕ) → Command → Type 0
-HasExpression words command =
-    IsCommand words command × ((fault : Fault) → IsExpressionRefusal command.expression fault → ⊥)
+-- the words say a command whose expression or rule is not refused
+abbrev pub HasSource : List (List ℕ) → Command → Type 0
+HasSource words command =
+    IsCommand words command × ((fault : Fault) → IsSourceRefusal command.source fault → ⊥)
 
 -- What each outcome of a run says of the words, and of what the files hold where they tell it. A run that is
 -- done tells its work where the command asks for it.
 pub data Ends (words : List (List ℕ)) (holds : List ℕ → Option (List ℕ)) : Result (Option Work) Fault
     → Type 0 where
-  done : (command : Command) (told : Option Work) → HasExpression words command → command.stats ≡ is_some told
+  done : (command : Command) (told : Option Work) → HasSource words command → command.stats ≡ is_some told
       → ((input : Input) → IsInput words holds input → IsAccepted input × IfSome told (IsWork input))
       → Ends words holds (Ok told)
   no_command : IsUsage words → Ends words holds (Err Usage)
-  refused_expression : (command : Command) (fault : Fault) → IsCommand words command
-      → IsExpressionRefusal command.expression fault → Ends words holds (Err fault)
-  refused_file : (command : Command) (fault : Fault) → HasExpression words command
+  refused_source : (command : Command) (fault : Fault) → IsCommand words command
+      → IsSourceRefusal command.source fault → Ends words holds (Err fault)
+  refused_file : (command : Command) (fault : Fault) → HasSource words command
       → ((input : Input) → IsInput words holds input → IsFirstRefusal input fault)
       → IsOfFiles command fault → Ends words holds (Err fault)
-  read_fault : (command : Command) (file : Which) → HasExpression words command → NamesKind command file
+  read_fault : (command : Command) (file : Which) → HasSource words command → NamesKind command file
       → Ends words holds (Err (Read file))
-  write_fault : (command : Command) → HasExpression words command
+  write_fault : (command : Command) → HasSource words command
       → ((input : Input) → IsInput words holds input → IsAccepted input) → Ends words holds (Err Write)
   no_memory : Ends words holds (Err NoMemory)

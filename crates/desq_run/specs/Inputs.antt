@@ -1,5 +1,5 @@
 -- What was read of the files, by the numbers of names.
-use Rattle.std.specs.Prelude.{◌≡◌, ◌⊎◌, ◌↔◌, ◌<◌, ◌++◌, ℕ, Bool, List, Option, IfSome, length, map, All, Contains}
+use Rattle.std.specs.Prelude.{◌≡◌, ◌⊎◌, ◌↔◌, ◌≤◌, ◌<◌, ◌++◌, ℕ, Bool, List, Option, IfSome, length, map, All, Contains}
 use Rattle.std.specs.List.{AllByRecursion}
 use Rattle.mine_model.specs.declared.item.Item.{Item}
 use Rattle.mine_model.specs.declared.fault.Fault.{Fault}
@@ -9,17 +9,20 @@ use Rattle.mine_model.specs.Hierarchy.{Link, IsAncestor}
 use Rattle.mine_model.specs.Text.{lines_of}
 use Rattle.mine_model.specs.declared.row.Row.{Row}
 use Rattle.mine_model.specs.Expression.{Tree, tree_by, named_in}
-use Rattle.mine_model.specs.Grammar.{Use, ReadsAs}
+use Rattle.mine_model.specs.Grammar.{Use}
 use Rattle.mine_model.specs.Support.{Sequence}
-use Rattle.mine_model.specs.Answer.{IsFrequent, Rises, IsAnswer}
+use Rattle.mine_model.specs.Answer.{IsFrequent, Rises}
 use Rattle.mine_model.specs.Names.{name_of, HasName, sequence_by, named_row}
 use Rattle.mine_model.specs.Ancestry.{Ancestry}
-use Rattle.mine_model.specs.Refusal.{IsHierarchyRefusal, IsSequencesRefusal, names_of, links_of, items_of, sequences_of}
+use Rattle.mine_model.specs.Refusal.{IsHierarchyRefusal, IsSequencesRefusal, IsUnknown, names_of, links_of, items_of, sequences_of}
 use Rattle.mine_model.specs.declared.mined.Work.{Work}
 use Rattle.command_line.specs.declared.words.Engine.{Engine}
-use Rattle.command_line.specs.Words.{Command}
+use Rattle.gap_front.specs.Embedding.{IsRule}
+use Rattle.patex_parser.specs.Parsing.{AreWithin, named_tree}
+use Rattle.command_line.specs.Words.{Source, read, embed, Command, file_of}
 use Rattle.desq_run.specs.PartitionWork.{IsNamedBefore}
-use Rattle.desq_run.specs.Ends.{Input, IsInput, bytes_named, IsAccepted, data_of, HasExpression, IsOfKind, IsWorkOf, IsWork}
+use Rattle.desq_run.specs.Sources.{HasUse, IsUnknownIn, SaysTree}
+use Rattle.desq_run.specs.Ends.{Input, IsInput, bytes_named, IsAccepted, IsAnswerTo, HasSource, IsOfKind, IsWorkOf, IsWork}
 
 -- the names are exactly those of the hierarchy file, and above each other stands what stands so in the file
 pub record IsHierarchyOf (bytes : List ℕ) (names : List (List ℕ)) (h : Ancestry) : Type 0 where
@@ -52,7 +55,8 @@ pub record AreInputs (holds : List ℕ → Option (List ℕ)) (command : Command
   pub within : AreLinksWithin before
   pub links : h.links ≡ before.links
   pub hierarchy : IfSome (bytes_named holds command.hierarchy) (λ bytes. IsHierarchyOf bytes known before)
-  pub sequences : IfSome (holds command.file) (λ bytes. IsDatabaseOf command.weighted bytes known names db)
+  pub sequences : IfSome (holds (file_of command.source))
+      (λ bytes. IsDatabaseOf command.weighted bytes known names db)
 
 -- reading a file, where one is named, ended with this fault: a refusal of its bytes, a counted fault, or want
 -- of memory
@@ -62,6 +66,19 @@ pub data FailsBy (told : Option (List ℕ)) (Refused : List ℕ → Fault → Ty
       → FailsBy told Refused file Named Faulty fault
   failed : Named → Faulty → FailsBy told Refused file Named Faulty (Read file)
   no_memory : FailsBy told Refused file Named Faulty NoMemory
+
+-- The numbers of the rule are in their ranges. An expression has none.
+abbrev pub HasRanges : Source → Type 0
+HasRanges (read expression file) = Unit {0}
+HasRanges (embed rule file) = IsRule rule × (rule.min_length ≤ rule.max_length)
+
+-- The tree of the source was read, over the numbers of the uses of its names.
+pub record IsRead (source : Source) (uses : List Use) (tree : Tree Item) : Type 0 where
+  pub says : SaysTree source (named_tree uses tree)
+  pub within : AreWithin (length uses) (named_in tree)
+  pub used : (u : Use) → Contains uses u → HasUse source u
+  pub unknown : (known : List (List ℕ)) (fault : Fault)
+      → IsUnknownIn known source fault ↔ IsUnknown known uses fault
 
 -- The rows are the frequent patterns by numbers, in the order of their names, and the work is that of the
 -- engine; the tree is over names.
@@ -79,16 +96,15 @@ pub record AreRows (names : List (List ℕ)) (h : Ancestry) (db : List (Sequence
   pub work : IsWorkOf (IsNamedBefore names) engine
       (record { links = h.links; sequences = db; expression = expression; threshold = threshold }) counted
 
--- The rows are in the order of their names, the words name an expression that is not refused, and where the
+-- The rows are in the order of their names, the words name a source that is not refused, and where the
 -- files tell their bytes nothing is refused, the rows are the answer and the work is that of the command.
 pub record IsMined (words : List (List ℕ)) (holds : List ℕ → Option (List ℕ)) (command : Command)
     (names : List (List ℕ))
     (rows : List Row) (counted : Work) : Type 0 where
-  pub expression : HasExpression words command
+  pub source : HasSource words command
   pub accepted : (input : Input) → IsInput words holds input → IsAccepted input
   pub answer : (input : Input) → IsInput words holds input
-      → (tree : Tree Use) × ReadsAs input.command.expression tree
-      × IsAnswer (data_of input tree) (map (named_row names) rows)
+      → IsAnswerTo input.command.source input (map (named_row names) rows)
   pub work : (input : Input) → IsInput words holds input → IsWork input counted
 
 -- the rows are the frequent patterns by numbers, in the order of their names

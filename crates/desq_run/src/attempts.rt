@@ -8,12 +8,13 @@ ghost use Rattle.mine_model.specs.Limits.{most_workers};
 ghost use Rattle.mine_model.specs.Names.{HasName, named_row};
 ghost use Rattle.mine_model.specs.AnswerText.{text_of};
 ghost use Rattle.command_line.specs.Words.{IsCommand, NamesFile, IsNamed};
-ghost use Rattle.command_line.specs.Commands.{command_said};
+ghost use Rattle.command_line.specs.Commands.{source_said, command_said};
 ghost use Rattle.desq_run.specs.Ends.{Input, IsInput, IsAccepted, IsAnswerText, Ends};
-ghost use Rattle.desq_run.specs.Inputs.{IsMined};
+ghost use Rattle.desq_run.specs.Inputs.{HasRanges, IsMined};
 
 use super::inputs::{Inputs, read_inputs};
-use super::rows::{read_expression, rows_of};
+use super::rows::rows_of;
+use super::sources::read_source;
 use command_line::{Command, read_words};
 use item_names::Names;
 use mine_model::{Fault, Gate, Mined, NoMemory, Row, Work, WriteFault};
@@ -34,7 +35,7 @@ struct Answer {
     work: Work,
 }
 
-/// Mines as the command says. Its expression is read before a file is opened.
+/// Mines as the command says. Its expression or rule is read before a file is opened.
 fn mine_files<R: Threads + Wait + Sync, F: Files, G: Gate>(
     rt: &R,
     alloc: Global,
@@ -47,6 +48,7 @@ fn mine_files<R: Threads + Wait + Sync, F: Files, G: Gate>(
     requires support { 1 ≤ command.now.support }
     requires workers { 1 ≤ command.now.workers }
     requires few { command.now.workers ≤ most_workers }
+    requires ranges { HasRanges (source_said command.now.source) }
     ensures mined { (words : List (List ℕ)) → IsCommand words (command_said command.now)
         → IfOk result
         (λ mined. IsMined words (F.holds files.old) (command_said command.now)
@@ -62,7 +64,7 @@ fn mine_files<R: Threads + Wait + Sync, F: Files, G: Gate>(
     ensures same_files { F.holds files.new ≡ F.holds files.old }
     ensures never_falls { F.faults files.old ≤ F.faults files.new }
 {
-    let parsed = read_expression(alloc, command.expression.as_bytes())?;
+    let parsed = read_source(alloc, &command.source)?;
     let inputs = read_inputs(alloc, command, files)?;
     let Inputs {
         names,

@@ -8,12 +8,12 @@ ghost use Rattle.mine_model.specs.declared.fault.Which.{Which};
 ghost use Rattle.mine_model.specs.declared.fault.Which.TheVariants.{Hierarchy as OfHierarchy, Sequences};
 ghost use Rattle.mine_model.specs.Names.{HasName, AreDistinct};
 ghost use Rattle.mine_model.specs.Refusal.{IsHierarchyRefusal, IsSequencesRefusal};
-ghost use Rattle.command_line.specs.Words.{NamesFile};
-ghost use Rattle.command_line.specs.Commands.{command_said};
-ghost use Rattle.desq_run.specs.Ends.{bytes_named, HasExpression, Ends};
+ghost use Rattle.command_line.specs.Words.{NamesFile, file_of as file_said};
+ghost use Rattle.command_line.specs.Commands.{source_said, command_said};
+ghost use Rattle.desq_run.specs.Ends.{bytes_named, HasSource, Ends};
 ghost use Rattle.desq_run.specs.Inputs.{IsHierarchyOf, IsDatabaseOf, AreLinksWithin, AreInputs, FailsBy};
 
-use command_line::Command;
+use command_line::{Command, Source};
 use item_hierarchy::close;
 use item_names::Names;
 use mine_model::{Db, Fault, Hierarchy};
@@ -26,6 +26,16 @@ pub(crate) struct Inputs {
     pub(crate) names: Names,
     pub(crate) hierarchy: Hierarchy,
     pub(crate) db: Db,
+}
+
+/// The name of the file of sequences.
+fn file_of(source: &Source) -> &str
+    ensures { result.now ≡ file_said (source_said source.now) }
+{
+    match source {
+        Source::Read { file, .. } => file.as_str(),
+        Source::Embed { file, .. } => file.as_str(),
+    }
 }
 
 /// The sequences of the file of this name. A new name gets the next number.
@@ -142,7 +152,7 @@ pub(crate) fn read_inputs<F: Files>(
     ensures items { IfOk result (λ inputs. inputs.hierarchy.items ≡ length inputs.names) }
     ensures named { IfOk result (λ inputs.
         AllByRecursion (λ s. AllByRecursion (HasName inputs.names) s.items) inputs.db) }
-    ensures ends { (words : List (List ℕ)) → HasExpression words (command_said command.now)
+    ensures ends { (words : List (List ℕ)) → HasSource words (command_said command.now)
         → IfErr result (λ fault. Ends words (F.holds files.old) (Err fault)) }
     ensures read_fault { (file : Which) → result ≡ Err (Read file)
         → Rose (F.faults files.old) (F.faults files.new) }
@@ -156,7 +166,7 @@ pub(crate) fn read_inputs<F: Files>(
     let db = read_sequences(
         alloc,
         files,
-        command.file.as_str(),
+        file_of(&command.source),
         command.weighted,
         &mut names,
     )?;

@@ -10,8 +10,8 @@ ghost use Rattle.mine_model.specs.declared.row.Row.{Row as TheRow};
 ghost use Rattle.mine_model.specs.Numbered.{tree_of, AreFrequent};
 ghost use Rattle.mine_model.specs.Names.{HasName};
 ghost use Rattle.mine_model.specs.Ranks.{AreTiesByName};
-ghost use Rattle.mine_model.specs.Refusal.{IsExpressionRefusal, IsUnknown};
-ghost use Rattle.patex_parser.specs.Parsing.{use_view, IsParsed, AreWithin, named_tree};
+ghost use Rattle.mine_model.specs.Refusal.{IsUnknown};
+ghost use Rattle.patex_parser.specs.Parsing.{use_view, AreWithin, named_tree};
 ghost use Rattle.fst_simulate.specs.Problems.{data_of};
 ghost use Rattle.search_engine.specs.Partition.{IsWorkFor};
 ghost use Rattle.desq_run.specs.PartitionWork.{IsNamedBefore};
@@ -24,21 +24,11 @@ use fst_compile::compile;
 use fst_simulate::Job;
 use item_names::Names;
 use mine_model::{Db, Expr, Fault, Gate, Hierarchy, Item, Mined, NoMemory};
-use patex_parser::{FindName, Parsed, parse, resolve};
+use patex_parser::{FindName, Parsed, resolve};
 use pattern_writer::order;
 use std::alloc::Global;
 use std::sync::Wait;
 use std::thread::Threads;
-
-/// The expression that the text reads as.
-pub(crate) fn read_expression(alloc: Global, text: &[u8]) -> Result<Parsed, Fault>
-    ensures parsed { IfOk result (λ p. IsParsed text.now (tree_of p.tree) (map use_view p.uses.items)) }
-    ensures accepted { OnOk result ((fault : Fault) → ¬ IsExpressionRefusal text.now fault) }
-    ensures refused { IfErr result (λ fault. (fault ≡ OutOfMemory) ⊎ IsExpressionRefusal text.now fault) }
-    ensures leaves { IfOk result (λ p. unfolded_leaves (tree_of p.tree) ≤ most_leaves) }
-{
-    Ok(parse(alloc, text)?)
-}
 
 /// The frequent patterns of the job, found by a search, split by pivots or not, in no stated order. With a
 /// seed the search is simulated.

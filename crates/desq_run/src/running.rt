@@ -4,9 +4,9 @@ ghost use Rattle.std.specs.Prelude.{◌≡◌, ◌≢◌, ℕ, ◌≤◌, ◌<�
 ghost use Rattle.text_ports.specs.Faults.{Rose};
 ghost use Rattle.mine_model.specs.declared.fault.Fault.{Fault};
 ghost use Rattle.mine_model.specs.declared.mined.Work.{Work};
-ghost use Rattle.mine_model.specs.Refusal.{IsExpressionRefusal};
 ghost use Rattle.mine_model.specs.Status.{fault_status, status_of, message_of};
 ghost use Rattle.command_line.specs.Words.{Command, IsNamed, IsCommand, IsUsage};
+ghost use Rattle.desq_run.specs.Sources.{IsSourceRefusal};
 ghost use Rattle.desq_run.specs.Ends.{Input, IsInput, IsFirstRefusal, IsAccepted, IsAnswerText, Ends};
 ghost use Rattle.desq_run.specs.Reported.{IsReported};
 
@@ -54,9 +54,9 @@ pub fn run<R: Threads + Wait + Sync, F: Files, O: Sink, E: Sink, G: Gate>(
     // before.
     ensures usage { result ≡ 2 → IsUsage (map string_bytes words.now) }
     ensures refuses_words { IsUsage (map string_bytes words.now) → (result ≡ 2) ⊎ (result ≡ 7) }
-    ensures refuses_expression { (command : Command) (fault : Fault)
+    ensures refuses_source { (command : Command) (fault : Fault)
         → IsCommand (map string_bytes words.now) command
-        → IsExpressionRefusal command.expression fault → (result ≡ fault_status fault) ⊎ (result ≡ 7) }
+        → IsSourceRefusal command.source fault → (result ≡ fault_status fault) ⊎ (result ≡ 7) }
     ensures refused { (result ≡ 3) ⊎ (result ≡ 4)
         → (input : Input) → IsInput (map string_bytes words.now) (F.holds files.old) input
         → (fault : Fault) × IsFirstRefusal input fault × (fault_status fault ≡ result) }

@@ -8,6 +8,7 @@ use std::test::Fail;
 use std::thread::Threads;
 use text_ports::{MemFile, MemFiles, MemSink};
 
+mod gaps;
 mod gates;
 mod limits;
 mod outside_faults;
@@ -116,14 +117,13 @@ fn run_on<R: Threads + Wait + Sync>(
     run_gated(rt, alloc, words, hierarchy, sequences, faults, &OpenGate)
 }
 
-/// How many of the cases leave what they should.
-fn count_right<R: Threads + Wait + Sync>(
+/// The number, from 0, of the first case that does not leave what it should.
+fn first_wrong<R: Threads + Wait + Sync>(
     rt: &R,
     alloc: Global,
     cases: &[Case<'_>],
-) -> Result<usize, Fail> {
-    let mut right = 0;
-    for case in cases {
+) -> Result<Option<usize>, Fail> {
+    for (number, case) in cases.iter().enumerate() {
         let ran = run_on(
             rt,
             alloc,
@@ -135,9 +135,9 @@ fn count_right<R: Threads + Wait + Sync>(
         let is_right = ran.status == case.status
             && ran.out.as_slice() == case.out.as_bytes()
             && ran.err.as_slice() == case.err.as_bytes();
-        if is_right && right < usize::MAX {
-            right += 1;
+        if !is_right {
+            return Ok(Some(number));
         }
     }
-    Ok(right)
+    Ok(None)
 }

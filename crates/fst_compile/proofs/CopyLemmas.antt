@@ -6,7 +6,7 @@ use Rattle.mine_model.specs.declared.item.Item.{Item}
 use Rattle.mine_model.specs.Expression.{Tree, rep, unfolded_times, unfolded_leaves}
 use Rattle.mine_model.proofs.ListLemmas.{Contains-none}
 use Rattle.fst_compile.specs.declared.fragment.Fragment.{Fragment}
-use Rattle.fst_compile.specs.Shape.{Shape, nothing, both, maybe, more, up_to, between, at_least, repeated, unfold_tree}
+use Rattle.fst_compile.specs.Shape.{Shape, nothing, both, maybe, more, between, at_least, repeated, unfold_tree}
 use Rattle.fst_compile.specs.Positions.{size, CanBeEmpty, Follows}
 use Rattle.fst_compile.specs.Rows.{Adds}
 use Rattle.fst_compile.specs.Fragments.{IsFragment, IsWithin, IsJoined, IsBare, IsAlike, IsBuilt, IsCopyAdded, AddsCopy, behind_copy, copies_from, empty_of_copies, is_enough}
@@ -17,9 +17,6 @@ use Rattle.fst_compile.proofs.FragmentLemmas.{first-joined, last-joined, IsFragm
 use Rattle.std.proofs.Math.Nat.{mul-le-mul_left}
 
 -- ---- the shape of the copies from an index on
-
-between-zero : (k : ℕ) (shape : Shape) → between 0 k shape ≡ up_to k shape
-between-zero k shape = refl
 
 bounded-needed : (shape : Shape) (least most index : ℕ) → index < most → index < least
     → copies_from shape least (Some most) index ≡ both shape (copies_from shape least (Some most) (index + 1))
@@ -60,15 +57,6 @@ unbounded-behind : (shape : Shape) (least index : ℕ) → max least 1 ≤ index
 unbounded-behind shape least index behind = rw (le-ltb index (max least 1) behind) refl
 
 -- ---- a copy and those behind it
-
--- the fragments of a shape and of one that is maybe left out have the same states
-maybe-fragment : (shape : Shape) (at : ℕ) (f g : Fragment) → IsFragment shape at f → IsAlike f true g → IsFragment (maybe shape) at g
-maybe-fragment shape at f g is alike = record {
-  size_is = alike.size_is ∙ is.size_is;
-  empty = ((λ _. tt), (λ _. alike.empty_is));
-  first = λ k. ((λ inside. (is.first k).0 (rw alike.first at inside)), (λ is_first. rw alike.first ((is.first k).1 is_first)));
-  last = λ k. ((λ inside. (is.last k).0 (rw alike.last at inside)), (λ is_last. rw alike.last ((is.last k).1 is_last)));
-}
 
 more-fragment : (shape : Shape) (at : ℕ) (f g : Fragment) → IsFragment shape at f → IsAlike f f.empty g → IsFragment (more shape) at g
 more-fragment shape at f g is alike = record {

@@ -85,13 +85,6 @@ IsPushedSoFar-all labels row before after done left so_far none =
 
 -- ---- all rows
 
-pub are_rows-none : (labels : List Label) (rows : List ℕ) → AreRowsOf labels rows [] [] 0
-are_rows-none labels rows = record {
-  count = refl;
-  are = record { cut = record { forward = λ state none. absurd (omega arith); whole = refl }; rows = λ state none. absurd (omega arith) };
-  exact = λ state none. absurd (omega arith);
-}
-
 pub are_rows-more : (labels : List Label) (rows ends : List ℕ) (edges grown : List Edge) (index : ℕ) → AreRowsOf labels rows ends edges index
     → IsRowPushed labels (get_or rows index 0) edges grown → AreRowsOf labels rows (ends ++ length grown ∷ []) grown (index + 1)
 are_rows-more labels rows ends edges grown index so_far pushed =

@@ -66,10 +66,6 @@ IsKeptSoFar-all links t w all out index so_far over within are v = (
       subst (λ (x : Item). Contains out x) found (so_far.kept k v (omega arith) (rw found above))),
 )
 
--- one item alone rises, and holds that item alone
-pub rising_one : (v : Item) → AreRising (v ∷ [])
-rising_one v i j d low high = absurd (omega arith)
-
 pub only_one : (v x : Item) → Contains (v ∷ []) x ↔ (x ≡ v)
 only_one v x = (
   (λ held. elim (Contains-cases v [] x held) [ inl same ↦ same | inr none ↦ absurd (Contains-none x none) ]),

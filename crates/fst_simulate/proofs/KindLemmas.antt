@@ -295,13 +295,6 @@ module _ (problem : Problem) (bound : Bound) (t : Item) (base : ℕ) where
         ];
       }
 
--- the states with a property below a count
-pub entered_none : (P : ℕ → Type 0) (list : List ℕ) → list ≡ [] → (k : ℕ) → Contains list k ↔ ((1 ≤ k) × (k < 1) × P k)
-entered_none P list none k = (
-  (λ held. absurd (Contains-none k (subst (λ (xs : List ℕ). Contains xs k) none held))),
-  (λ h. let (some, below, _) = h in absurd (omega arith)),
-)
-
 pub entered_more : (P : ℕ → Type 0) (before after : List ℕ) (k : ℕ) (holds : Bool) → 1 ≤ k → ((j : ℕ) → Contains before j ↔ ((1 ≤ j) × (j < k) × P j))
     → ((j : ℕ) → Contains after j ↔ (Contains before j ⊎ ((j ≡ k) × IsTrue holds))) → IsTrue holds ↔ P k
     → (j : ℕ) → Contains after j ↔ ((1 ≤ j) × (j < k + 1) × P j)

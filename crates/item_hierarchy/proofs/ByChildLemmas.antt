@@ -1,5 +1,5 @@
 -- Where the rows of each child begin.
-use Rattle.std.proofs.Common.{◌≡◌, ℕ, ◌+◌, ◌≤◌, ◌<◌, List, [], ◌∷◌, ◌++◌, length, get_or, inl, inr, refl, sym, ap, ◌∙◌, subst, arith, zero, suc, add-one}
+use Rattle.std.proofs.Common.{◌≡◌, ℕ, ◌+◌, ◌≤◌, ◌<◌, List, [], ◌∷◌, ◌++◌, length, get_or, inl, inr, sym, ap, ◌∙◌, subst, arith, zero, suc, add-one}
 use Rattle.std.proofs.lemmas.List.{get_or_append_left, get_or_push, length_push}
 use Rattle.std.proofs.lemmas.Bool.{cases_lt, cases_eq}
 use Rattle.item_hierarchy.specs.declared.edges.EdgeRow.{EdgeRow}
@@ -15,17 +15,6 @@ pub record AreBelow (rows : List EdgeRow) (number : ℕ) (starts : List ℕ) (at
   pub passed : (k : ℕ) (d : EdgeRow) → k < at → ((get_or rows k d).child.0 < number)
       × (get_or starts (get_or rows k d).child.0 0 ≤ k) × (k < get_or starts ((get_or rows k d).child.0 + 1) 0)
   pub left : (k : ℕ) (d : EdgeRow) → at ≤ k → k < length rows → number ≤ (get_or rows k d).child.0
-
-pub none_below : (rows : List EdgeRow) → AreBelow rows 0 (0 ∷ []) 0
-none_below rows = record {
-  size = refl;
-  last = refl;
-  upto = omega arith;
-  rising = λ n below. absurd (omega arith);
-  own = λ n k d below. absurd (omega arith);
-  passed = λ k d below. absurd (omega arith);
-  left = λ k d from within. omega arith;
-}
 
 module _ (rows : List EdgeRow) (number : ℕ) (starts : List ℕ) (at to : ℕ) (below : AreBelow rows number starts at) (sorted : AreSorted rows)
     (range : (at ≤ to) × (to ≤ length rows)) (run : (k : ℕ) (d : EdgeRow) → at ≤ k → k < to → (get_or rows k d).child.0 ≡ number)

@@ -34,14 +34,6 @@ pub record AreOrdered (parts : List Part) (lists : List Item) (n : ℕ) (ends : 
   pub made : (made : List (Link Item)) × (length made ≡ length ordered) × AllPairs (λ p q. p ≢ q) made
       × All (λ p. (p.child.0 < n) × Contains (list_in parts lists p.child.0) p.parent) made
 
-pub none_ordered : (parts : List Part) (lists : List Item) → AreOrdered parts lists 0 [] []
-none_ordered parts lists = record {
-  size = refl;
-  cut = record { forward = λ n below. absurd (omega arith); whole = refl };
-  same = λ m below. absurd (omega arith);
-  made = ([], refl, (λ i j d less below. absurd (omega arith)), (λ k d below. absurd (omega arith)));
-}
-
 module _ (parts : List Part) (lists : List Item) (n : ℕ) (ends : List ℕ) (ordered : List Item) (are : AreOrdered parts lists n ends ordered) where
   pub ordered_few : n ≤ length parts → AreFew parts lists → length ordered ≤ most_ancestors
   ordered_few upto (pairs, few, inside) =

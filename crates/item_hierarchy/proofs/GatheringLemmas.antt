@@ -9,7 +9,7 @@ use Rattle.mine_model.specs.declared.item.Item.{Item}
 use Rattle.mine_model.specs.Limits.{most_ancestors}
 use Rattle.mine_model.specs.Hierarchy.{Link, IsWalk, IsAncestor, IsAcyclic, HasMoreAncestors}
 use Rattle.mine_model.specs.Ancestry.{AreRising}
-use Rattle.mine_model.proofs.ListLemmas.{Contains-none, Contains-by, Contains-from, Contains-first, AllPairs-append, apart_by_image, slice_range-append}
+use Rattle.mine_model.proofs.ListLemmas.{Contains-by, Contains-from, Contains-first, AllPairs-append, apart_by_image, slice_range-append}
 use Rattle.mine_model.proofs.AncestryLemmas.{Item-same}
 use Rattle.mine_model.proofs.WalkLemmas.{IsAncestor-chain}
 use Rattle.item_hierarchy.specs.declared.edges.EdgeRow.{EdgeRow}
@@ -50,17 +50,6 @@ module _ (stamp : ℕ) (seen : List ℕ) (gathered : List Item) (are : AreStampe
         | inl same ↦ inl (ap (slice_index (set seen w.0 stamp)) same ∙ get_or-set_same seen w.0 stamp 0 within)
         | inr apart ↦ inr (get_or-set_other seen w.0 n stamp 0 apart)
       ]
-
--- the first item gathered
-pub stamped-first : (stamp : ℕ) (seen : List ℕ) → ((n : ℕ) → slice_index seen n ≡ stamp → ⊥) → (t : Item) → t.0 < length seen
-    → AreStamped stamp (set seen t.0 stamp) (t ∷ [])
-stamped-first stamp seen new t within =
-    stamped-push stamp seen [] (record {
-      within = λ k d below. absurd (omega arith);
-      apart = λ i j d less below. absurd (omega arith);
-      stamped = λ k d below. absurd (omega arith);
-      held = λ w inside is. absurd (new w.0 is);
-    }) t within (new t.0)
 
 -- Order
 
@@ -252,20 +241,6 @@ module _ (links : List (Link Item)) (items : List Item) (parts : List Part) (lis
             subst (λ p. (p.child.0 < n) × IsAncestor links p.parent p.child) (sym same) (inside, sound w held)),
         omega (arith, more, gathered.together.2, length-append gathered.together.0 (map made own), length-map own made),
       )
-
-pub gathered-none : (links : List (Link Item)) (parts : List Part) → AreGathered links [] parts []
-gathered-none links parts = record {
-  each = λ k d below. absurd (omega arith);
-  together = (
-    [],
-    record {
-      once = λ i j d less below. absurd (omega arith);
-      sound = λ k d below. absurd (omega arith);
-      complete = λ t w held. absurd (Contains-none t held);
-    },
-    refl,
-  );
-}
 
 -- what has been gathered of a list up to an index
 pub record Gathers (stamp room : ℕ) (list : List Item) (index : ℕ) (old_seen : List ℕ) (old : List Item) (seen : List ℕ) (gathered : List Item) : Type 0 where

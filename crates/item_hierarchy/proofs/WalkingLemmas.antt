@@ -1,20 +1,20 @@
 -- A walk over all items: what entering an item and leaving it keep.
-use Rattle.std.proofs.Common.{◌≡◌, ◌≢◌, ℕ, zero, suc, ◌+◌, ◌-◌, ◌≤◌, ◌<◌, ◌⊎◌, inl, inr, true, cond, List, [], ◌∷◌, ◌++◌, filter, length, get_or, set, replicate, refl, sym, ap, ◌∙◌, subst, arith, add-zero, count_by, nat_le}
+use Rattle.std.proofs.Common.{◌≡◌, ◌≢◌, ℕ, zero, suc, ◌+◌, ◌-◌, ◌≤◌, ◌<◌, ◌⊎◌, inl, inr, true, cond, List, [], ◌∷◌, ◌++◌, filter, length, get_or, set, refl, sym, ap, ◌∙◌, subst, arith, add-zero, count_by, nat_le}
 use Rattle.std.specs.List.{All, Contains}
-use Rattle.std.proofs.lemmas.List.{get_or_append_left, get_or_push, get_or_default, length_push, length-set, get_or-set_same, get_or-set_other, take-append-le, take_at, get_or-replicate, length-replicate, length-take, get_or-take}
+use Rattle.std.proofs.lemmas.List.{get_or_append_left, get_or_push, get_or_default, length_push, length-set, get_or-set_same, get_or-set_other, take-append-le, take_at, length-take, get_or-take}
 use Rattle.std.proofs.lemmas.List.Elements.{Contains-get_or, Contains-append_left, Contains-push, Contains-push_cases, All-push, All-contains}
 use Rattle.std.proofs.lemmas.List.Quantifiers.{all_pairs_push}
 use Rattle.std.proofs.lemmas.List.Sums.{sum_by-set}
 use Rattle.std.proofs.lemmas.Bool.{cases_lt, cases_eq, leb-true, le-leb}
 use Rattle.mine_model.specs.declared.item.Item.{Item}
 use Rattle.mine_model.specs.Hierarchy.{Link, PlacedLink, IsWalk, IsAncestor, HasCycle, IsAcyclic}
-use Rattle.mine_model.proofs.ListLemmas.{Contains-none, Contains-by, Contains-from, Contains-filter, filter-Contains}
+use Rattle.mine_model.proofs.ListLemmas.{Contains-by, Contains-from, Contains-filter, filter-Contains}
 use Rattle.mine_model.proofs.AncestryLemmas.{Item-same}
 use Rattle.mine_model.proofs.WalkLemmas.{IsWalk-join}
 use Rattle.item_hierarchy.specs.declared.edges.EdgeRow.{EdgeRow}
 use Rattle.item_hierarchy.specs.declared.walk.Mark.{Mark}
 use Rattle.item_hierarchy.specs.declared.walk.Mark.TheVariants.{New, Open, Done}
-use Rattle.item_hierarchy.specs.Edges.{link_of, placed_of, AreWithin}
+use Rattle.item_hierarchy.specs.Edges.{link_of, placed_of}
 use Rattle.item_hierarchy.specs.ByChild.{AreByChild}
 use Rattle.item_hierarchy.specs.Walking.{links_upto, IsMarked, IsParentsFirst, IsWalking, HavePassed, is_new, steps_left, Walks}
 
@@ -274,49 +274,10 @@ steps-leave marks rest top open_now =
 
 -- The beginning and the end
 
-pub walks-first : (items : ℕ) (starts : List ℕ) (rows : List EdgeRow) (line : ℕ) → AreByChild items starts rows → AreWithin items rows
-    → Walks items starts rows line (replicate items New) starts [] []
-walks-first items starts rows line sorted within =
-    let new : (t : Item) (mark : Mark) → IsMarked (replicate items New) t mark → New ≡ mark =
-    λ t mark marked. sym (get_or-replicate items t.0 New mark (omega (arith, length-replicate items New, marked.0))) ∙ marked.1 in
-    record {
-      sorted = sorted;
-      within = within;
-      walking = record {
-        size = length-replicate items New;
-        are_open = λ k d below. absurd (omega arith);
-        all_open = λ t marked. absurd (new_not_open (new t Open marked));
-        apart = λ i j d less below. absurd (omega arith);
-        leads = λ k d below. absurd (omega arith);
-        are_done = λ k d below. absurd (omega arith);
-        all_done = λ t marked. absurd (new_not_done (new t Done marked));
-        once = λ i j d less below. absurd (omega arith);
-        first = λ k d parent below. absurd (omega arith);
-      };
-      size = sorted.size;
-      passed = λ n below. (omega arith, sorted.rising n below, λ k d start upto. absurd (omega arith));
-    }
-
 mark_cases : (mark : Mark) → (mark ≡ New) ⊎ ((mark ≡ Open) ⊎ (mark ≡ Done))
 mark_cases New = inl refl
 mark_cases Open = inr (inl refl)
 mark_cases Done = inr (inr refl)
-
-pub walks-last : (items : ℕ) (starts : List ℕ) (rows : List EdgeRow) (line : ℕ) (marks : List Mark) (next : List ℕ) (order : List Item)
-    → Walks items starts rows line marks next [] order → ((t : Item) → t.0 < items → IsMarked marks t New → ⊥)
-    → IsParentsFirst (links_upto line rows) items order
-walks-last items starts rows line marks next order walks none = record {
-  within = λ k d below. omega (arith, (walks.walking.are_done k d below).0, walks.walking.size);
-  complete = λ t inside.
-      let within : t.0 < length marks = omega (arith, walks.walking.size) in
-      elim (mark_cases (get_or marks t.0 New)) [
-        | inl new ↦ absurd (none t inside (within, new))
-        | inr (inl open_now) ↦ absurd (Contains-none t (walks.walking.all_open t (marked_at marks t Open New within open_now)))
-        | inr (inr done) ↦ walks.walking.all_done t (marked_at marks t Done New within done)
-      ];
-  once = walks.walking.once;
-  first = walks.walking.first;
-}
 
 -- where parents come first there is no cycle
 module _ (links : List (Link Item)) (items : ℕ) (order : List Item) (first : IsParentsFirst links items order) (within : All (λ l. l.child.0 < items) links) where

@@ -1,5 +1,5 @@
 -- The machine and the grammar agree, on whole expressions and on how they begin.
-use Rattle.std.proofs.Common.{◌≡◌, ◌↔◌, Option, Some, None, List, [], ◌∷◌, ◌++◌, refl, sym, ap, ◌∙◌, subst, append_assoc}
+use Rattle.std.proofs.Common.{◌≡◌, Option, Some, None, List, [], ◌∷◌, ◌++◌, refl, sym, ap, ◌∙◌, subst, append_assoc}
 use Rattle.mine_model.specs.Bytes.{close_round, full_stop, close_square}
 use Rattle.mine_model.specs.Tokens.{sign, Placed}
 use Rattle.mine_model.specs.Grammar.{expression, Use, Begins, at, named, Reads}
@@ -23,10 +23,6 @@ pub answered-reads : (tokens : List Placed) (t : Tree Use) → IsAnswered tokens
 answered-reads tokens t (choice, row, last, (marks, are, ran), end) =
     let (a, b, c, d, cut, is_stack, is_choice, is_row, is_last) = run-holds tokens marks initial (state [] choice row last) [] are ran initial-holds in
     subst (λ x. Reads expression x t) (sym (cut ∙ ap (λ x. x ++ (b ++ (c ++ d))) is_stack)) (finished-reads choice row last t b c d end is_choice is_row is_last)
-
--- the machine answers exactly what the tokens read as
-pub reads-iff : (tokens : List Placed) (t : Tree Use) → Reads expression tokens t ↔ IsAnswered tokens t
-reads-iff tokens t = (reads-answered tokens t, answered-reads tokens t)
 
 pub cut-marks : (tokens more : List Placed) (marks : List (Mark Use)) → AreMarks (tokens ++ more) marks
     → (first second : List (Mark Use)) × (marks ≡ first ++ second) × AreMarks tokens first × AreMarks more second
@@ -118,21 +114,6 @@ reaches-begins tokens s (marks, are, ran) =
     run-append (Some initial) marks others ∙ ap (λ x. run x others) ran ∙ ran' in
     (more, t, answered-reads (tokens ++ more) t (choice, row, last, (marks ++ others, marks-append tokens more marks others are are', ran2), end))
 
--- the tokens begin an expression just when the machine reads them
-pub begins-iff : (tokens : List Placed) → Begins tokens ↔ ((s : State Use) × Reaches tokens s)
-begins-iff tokens = (begins-reaches tokens, λ is. reaches-begins tokens is.0 is.1)
-
--- for a parser's loop: the start, a step, the first wrong token, the end
-pub reaches-start : Reaches [] initial
-reaches-start = ([], tt, refl)
-
-pub reaches-step : (tokens : List Placed) (token : Placed) (mark : Mark Use) (s s' : State Use) → Reaches tokens s → Is mark token → next s mark ≡ Some s' → Reaches (tokens ++ token ∷ []) s'
-reaches-step tokens token mark s s' (marks, are, ran) is goes = (
-  marks ++ mark ∷ [],
-  marks-append tokens (token ∷ []) marks (mark ∷ []) are (is, tt),
-  run-append (Some initial) marks (mark ∷ []) ∙ ap (λ x. run x (mark ∷ [])) ran ∙ goes,
-)
-
 -- no expression begins with these tokens and this one more, where the machine has no step
 pub wrong-token : (tokens : List Placed) (token : Placed) (s : State Use) → Reaches tokens s → ((mark : Mark Use) → Is mark token → next s mark ≡ None) → Begins (tokens ++ token ∷ []) → ⊥
 wrong-token tokens token s (marks, are, ran) stuck begins =
@@ -176,9 +157,6 @@ no-operand tokens choice row last t reaches none reads =
 pub wrong-mark : (tokens : List Placed) (token : Placed) (mark : Mark Use) (s : State Use) → Reaches tokens s → Is mark token → next s mark ≡ None → Begins (tokens ++ token ∷ []) → ⊥
 wrong-mark tokens token mark s reaches is none =
     wrong-token tokens token s reaches λ m is'. ap (next s) (one-mark m mark token is' is) ∙ none
-
-pub no-mark : (tokens : List Placed) (token : Placed) (s : State Use) → Reaches tokens s → ((mark : Mark Use) → Is mark token → ⊥) → Begins (tokens ++ token ∷ []) → ⊥
-no-mark tokens token s reaches never = wrong-token tokens token s reaches λ m is. absurd (never m is)
 
 -- what begins an expression has begun one so far
 pub begins-cut : (tokens more : List Placed) → Begins (tokens ++ more) → Begins tokens

@@ -87,10 +87,6 @@ begins-apart k l [] b same p q = absurd p
 begins-apart k l (x ∷ a) [] same p q = absurd q
 begins-apart k l (x ∷ a) (y ∷ b) same p q = let e : y ≡ x = cc in kinds-apart k l x p (subst (IsKind l) e q)
 
-begins-not-free : (k : Kind) (bytes : List ℕ) → BeginsKind k bytes → Ends (λ b. is_free b ≡ true) bytes
-begins-not-free k [] p = absurd p
-begins-not-free k (b ∷ bytes) p = kind-not-free k b p
-
 -- doubled quotes are cut in one way
 pub doubled-one : (b : ℕ) → ((b ≡ quote) × (doubled (b ∷ []) ≡ quote ∷ quote ∷ [])) ⊎ ((b ≡ quote → ⊥) × (doubled (b ∷ []) ≡ b ∷ []))
 doubled-one b = elim (cases_Bool (is_quote b)) [

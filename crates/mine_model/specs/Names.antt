@@ -4,7 +4,7 @@ use Rattle.std.specs.List.{AllByRecursion, slice_index_or}
 use Rattle.mine_model.specs.declared.item.Item.{Item}
 use Rattle.mine_model.specs.declared.row.Row.{Row}
 use Rattle.mine_model.specs.Hierarchy.{Link}
-use Rattle.mine_model.specs.Expression.{tree_by, named_in}
+use Rattle.mine_model.specs.Expression.{named_in}
 use Rattle.mine_model.specs.Support.{Sequence}
 use Rattle.mine_model.specs.Answer.{Data, NamedRow}
 
@@ -27,15 +27,6 @@ link_by f link = record { child = f link.child; parent = f link.parent }
 
 abbrev pub sequence_by : {A B : Type 0} → (A → B) → Sequence A → Sequence B
 sequence_by f sequence = record { items = map f sequence.items; weight = sequence.weight }
-
--- the same data over other things named
-abbrev pub data_by : {A B : Type 0} → (A → B) → Data A → Data B
-data_by f d = record {
-  links = map (link_by f) d.links;
-  sequences = map (sequence_by f) d.sequences;
-  expression = tree_by f d.expression;
-  threshold = d.threshold;
-}
 
 -- the row with the names of its items
 abbrev pub named_row : List (List ℕ) → Row → NamedRow

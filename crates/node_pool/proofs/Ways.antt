@@ -26,10 +26,6 @@ own_within {T} {G} number d ways own = let in_pool = slice_get_within (pool_by w
 pub way_at : {T G : Type 0} (from : ℕ) (r : Way T G) (ways : List (Way T G)) → from < length (pool_by ways) → r ≡ get_or ways from r → slice_get ways from ≡ Some r
 way_at {T} {G} from r ways within is = let n = length-map ways (λ (r : Way T G). stealer_deque r.thief) in slice_get_read ways (length ways) from r refl (omega arith) is
 
--- a seat has a part of each deque but its own
-pub way_share : {T G : Type 0} (number from : ℕ) (known_ground : Option G) (r : Way T G) (ways : List (Way T G)) → AreRights number known_ground ways → slice_get ways from ≡ Some r → from ≢ number → 0 < (view r.right).parts
-way_share number from known_ground r ways rights at other = let e = (rights from r at).0 in let f : (from == number) ≡ false = ne_eqb from number other in let one : share number from ≡ 1 = rw f refl in omega arith
-
 -- two facts where nothing came
 pub none_both : {T : Type 0} (result : Option T) (A B : Type 0) → IfNone result A → IfNone result B → IfNone result (A × B)
 none_both None A B a b = (a, b)

@@ -1,9 +1,8 @@
 -- Which token comes first in a text.
-use Rattle.std.proofs.Common.{◌≡◌, ◌≢◌, ℕ, zero, suc, ◌+◌, ◌-◌, ◌<◌, ◌≤◌, ◌⊎◌, inl, inr, true, false, List, [], ◌∷◌, ◌++◌, refl, sym, ap, subst, ◌∙◌, arith, length, take, drop, get_or, true≢false}
+use Rattle.std.proofs.Common.{◌≡◌, ◌≢◌, ℕ, zero, suc, ◌+◌, ◌-◌, ◌<◌, ◌≤◌, inl, inr, true, false, List, [], ◌∷◌, ◌++◌, refl, sym, ap, subst, ◌∙◌, arith, length, take, drop, get_or, true≢false}
 use Rattle.std.specs.Prelude.{not}
 use Rattle.std.proofs.lemmas.Bool.Decides.{nat_tests}
 use Rattle.std.proofs.lemmas.List.{take_all, take_more, drop_more, drop_all, append_assoc, append-nil, length-take-le}
-use Rattle.std.proofs.lemmas.Grind.{flat_map-append}
 use Rattle.mine_model.specs.Bytes.{quote, open_brace, close_brace}
 use Rattle.mine_model.specs.Tokens.{Token, name, sign, repeat, open_repeat, Each, BeginsOtherwise, Spells, BeginsToken, doubled, is_quote, is_bare_byte, is_sign, is_closing_brace}
 use Rattle.mine_model.proofs.BoundLemmas.{each-map}
@@ -16,11 +15,6 @@ use Rattle.patex_parser.specs.declared.token.Mark.{Mark as ReadMark}
 use Rattle.patex_parser.specs.Classes.{test_of}
 use Rattle.patex_parser.specs.Scanning.{IsQuoted, IsUnclosed, IsLexeme, IsMark}
 use Rattle.patex_parser.specs.Scanning as scanning
-
--- a text by its first byte
-pub first-byte : (text : List ℕ) → 0 < length text → text ≡ get_or text 0 0 ∷ drop 1 text
-first-byte [] some = absurd (omega arith)
-first-byte (b ∷ text) some = refl
 
 -- the same behind the first byte, as a slice
 pub rest-of : (text : List ℕ) → 0 < length text → text ≡ get_or text 0 0 ∷ take (length text - 1) (drop 1 text)
@@ -44,58 +38,6 @@ bare-lexeme (b ∷ text) count some is within each otherwise = (positive, within
     not_none none =
         let e : length (take count (b ∷ text)) ≡ 0 = ap length none in
         let p : 0 < count = positive in omega (arith, length-take-le count (b ∷ text) within)
-
--- doubled quotes, one byte on
-doubled-push : (bytes : List ℕ) (b : ℕ) → doubled (bytes ++ b ∷ []) ≡ doubled bytes ++ doubled (b ∷ [])
-doubled-push bytes b = flat_map-append _ bytes (b ∷ [])
-
-doubled-quote : doubled (quote ∷ []) ≡ quote ∷ quote ∷ []
-doubled-quote = refl
-
-doubled-other : (b : ℕ) → b ≢ quote → doubled (b ∷ []) ≡ b ∷ []
-doubled-other b other = elim (doubled-cases b [] []) [
-  | inl is ↦ absurd (other is.0)
-  | inr is ↦ sym (append-nil (doubled (b ∷ []))) ∙ is.1
-]
-
-pub quoted-more : (inner bytes : List ℕ) (at b : ℕ) → at < length inner → get_or inner at 0 ≡ b → b ≢ quote → take at inner ≡ doubled bytes
-    → take (at + 1) inner ≡ doubled (bytes ++ b ∷ [])
-quoted-more inner bytes at b less is other so_far =
-    take_more inner at 0 less ∙ ap (λ xs. xs ++ get_or inner at 0 ∷ []) so_far ∙ ap (λ x. doubled bytes ++ x ∷ []) is
-    ∙ ap (λ xs. doubled bytes ++ xs) (sym (doubled-other b other)) ∙ sym (doubled-push bytes b)
-
-pub quoted-quote : (inner bytes : List ℕ) (at : ℕ) → at + 1 < length inner → get_or inner at 0 ≡ quote → get_or inner (at + 1) 0 ≡ quote → take at inner ≡ doubled bytes
-    → take (at + 1 + 1) inner ≡ doubled (bytes ++ quote ∷ [])
-quoted-quote inner bytes at less is is' so_far =
-    take_more inner (at + 1) 0 less
-    ∙ ap (λ xs. xs ++ get_or inner (at + 1) 0 ∷ []) (take_more inner at 0 (omega arith) ∙ ap (λ xs. xs ++ get_or inner at 0 ∷ []) so_far ∙ ap (λ x. doubled bytes ++ x ∷ []) is)
-    ∙ ap (λ x. (doubled bytes ++ quote ∷ []) ++ x ∷ []) is'
-    ∙ append_assoc (doubled bytes) (quote ∷ []) (quote ∷ [])
-    ∙ sym (doubled-push bytes quote)
-
--- the quote at this byte closes the name
-pub quoted-closed : (inner bytes : List ℕ) (at : ℕ) → at < length inner → get_or inner at 0 ≡ quote → take at inner ≡ doubled bytes
-    → ((at + 1 ≡ length inner) ⊎ (get_or inner (at + 1) 0 ≢ quote)) → IsQuoted inner bytes (at + 1)
-quoted-closed inner bytes at less is so_far ends =
-    (omega arith, take_more inner at 0 less ∙ ap (λ xs. xs ++ get_or inner at 0 ∷ []) so_far ∙ ap (λ x. doubled bytes ++ x ∷ []) is, otherwise ends)
-  where
-    not-quote : (b : ℕ) → b ≢ quote → is_quote b ≡ false
-    not-quote b other = grind (arith, nat_tests)
-
-    begins : (xs : List ℕ) → get_or xs 0 0 ≢ quote → BeginsOtherwise is_quote xs
-    begins [] other = tt
-    begins (b ∷ xs) other = not-quote b other
-
-    otherwise : ((at + 1 ≡ length inner) ⊎ (get_or inner (at + 1) 0 ≢ quote)) → BeginsOtherwise is_quote (drop (at + 1) inner)
-    otherwise (inl whole) = subst (BeginsOtherwise is_quote) (sym (drop_all (at + 1) inner (omega arith))) tt
-    otherwise (inr other) = more (cases (at + 1) (length inner))
-      where
-        cases : (m n : ℕ) → (m < n) ⊎ (n ≤ m)
-        cases m n = grind arith
-
-        more : (at + 1 < length inner) ⊎ (length inner ≤ at + 1) → BeginsOtherwise is_quote (drop (at + 1) inner)
-        more (inl less') = subst (BeginsOtherwise is_quote) (sym (drop_more inner (at + 1) 0 less')) (not-quote (get_or inner (at + 1) 0) other)
-        more (inr all) = subst (BeginsOtherwise is_quote) (sym (drop_all (at + 1) inner all)) tt
 
 -- what is doubled throughout has no closing quote
 doubled-open : (t u f : List ℕ) → Ends (λ b. b ≡ quote) f → doubled t ≡ doubled u ++ quote ∷ f → ⊥

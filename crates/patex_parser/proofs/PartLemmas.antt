@@ -57,12 +57,6 @@ padded-not-free bytes n (before, digits, after, same, free, free', (are, some, v
     let inner : Each is_free true (digits ++ []) = subst (Each is_free true) (sym (append-nil digits)) (back_of_both (λ b. is_free b ≡ true) before digits front) in
     not-each is_free (digits ++ []) (λ none. some (sym (append-nil digits) ∙ none)) (digits-otherwise digits [] some are) inner
 
-pub part-blank : (bytes rest : List ℕ) (before : ℕ) → rest ≡ drop before bytes → rest ≡ [] → Each is_free true (take before bytes) → IsPart bytes Blank
-part-blank bytes rest before same none each =
-    let whole : take before bytes ≡ bytes =
-    sym (append-nil (take before bytes)) ∙ ap (λ xs. take before bytes ++ xs) (sym none ∙ same) ∙ take-append-drop before bytes in
-    subst (Each is_free true) whole each
-
 -- free bytes, and then what does not begin with one
 pub record IsCutAt (test : ℕ → Bool) (bytes front back : List ℕ) : Type 0 where
   pub whole : bytes ≡ front ++ back

@@ -1,8 +1,8 @@
 -- The items of uses, and the tree over them.
-use Rattle.std.proofs.Common.{◌≡◌, ℕ, zero, suc, ◌+◌, ◌<◌, ◌≤◌, inl, inr, Some, List, [], ◌∷◌, ◌++◌, map, length, take, drop, get_or, refl, sym, ap, ◌∙◌, subst, arith}
+use Rattle.std.proofs.Common.{◌≡◌, ℕ, zero, suc, ◌+◌, ◌<◌, inl, inr, Some, List, [], ◌∷◌, ◌++◌, map, length, take, drop, get_or, refl, sym, ap, ◌∙◌, subst, arith}
 use Rattle.std.specs.Prelude.{slice_get, Contains}
 use Rattle.std.specs.List.{AllByRecursion}
-use Rattle.std.proofs.lemmas.List.{take_more, drop_more, take-append-drop, take_all, map-append}
+use Rattle.std.proofs.lemmas.List.{take_more, drop_more, take-append-drop, map-append}
 use Rattle.std.proofs.lemmas.Option.{slice_get_within, get_or_from_slice_get}
 use Rattle.mine_model.specs.declared.item.Item.{Item}
 use Rattle.mine_model.specs.declared.fault.Fault.{Fault}
@@ -71,17 +71,6 @@ items-on names uses items i u item less is are held =
     let one : take (i + 1) uses ≡ take i uses ++ u ∷ [] = take_more uses i u less ∙ ap (λ x. take i uses ++ x ∷ []) (sym is) in
     subst (λ xs. AreItemsOf names xs (items ++ item ∷ [])) (sym (ap (map use_view) one ∙ map-append use_view (take i uses) (u ∷ [])))
     (items-push names (map use_view (take i uses)) items (use_view u) item are (slice_get_within names item.0 u.name held, get_or_from_slice_get names item.0 u.name [] held))
-
-pub items-all : (names : List (List ℕ)) (uses : List NameUse) (items : List Item) (i : ℕ) → length uses ≤ i → AreItemsOf names (map use_view (take i uses)) items
-    → AreItemsOf names (map use_view uses) items
-items-all names uses items i all are = subst (λ xs. AreItemsOf names (map use_view xs) items) (take_all i uses all) are
-
--- as many items as uses
-pub as-many : (names : List (List ℕ)) (uses : List Use) (items : List Item) → AreItemsOf names uses items → length uses ≡ length items
-as-many names [] [] are = refl
-as-many names [] (i ∷ items) are = absurd are
-as-many names (u ∷ uses) [] are = absurd are
-as-many names (u ∷ uses) (i ∷ items) are = omega (arith, as-many names uses items are.1)
 
 -- an item among them has the name of its use
 item-named : (names : List (List ℕ)) (uses : List Use) (items : List Item) → AreItemsOf names uses items → (k : ℕ) (d : Item) → k < length uses

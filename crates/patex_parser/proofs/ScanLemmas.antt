@@ -58,15 +58,6 @@ free-before column b text (first ∷ others) end rest is (free, bytes, following
     next : column + 1 + length free ≡ column + length (b ∷ free)
     next = omega arith
 
-pub scanned-none : (text : List ℕ) → IsScannedTo text 0 [] []
-scanned-none text = record {
-  within = omega arith;
-  few = omega arith;
-  placed = [];
-  before = λ others end rest are. are;
-  are_read = refl;
-}
-
 pub scanned-free : (text : List ℕ) (k : ℕ) (reads : List ReadToken) (uses : List Use) → k < length text → is_free (get_or text k 0) ≡ true
     → IsScannedTo text k reads uses → IsScannedTo text (k + 1) reads uses
 scanned-free text k reads uses less is scanned = record {

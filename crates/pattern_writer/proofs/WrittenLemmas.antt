@@ -4,11 +4,6 @@ use Rattle.std.proofs.Math.Seq.{take-append-add}
 use Rattle.std.proofs.lemmas.List.{append-nil, take-append-le}
 use Rattle.pattern_writer.specs.Written.{IsHeld, IsCut}
 
--- what the room holds at the start is all that there is
-pub held_first : (before : Option (List ℕ)) (held text : List ℕ) → held ≡ text → IsHeld before before held text
-held_first None held text e = tt
-held_first (Some told) held text e = ([], ap Some (sym (append-nil told)), e)
-
 -- more bytes in the room
 pub held_more : (before after : Option (List ℕ)) (held text x held' text' : List ℕ)
     → IsHeld before after held text → held ++ x ≡ held' → text ++ x ≡ text' → IsHeld before after held' text'

@@ -1,33 +1,11 @@
 -- Marks of the ranks that are found.
-use Rattle.std.proofs.Common.{◌≡◌, ◌≢◌, ◌↔◌, ℕ, ◌+◌, ◌<◌, ◌≤◌, ◌⊎◌, inl, inr, Bool, true, false, List, [], ◌∷◌, ◌++◌, length, get_or, set, take, drop, sym, ◌∙◌, subst, arith}
+use Rattle.std.proofs.Common.{◌≡◌, ◌↔◌, ℕ, ◌+◌, ◌<◌, ◌≤◌, ◌⊎◌, inl, inr, Bool, true, false, List, [], ◌∷◌, ◌++◌, length, get_or, set, take, drop, sym, ◌∙◌, subst, arith}
 use Rattle.std.specs.List.{Contains}
 use Rattle.std.proofs.lemmas.Bool.{cases_eq, cases_lt, false≢true}
 use Rattle.std.proofs.lemmas.List.{get_or-set_same, get_or-set_other, get_or_past, drop_all, length-set, take_more, take_all}
-use Rattle.std.proofs.lemmas.List.Elements.{Contains-append_left, Contains-push, Contains-push_cases, Contains-get_or}
-use Rattle.std.proofs.lemmas.List.Quantifiers.{all_pairs_push}
+use Rattle.std.proofs.lemmas.List.Elements.{Contains-append_left, Contains-push, Contains-push_cases}
 use Rattle.mine_model.proofs.ListLemmas.{Contains-cases, Contains-none}
 use Rattle.pivot_partition.specs.Marks.{IsMarked, AreMarked}
-
--- a rank that had no mark is found
-pub marked-push : (marks : List Bool) (found : List ℕ) (rank : ℕ) → rank < length marks → get_or marks rank false ≡ false → AreMarked marks found
-    → AreMarked (set marks rank true) (found ++ rank ∷ [])
-marked-push marks found rank inside none are = record {
-  exact = λ k. (
-    (λ held. elim (cases_eq k rank) [
-      | inl same ↦ subst (IsMarked (set marks rank true)) (sym same) (get_or-set_same marks rank true false inside)
-      | inr other ↦ elim (Contains-push_cases found rank k held) [
-        | inl before ↦ get_or-set_other marks rank k true false other ∙ (are.exact k).0 before
-        | inr same ↦ absurd (other (sym same))
-      ]
-    ]),
-    (λ marked. elim (cases_eq k rank) [
-      | inl same ↦ subst (Contains (found ++ rank ∷ [])) (sym same) (Contains-push found rank)
-      | inr other ↦ Contains-append_left found (rank ∷ []) k ((are.exact k).1 (sym (get_or-set_other marks rank k true false other) ∙ marked))
-    ]),
-  );
-  once = all_pairs_push (λ one other. one ≢ other) found rank are.once
-      (λ i d below same. false≢true (sym none ∙ (are.exact rank).0 (subst (Contains found) same (Contains-get_or found i d below))));
-}
 
 -- those that are still to lose their marks have them alone
 abbrev pub AreStill : List Bool → List ℕ → ℕ → Type 0

@@ -24,11 +24,6 @@ same-load x y d h p =
     let three : made y.deque y.hand x.pending ≡ made y.deque y.hand y.pending = ap (λ l. made y.deque y.hand l) p in
     one ∙ two ∙ three
 
-some-length : {X : Type 0} (xs rest : List X) (x : X) → xs ≡ rest ++ x ∷ [] → 0 < length xs
-some-length [] [] x is = absurd (cc)
-some-length [] (y ∷ rest) x is = absurd (cc)
-some-length (z ∷ xs) rest x is = omega arith
-
 module _ {N : Type 0} (label : N → List ℕ) where
   pub load-at : (workers : List (Worker N)) (w : ℕ) (x : Worker N) → slice_get workers w ≡ Some x → slice_get (map (load label) workers) w ≡ Some (load label x)
   load-at workers w x at = slice_get-map (load label) workers w ∙ ap (option_map (load label)) at

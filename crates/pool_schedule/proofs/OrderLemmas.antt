@@ -1,5 +1,5 @@
 -- The choices settle the schedule, and what a loop that runs it keeps.
-use Rattle.std.proofs.Common.{◌≡◌, ℕ, zero, suc, ◌%◌, Option, Some, None, List, [], ◌∷◌, ◌++◌, set, slice_get, get_or, drop, length, refl, sym, ap, ◌∙◌, subst}
+use Rattle.std.proofs.Common.{◌≡◌, ℕ, ◌%◌, Option, Some, None, List, [], ◌∷◌, ◌++◌, set, slice_get, length, refl, sym, ap, ◌∙◌, subst}
 use Rattle.std.proofs.lemmas.List.{same_from_push}
 use Rattle.pool_schedule.specs.State.{Load, State}
 use Rattle.pool_schedule.specs.Steps.{Step}
@@ -100,15 +100,3 @@ leads_next kids choices left first now next event on picked step events last s =
 
 pub leads_end : (kids : List ℕ → List (List ℕ)) (choices left : List ℕ) (first now : State) → LeadsOn kids choices first left now → enabled now ≡ [] → (all : List Event) × IsScheduled kids choices first all now
 leads_end kids choices left first now on none = on [] now (none, refl)
-
-pub first_drop : (choices : List ℕ) (i : ℕ) → first_choice (drop i choices) ≡ get_or choices i 0
-first_drop [] zero = refl
-first_drop [] (suc i) = refl
-first_drop (c ∷ cs) zero = refl
-first_drop (c ∷ cs) (suc i) = first_drop cs i
-
-pub later_drop : (choices : List ℕ) (i : ℕ) → later_choices (drop i choices) ≡ drop (suc i) choices
-later_drop [] zero = refl
-later_drop [] (suc i) = refl
-later_drop (c ∷ cs) zero = refl
-later_drop (c ∷ cs) (suc i) = later_drop cs i

@@ -16,8 +16,8 @@ use Rattle.pool_schedule.specs.declared.event.Event.{Event}
 use Rattle.pool_schedule.specs.declared.event.Event.TheVariants.{Post, Grow, Put, Take, Steal}
 use Rattle.pool_schedule.proofs.Measure.{IsWithin, extra, to_do}
 use Rattle.pool_schedule.specs.Schedule.{where_any, steal_from, steals, own_events, events_of, enabled, Picks, first_choice, later_choices, IsScheduled}
-use Rattle.pool_schedule.proofs.BalanceLemmas.{step-balance, step-within, step-less, idle-covers}
-use Rattle.pool_schedule.proofs.QuietLemmas.{idle_from_quiet, has_last}
+use Rattle.pool_schedule.proofs.BalanceLemmas.{step-balance, step-within, step-less}
+use Rattle.pool_schedule.proofs.QuietLemmas.{has_last}
 
 range-held : (n w : ℕ) → w < n → Contains (range_with_len 0 n) w
 range-held n w l =
@@ -174,15 +174,6 @@ first_no_put machine event is =
 
 pub quiet_from_none : (kids : List ℕ → List (List ℕ)) (machine : State) → enabled machine ≡ [] → IsQuiet kids machine
 quiet_from_none kids machine none event (after, s) = Contains-none event (subst (λ (l : List Event). Contains l event) none (enabled_listed kids machine event after s))
-
--- a schedule ends with a cover
-pub schedule_covers : (roots : List (List ℕ)) (kids : List ℕ → List (List ℕ)) (choices : List ℕ) (machine : State) (events : List Event) (last : State)
-    → IsBalanced roots kids machine → IsScheduled kids choices machine events last → Covers roots kids last.posted
-schedule_covers roots kids choices machine [] last balance s =
-    subst (λ (m : State). Covers roots kids m.posted) (sym s.1) (idle-covers roots kids machine balance (idle_from_quiet kids machine (quiet_from_none kids machine s.0)))
-schedule_covers roots kids choices machine (event ∷ events) last balance s =
-    let (next, picked, step, later) = s in
-    schedule_covers roots kids (later_choices choices) next events last (step-balance roots kids event machine next step balance) later
 
 extra-most : (event : Event) → extra event ≤ 2
 extra-most (Post w) = omega arith

@@ -63,10 +63,6 @@ module _ (kids : List ℕ → List (List ℕ)) (first posted held : List (List �
     weight-last (kids_weight kids weight) posted label,
   )
 
--- nothing was posted yet
-pub none-posted : (kids : List ℕ → List (List ℕ)) (first : List (List ℕ)) → PostedFrom kids first [] first
-none-posted kids first = λ weight. omega (arith, sum_by-append weight first [])
-
 -- a worker's steps
 module _ {T G : Type 0} (label_of : T → List ℕ) (ground_of : T → G) (kids : List ℕ → List (List ℕ)) (seat : Seat T G) (pass : BoardPass) where
   pub way-begins : IsUnderWay kids seat seat pass pass []

@@ -20,7 +20,7 @@ use Rattle.snapshot_project.specs.Groups.{IsNextGroup, AreRead}
 use Rattle.snapshot_project.specs.Hits.{HasHit, HasEnd, AreHits}
 use Rattle.snapshot_project.specs.Sums.{weight_of, support_of, goes_of, AreAdded}
 use Rattle.snapshot_project.proofs.ListedLemmas.{snapshots-of, grows-not, generates-not, grows-hit, generates-hit, follows-hit}
-use Rattle.snapshot_project.proofs.SumLemmas.{sum-none, sum-add, sum-pass, sum-all}
+use Rattle.snapshot_project.proofs.SumLemmas.{sum-add, sum-pass, sum-all}
 use Rattle.snapshot_project.proofs.ExtensionLemmas.{grows-shorter}
 use Rattle.snapshot_project.proofs.ReadLemmas.{read-passed, read-sequence, read-all}
 
@@ -34,13 +34,6 @@ pub record HaveCounted (part : GridList) (ranks : List ℕ) (sums : List Sum) (g
   pub weights : (rank : ℕ) → Counts (GrowsBehind part (ranks ++ rank ∷ [])) (sequences_before part grid) (weight_of sums rank)
   pub supports : (rank : ℕ) → Counts (GeneratesWithin part (ranks ++ rank ∷ [])) (sequences_before part grid) (support_of sums rank)
   pub ends : (rank : ℕ) → goes_of sums rank ≡ false → NothingBefore part (ranks ++ rank ∷ []) grid
-
-pub counted-none : (part : GridList) (ranks : List ℕ) → HaveCounted part ranks [] 0
-counted-none part ranks = record {
-  weights = λ rank. sum-none part (GrowsBehind part (ranks ++ rank ∷ []));
-  supports = λ rank. sum-none part (GeneratesWithin part (ranks ++ rank ∷ []));
-  ends = λ rank off k i other less at grows. absurd (omega arith);
-}
 
 module _ (part : GridList) (is : IsPart part) (ranks : List ℕ) (list : SnapshotList) (are : AreSnapshots part ranks list)
     (read grid : ℕ) (so_far : AreRead part list.snapshots read grid) where

@@ -62,9 +62,6 @@ module _ (sequence rank : ℕ) (hits : List Hit) (hit : Hit) where
   pub more-ended : (list : SnapshotList) → hit.writes_on ≡ false → with_more list (filed sequence rank hits) ≡ with_more list (filed sequence rank (hits ++ hit ∷ []))
   more-ended list off = ap (λ (l : List Snapshot). with_more list l) (sym (filed-ended off))
 
-pub more-none : (list : SnapshotList) → with_more list [] ≡ list
-more-none list = ap (λ (l : List Snapshot). record list { snapshots = l }) (append-nil list.snapshots)
-
 -- what a mapped list has comes from an element
 pub mapped-from : {X Y : Type 0} (f : X → Y) (xs : List X) (i : ℕ) (y : Y) → slice_get (map f xs) i ≡ Some y → (x : X) × (slice_get xs i ≡ Some x) × (f x ≡ y)
 mapped-from f xs i y at =

@@ -1,4 +1,3 @@
 pub mod WordLemmas
 pub mod SetLemmas
-pub mod MeetLemmas
 pub mod LeftLemmas

@@ -8,7 +8,7 @@ ghost use Rattle.std.proofs.lemmas.Bool.Decides.{Decides-eqb};
 ghost use Rattle.state_bits.specs.Members.{Has, HasBit, words_of};
 
 use super::state_iter::StateIter;
-use super::words::{are_zero, join_words, keep_words, words_meet};
+use super::words::{are_zero, join_words, keep_words};
 use std::hash::{Hash, Hasher};
 use std::marker::Model;
 
@@ -95,13 +95,6 @@ impl<const W: usize> StateSet<W> {
         ensures { (r : ℕ) → Has self.new r ↔ (Has self.old r × HasBit words.now r) }
     {
         keep_words(&mut self.words, words);
-    }
-
-    /// Whether the two sets share a member.
-    pub fn meets(&self, other: &StateSet<W>) -> bool
-        ensures { IsTrue result ↔ ((q : ℕ) × Has self.now q × Has other.now q) }
-    {
-        words_meet(&self.words, &other.words)
     }
 
     /// The set's words, the lowest states first.

@@ -1,6 +1,6 @@
 //! Rows of words, bit by bit.
 
-ghost use Rattle.std.specs.Prelude.{◌≡◌, ℕ, length, slice_index, bit_and, bit_or, ◌≢◌, ◌↔◌, IsTrue, EachIndex, SomeIndex};
+ghost use Rattle.std.specs.Prelude.{◌≡◌, ℕ, length, slice_index, bit_and, bit_or, ◌↔◌, IsTrue, EachIndex};
 
 /// Sets in `words` the bits that `other` has.
 pub(crate) fn join_words(words: &mut [u64], other: &[u64])
@@ -37,16 +37,4 @@ pub(crate) fn are_zero(words: &[u64]) -> bool
     ensures { IsTrue result ↔ EachIndex words.now (λ k. slice_index words.now k ≡ 0) }
 {
     words.iter().all(|word| *word == 0)
-}
-
-/// Whether the two have a bit in common.
-pub(crate) fn words_meet(words: &[u64], other: &[u64]) -> bool
-    requires { length words.now ≡ length other.now }
-    ensures { IsTrue result ↔ SomeIndex words.now
-        (λ k. bit_and (slice_index words.now k) (slice_index other.now k) ≢ 0) }
-{
-    words
-        .iter()
-        .zip(other.iter())
-        .any(|(word, more)| *word & *more != 0)
 }

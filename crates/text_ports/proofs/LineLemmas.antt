@@ -4,7 +4,7 @@ use Rattle.std.specs.List.{AllByRecursion, Contains, All, take_while, slice_rang
 use Rattle.std.proofs.lemmas.List.{append-nil}
 use Rattle.std.proofs.lemmas.Bool.Decides.{nat_tests}
 use borrow.Author.Tests.{eqb-true}
-use Rattle.mine_model.specs.Bytes.{line_feed, carriage_return, space, tab, delete}
+use Rattle.mine_model.specs.Bytes.{line_feed, carriage_return, delete}
 use Rattle.mine_model.specs.Text.{is_blank, is_bad_byte, is_name_byte, onto_first, pieces_by_feed, without_return, pieces_by_blank, Field, fields_from, placed_fields_of, TextFault, bad_byte, long_name, HasTextFault, IsFirstTextFault, IsSoundLine}
 use Rattle.mine_model.specs.Tokens.{BeginsOtherwise}
 use Rattle.mine_model.proofs.ListLemmas.{Contains-cases, Contains-first, Contains-other, Contains-none, AllByRecursion-contained, of_both}
@@ -26,10 +26,6 @@ bad_is_no_name b is = grind (arith, nat_tests)
 
 bad_is_no_feed : (b : ℕ) → is_bad_byte b ≡ true → (b == line_feed) ≡ false
 bad_is_no_feed b is = grind (arith, nat_tests)
-
--- a byte of no name that is no blank and no line feed
-pub other_is_bad : (b : ℕ) → is_name_byte b ≡ false → (b ≡ tab → ⊥) → (b ≡ space → ⊥) → (b ≡ line_feed → ⊥) → is_bad_byte b ≡ true
-other_is_bad b no_name no_tab no_space no_feed = grind (arith, nat_tests)
 
 -- Lines
 

@@ -53,38 +53,55 @@ fn check(
             text: Vec::new(alloc),
         };
         let outcome = read_lines(alloc, &mut files, "f", &mut visitor);
-        assert_eq!(rt; outcome, expected);
-        assert_eq!(rt; visitor.text.as_slice(), text.as_bytes());
+        assert_eq!(rt; outcome, expected, "{bytes:?}");
+        assert_eq!(rt; visitor.text.as_slice(), text.as_bytes(), "{bytes:?}");
     }
     Ok(())
 }
 
+/// Bytes, their number of lines, and what is shown of them.
+const LINES: &[(&[u8], u64, &str)] = &[
+    (b"", 0, ""),
+    (b"\xEF\xBB\xBF", 0, ""),
+    (b"\xEF\xBB\xBFa", 1, "a|/"),
+    (b"a\xEF\xBB\xBFb", 1, "a\u{FEFF}b|/"),
+    (b"a\n\r\nb", 3, "a|//b|/"),
+    (b"a b\r\nc\r", 2, "a|b|/c|/"),
+    (b"\t a  b\t", 1, "a|b|/"),
+    (b"\n\n", 2, "//"),
+    (b"\r", 1, "/"),
+    (b"x\n\xEF\xBB\xBF", 2, "x|/\u{FEFF}|/"),
+];
+
 #[test]
 fn lines_and_fields(rt: HostRuntime) -> Result<(), Fail> {
-    let alloc = rt.alloc();
-    check(&rt, alloc, b"", Ok(0), "")?;
-    check(&rt, alloc, b"\xEF\xBB\xBF", Ok(0), "")?;
-    check(&rt, alloc, b"\xEF\xBB\xBFa", Ok(1), "a|/")?;
-    check(&rt, alloc, b"a\xEF\xBB\xBFb", Ok(1), "a\u{FEFF}b|/")?;
-    check(&rt, alloc, b"a\n\r\nb", Ok(3), "a|//b|/")?;
-    check(&rt, alloc, b"a b\r\nc\r", Ok(2), "a|b|/c|/")?;
-    check(&rt, alloc, b"\t a  b\t", Ok(1), "a|b|/")?;
-    check(&rt, alloc, b"\n\n", Ok(2), "//")?;
-    check(&rt, alloc, b"\r", Ok(1), "/")?;
-    check(&rt, alloc, b"x\n\xEF\xBB\xBF", Ok(2), "x|/\u{FEFF}|/")
+    for (bytes, lines, shown) in LINES {
+        check(&rt, rt.alloc(), bytes, Ok(*lines), shown)?;
+    }
+    Ok(())
 }
+
+/// Bytes, the line and the column of the first bad one, and what is shown before it.
+const BAD_BYTES: &[(&[u8], u64, u64, &str)] = &[
+    (b"a\r\r\n", 1, 2, ""),
+    (b"a\rb", 1, 2, ""),
+    (b"\xEF\xBB\xBF\x01", 1, 1, ""),
+    (b"a\nb \x7F\x01\n", 2, 3, "a|/"),
+    (b"\r\n\x00", 2, 1, "/"),
+    (b"\r\r", 1, 1, ""),
+    (b"a\xEF\xBB\xBF\x0B", 1, 5, ""),
+];
 
 #[test]
 fn the_first_bad_byte(rt: HostRuntime) -> Result<(), Fail> {
-    let alloc = rt.alloc();
-    let bad = |line: u64, column: u64| Err(TextFault::BadByte { line, column });
-    check(&rt, alloc, b"a\r\r\n", bad(1, 2), "")?;
-    check(&rt, alloc, b"a\rb", bad(1, 2), "")?;
-    check(&rt, alloc, b"\xEF\xBB\xBF\x01", bad(1, 1), "")?;
-    check(&rt, alloc, b"a\nb \x7F\x01\n", bad(2, 3), "a|/")?;
-    check(&rt, alloc, b"\r\n\x00", bad(2, 1), "/")?;
-    check(&rt, alloc, b"\r\r", bad(1, 1), "")?;
-    check(&rt, alloc, b"a\xEF\xBB\xBF\x0B", bad(1, 5), "")
+    for (bytes, line, column, shown) in BAD_BYTES {
+        let bad = TextFault::BadByte {
+            line: *line,
+            column: *column,
+        };
+        check(&rt, rt.alloc(), bytes, Err(bad), shown)?;
+    }
+    Ok(())
 }
 
 #[test]

@@ -1,4 +1,4 @@
-use super::{Case, count_right};
+use super::{Case, first_wrong};
 use std::test::Fail;
 
 #[test]
@@ -122,7 +122,7 @@ fn answers_the_running_example(rt: HostRuntime) -> Result<(), Fail> {
             err: "",
         },
     ];
-    assert_eq!(rt; count_right(&rt, rt.alloc(), &cases)?, cases.len());
+    assert_eq!(rt; first_wrong(&rt, rt.alloc(), &cases)?, None);
     Ok(())
 }
 
@@ -218,7 +218,7 @@ fn answers_expressions(rt: HostRuntime) -> Result<(), Fail> {
             err: "",
         },
     ];
-    assert_eq!(rt; count_right(&rt, rt.alloc(), &cases)?, cases.len());
+    assert_eq!(rt; first_wrong(&rt, rt.alloc(), &cases)?, None);
     Ok(())
 }
 
@@ -258,7 +258,7 @@ fn answers_what_is_excluded(rt: HostRuntime) -> Result<(), Fail> {
             err: "",
         },
     ];
-    assert_eq!(rt; count_right(&rt, rt.alloc(), &cases)?, cases.len());
+    assert_eq!(rt; first_wrong(&rt, rt.alloc(), &cases)?, None);
     Ok(())
 }
 
@@ -314,7 +314,7 @@ fn counts_weights(rt: HostRuntime) -> Result<(), Fail> {
             err: "desq: sequences: line 2 column 1: bad weight\n",
         },
     ];
-    assert_eq!(rt; count_right(&rt, rt.alloc(), &cases)?, cases.len());
+    assert_eq!(rt; first_wrong(&rt, rt.alloc(), &cases)?, None);
     Ok(())
 }
 
@@ -426,7 +426,7 @@ fn refuses_expressions(rt: HostRuntime) -> Result<(), Fail> {
             err: "desq: expression: column 5: unknown name\n",
         },
     ];
-    assert_eq!(rt; count_right(&rt, rt.alloc(), &cases)?, cases.len());
+    assert_eq!(rt; first_wrong(&rt, rt.alloc(), &cases)?, None);
     Ok(())
 }
 
@@ -498,7 +498,7 @@ fn refuses_files(rt: HostRuntime) -> Result<(), Fail> {
             err: "",
         },
     ];
-    assert_eq!(rt; count_right(&rt, rt.alloc(), &cases)?, cases.len());
+    assert_eq!(rt; first_wrong(&rt, rt.alloc(), &cases)?, None);
     Ok(())
 }
 
@@ -687,6 +687,6 @@ fn reads_words_in_any_order(rt: HostRuntime) -> Result<(), Fail> {
             err: "desq: usage: desq --support N [options] EXPR [FILE]\n",
         },
     ];
-    assert_eq!(rt; count_right(&rt, rt.alloc(), &cases)?, cases.len());
+    assert_eq!(rt; first_wrong(&rt, rt.alloc(), &cases)?, None);
     Ok(())
 }

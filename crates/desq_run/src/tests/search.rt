@@ -1,6 +1,6 @@
 //! Runs of the search by prefixes, whole and split by pivots, by workers that steal and simulated.
 
-use super::{ANSWER, Case, HIERARCHY, NO_FAULTS, RUNNING, SEQUENCES, count_right, run_on};
+use super::{ANSWER, Case, HIERARCHY, NO_FAULTS, RUNNING, SEQUENCES, first_wrong, run_on};
 use std::alloc::Global;
 use std::sync::Wait;
 use std::test::Fail;
@@ -326,6 +326,6 @@ const WEIGHED: &[Case<'static>] = &[
 
 #[test]
 fn weighs_sequences(rt: HostRuntime) -> Result<(), Fail> {
-    assert_eq!(rt; count_right(&rt, rt.alloc(), WEIGHED)?, WEIGHED.len());
+    assert_eq!(rt; first_wrong(&rt, rt.alloc(), WEIGHED)?, None);
     Ok(())
 }

@@ -1,6 +1,6 @@
 //! Runs by the counting engine with one worker and with several, and the counted work that they tell.
 
-use super::{ANSWER, Case, HIERARCHY, NO_FAULTS, RUNNING, SEQUENCES, count_right, run_on};
+use super::{ANSWER, Case, HIERARCHY, NO_FAULTS, RUNNING, SEQUENCES, first_wrong, run_on};
 use std::alloc::Global;
 use std::sync::Wait;
 use std::test::Fail;
@@ -37,7 +37,7 @@ const BY_WORKERS: &[[Case<'static>; 4]] = &[by_workers!("1"), by_workers!("4"), 
 #[test]
 fn any_number_of_workers_gives_the_same_answer(rt: HostRuntime) -> Result<(), Fail> {
     for cases in BY_WORKERS {
-        assert_eq!(rt; count_right(&rt, rt.alloc(), cases)?, cases.len());
+        assert_eq!(rt; first_wrong(&rt, rt.alloc(), cases)?, None);
     }
     Ok(())
 }
@@ -121,10 +121,7 @@ const NO_COMMANDS: &[Case<'static>] = &[
 
 #[test]
 fn refuses_other_engines_and_numbers_of_workers(rt: HostRuntime) -> Result<(), Fail> {
-    assert_eq!(rt;
-        count_right(&rt, rt.alloc(), NO_COMMANDS)?,
-        NO_COMMANDS.len()
-    );
+    assert_eq!(rt; first_wrong(&rt, rt.alloc(), NO_COMMANDS)?, None);
     Ok(())
 }
 
@@ -173,6 +170,6 @@ const WEIGHED: &[Case<'static>] = &[
 
 #[test]
 fn tells_pairs_and_no_weights(rt: HostRuntime) -> Result<(), Fail> {
-    assert_eq!(rt; count_right(&rt, rt.alloc(), WEIGHED)?, WEIGHED.len());
+    assert_eq!(rt; first_wrong(&rt, rt.alloc(), WEIGHED)?, None);
     Ok(())
 }

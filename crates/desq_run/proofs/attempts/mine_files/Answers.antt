@@ -1,13 +1,10 @@
 use Rattle.std.proofs.Common.{rules, ◌≡◌, inl, inr, refl, sym, subst, map, Err, arith, List}
-use Rattle.mine_model.specs.declared.fault.Fault.{Fault}
 use Rattle.mine_model.specs.declared.fault.Fault.TheVariants.{Read, Write}
-use Rattle.mine_model.specs.Expression.{Tree, tree_by, named_in}
 use Rattle.mine_model.specs.Numbered.{tree_of}
 use Rattle.mine_model.specs.Grammar.{Use}
-use Rattle.mine_model.specs.Refusal.{IsUnknown}
 use Rattle.command_line.specs.Commands.{command_said}
-use Rattle.patex_parser.specs.Parsing.{use_view, use_at}
-use Rattle.desq_run.specs.Ends.{Ends, no_memory, refused_expression}
+use Rattle.patex_parser.specs.Parsing.{use_view}
+use Rattle.desq_run.specs.Ends.{Ends, no_memory, refused_source}
 use Rattle.desq_run.proofs.EndLemmas.{unknown-refused}
 use Rattle.desq_run.proofs.MineLemmas.{no_other}
 use Rattle.desq_run.proofs.RowLemmas.{mined}
@@ -16,34 +13,32 @@ use Rattle.desq_run.proofs.attempts.mine_files.Goals as goal
 pub returns-in_err-parsed-clause-ends : goal.returns-in_err-parsed-clause-ends
 returns-in_err-parsed-clause-ends g c = λ words is.
     let same : c.from_residual.result ≡ Err c.in_err-parsed.field-0.0 = search rules in
-    let refused = rw c.as_bytes.ensures.value at c.in_err-parsed.ensures.refused in
+    let refused = c.in_err-parsed.ensures.refused in
     rw same
     (elim refused [
       | inl memory ↦ subst (λ e. Ends words (g.F.Files.holds c.args.files.now) (Err e)) (sym memory) no_memory
-      | inr refusal ↦ refused_expression (command_said c.args.command.now) c.in_err-parsed.field-0.0 is refusal
+      | inr refusal ↦ refused_source (command_said c.args.command.now) c.in_err-parsed.field-0.0 is refusal
     ])
 
 pub returns-in_err-inputs-clause-ends : goal.returns-in_err-inputs-clause-ends
 returns-in_err-inputs-clause-ends g c = λ words is.
     let same : c.from_residual-in_err-inputs.result ≡ Err c.in_err-inputs.field-0.0 = search rules in
-    let accepted = rw c.as_bytes.ensures.value at c.in_ok-parsed.ensures.accepted in
+    let accepted = c.in_ok-parsed.ensures.accepted in
     rw same (c.in_err-inputs.ensures.ends words (is, accepted))
 
 pub returns-in_err-rows-clause-ends : goal.returns-in_err-rows-clause-ends
 returns-in_err-rows-clause-ends g c = λ words is.
     let same : c.from_residual-in_err-rows.result ≡ Err c.in_err-rows.field-0.0 = search rules in
-    let parsed = rw c.as_bytes.ensures.value at c.in_ok-parsed.ensures.parsed in
-    let accepted = rw c.as_bytes.ensures.value at c.in_ok-parsed.ensures.accepted in
+    let is_read = c.in_ok-parsed.ensures.read in
+    let accepted = c.in_ok-parsed.ensures.accepted in
     let inputs = c.in_ok-inputs.ensures.inputs in
     let uses : List Use = map use_view c.in_ok-parsed.parsed.uses.items in
-    let tree : Tree Use = tree_by (use_at uses) (tree_of c.in_ok-parsed.parsed.tree) in
     rw same
     (elim c.in_err-rows.ensures.refused [
       | inl memory ↦ subst (λ e. Ends words (g.F.Files.holds c.args.files.now) (Err e)) (sym memory) no_memory
       | inr unknown ↦ unknown-refused words (g.F.Files.holds c.args.files.now) (command_said c.args.command.now) (is, accepted)
-          inputs.known inputs.before inputs.hierarchy c.in_ok-inputs.inputs.names c.in_ok-inputs.inputs.db inputs.sequences tree parsed.reads
-          c.in_err-rows.field-0.0
-          (subst (λ us. IsUnknown c.in_ok-inputs.inputs.names us c.in_err-rows.field-0.0) (sym parsed.named) unknown)
+          inputs.known inputs.before inputs.hierarchy c.in_ok-inputs.inputs.names c.in_ok-inputs.inputs.db inputs.sequences uses (tree_of c.in_ok-parsed.parsed.tree) is_read
+          c.in_err-rows.field-0.0 unknown
     ])
 
 pub returns-in_err-rows-clause-read_fault : goal.returns-in_err-rows-clause-read_fault
@@ -62,14 +57,11 @@ returns-in_err-rows-clause-no_write g c = λ is.
 
 pub returns-clause-mined : goal.returns-clause-mined
 returns-clause-mined g c = λ words is.
-    let parsed = rw c.as_bytes.ensures.value at c.in_ok-parsed.ensures.parsed in
-    let accepted = rw c.as_bytes.ensures.value at c.in_ok-parsed.ensures.accepted in
+    let is_read = c.in_ok-parsed.ensures.read in
+    let accepted = c.in_ok-parsed.ensures.accepted in
     let inputs = c.in_ok-inputs.ensures.inputs in
     let uses : List Use = map use_view c.in_ok-parsed.parsed.uses.items in
-    let tree : Tree Use = tree_by (use_at uses) (tree_of c.in_ok-parsed.parsed.tree) in
-    let known_all : (fault : Fault) → IsUnknown c.in_ok-inputs.inputs.names (named_in tree) fault → ⊥ = λ fault unknown.
-    c.in_ok-rows.ensures.known fault (subst (λ us. IsUnknown c.in_ok-inputs.inputs.names us fault) parsed.named unknown) in
     mined words (g.F.Files.holds c.args.files.now) (command_said c.args.command.now) (is, accepted)
-    inputs.known inputs.before c.in_ok-inputs.inputs.db tree c.in_ok-rows.field-0.rows.items c.in_ok-rows.field-0.work
-    c.in_ok-inputs.inputs.names c.in_ok-inputs.inputs.hierarchy inputs refl refl parsed.reads c.requires.support
-    c.in_ok-inputs.ensures.distinct c.in_ok-inputs.ensures.named known_all c.in_ok-rows.ensures.rows
+    inputs.known inputs.before c.in_ok-inputs.inputs.db uses (tree_of c.in_ok-parsed.parsed.tree) c.in_ok-rows.field-0.rows.items c.in_ok-rows.field-0.work
+    c.in_ok-inputs.inputs.names c.in_ok-inputs.inputs.hierarchy inputs refl refl is_read c.requires.ranges c.requires.support
+    c.in_ok-inputs.ensures.distinct c.in_ok-inputs.ensures.named c.in_ok-rows.ensures.known c.in_ok-rows.ensures.rows

@@ -1,9 +1,10 @@
-use Rattle.std.proofs.Common.{rules, ◌≡◌, Err, IfSome, string_bytes}
+use Rattle.std.proofs.Common.{rules, ◌≡◌, Err, IfSome}
 use Rattle.text_ports.specs.Faults.{Rose}
 use Rattle.mine_model.specs.declared.fault.Fault.TheVariants.{Read, Write, NoMemory}
 use Rattle.mine_model.specs.declared.fault.Which.TheVariants.{Hierarchy, Sequences}
 use Rattle.mine_model.specs.Refusal.{IsHierarchyRefusal, IsSequencesRefusal}
-use Rattle.command_line.specs.Commands.{command_said}
+use Rattle.command_line.specs.Words.{file_of as file_said}
+use Rattle.command_line.specs.Commands.{source_said, command_said}
 use Rattle.desq_run.specs.Ends.{no_memory, bytes_named}
 use Rattle.desq_run.specs.Inputs.{IsDatabaseOf, FailsBy}
 use Rattle.desq_run.proofs.FailLemmas.{hierarchy-ends, sequences-ends, read-faulty, no-write, Rose-later}
@@ -32,10 +33,10 @@ returns-in_err-hierarchy-clause-read_fault g c = λ file is.
 pub returns-in_err-db-clause-ends : goal.returns-in_err-db-clause-ends
 returns-in_err-db-clause-ends g c = λ words has.
     let same : c.from_residual-in_err-db.result ≡ Err c.in_err-db.field-0.0 = search rules in
-    let fails : FailsBy (g.F.Files.holds c.args.files.now (string_bytes c.args.command.now.file))
+    let fails : FailsBy (g.F.Files.holds c.args.files.now (file_said (source_said c.args.command.now.source)))
     (IsSequencesRefusal c.args.command.now.weighted c.read_hierarchy.new.names) Sequences (Unit {0})
     (Rose (g.F.Files.faults c.read_hierarchy.new.files) (g.F.Files.faults c.read_sequences.new.files)) c.in_err-db.field-0.0 =
-    rw (c.read_hierarchy.ensures.same_files, c.as_str.ensures.value) at c.in_err-db.ensures.fails in
+    rw (c.read_hierarchy.ensures.same_files, c.file_of.ensures) at c.in_err-db.ensures.fails in
     rw same
     (sequences-ends words (g.F.Files.holds c.args.files.now) (command_said c.args.command.now) has
     (Rose (g.F.Files.faults c.read_hierarchy.new.files) (g.F.Files.faults c.read_sequences.new.files))
@@ -57,9 +58,9 @@ returns-in_err-cover-clause-ends g c = λ words has.
 
 pub returns-clause-inputs : goal.returns-clause-inputs
 returns-clause-inputs g c =
-    let found : IfSome (g.F.Files.holds c.args.files.now (string_bytes c.args.command.now.file))
+    let found : IfSome (g.F.Files.holds c.args.files.now (file_said (source_said c.args.command.now.source)))
     (λ bytes. IsDatabaseOf c.args.command.now.weighted bytes c.read_hierarchy.new.names c.read_sequences.new.names c.in_ok-db.db) =
-    rw (c.read_hierarchy.ensures.same_files, c.as_str.ensures.value) at c.in_ok-db.ensures.database in
+    rw (c.read_hierarchy.ensures.same_files, c.file_of.ensures) at c.in_ok-db.ensures.database in
     record {
       known = c.read_hierarchy.new.names;
       added = c.read_sequences.ensures.kept.0;

@@ -1,5 +1,5 @@
 use Rattle.std.proofs.Common.{inl, inr, ◌∙◌, sym, map, string_bytes}
-use Rattle.desq_run.proofs.EndLemmas.{usage-ended, ended-usage, ended-expression, refusal-ended, ended-refusal, ended-accepted, accepted-ended, if-done, if-unread, if-unwritten}
+use Rattle.desq_run.proofs.EndLemmas.{usage-ended, ended-usage, ended-source, refusal-ended, ended-refusal, ended-accepted, accepted-ended, if-done, if-unread, if-unwritten}
 use Rattle.desq_run.proofs.running.run.Goals as goal
 
 pub returns-clause-done : goal.returns-clause-done
@@ -18,10 +18,10 @@ returns-clause-refuses_words g c = λ usage.
     rw c.status-status.ensures
     (ended-usage (map string_bytes c.args.words.now) (g.F.Files.holds c.args.files.now) c.attempt-outcome.result c.attempt-outcome.ensures.ends usage)
 
-pub returns-clause-refuses_expression : goal.returns-clause-refuses_expression
-returns-clause-refuses_expression g c = λ command fault is refused.
+pub returns-clause-refuses_source : goal.returns-clause-refuses_source
+returns-clause-refuses_source g c = λ command fault is refused.
     rw c.status-status.ensures
-    (ended-expression (map string_bytes c.args.words.now) (g.F.Files.holds c.args.files.now) c.attempt-outcome.result c.attempt-outcome.ensures.ends command fault is refused)
+    (ended-source (map string_bytes c.args.words.now) (g.F.Files.holds c.args.files.now) c.attempt-outcome.result c.attempt-outcome.ensures.ends command fault is refused)
 
 pub returns-clause-refused : goal.returns-clause-refused
 returns-clause-refused g c = λ malformed input is.

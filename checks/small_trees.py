@@ -1,0 +1,167 @@
+#!/usr/bin/env python3
+"""The program against the definition of what an expression generates, on all words of up to four items over two items and all
+trees of up to four leaves over them, by concatenation and choice, in which each node stands bare or once under a sign: with
+one or two leaves captured or under `*`, `+`, `?`, `{2}`, `{1,2}` or `{2,}`, with three captured or under `*` or `{1,2}`,
+with four each leaf captured and each other node under `*`, or, over `(a)` and `b`, one node under any sign. Trees stand side
+by side in an expression, each behind an item of its own. Each expression is mined by `count`, by `dfs` with workers and
+simulated, and by `pivot` in one of these two ways, since it has a part for each tree."""
+import functools
+import itertools
+import multiprocessing
+import os
+import sys
+
+sys.dont_write_bytecode = True
+from rows import Rows, processors, run, write
+
+MOST = 4
+TREES = 182_928
+WORDS = ["".join(word) for number in range(MOST + 1) for word in itertools.product("ab", repeat=number)]
+CUTS = {word: [(word[:cut], word[cut:]) for cut in range(len(word) + 1)] for word in WORDS}
+BOUNDS = {"*": (0, None), "+": (1, None), "?": (0, 1), "{2}": (2, 2), "{1,2}": (1, 2), "{2,}": (2, None)}
+SIGNS = ["()", *BOUNDS]
+ITEMS = [("leaf", "a"), ("leaf", "b")]
+
+
+def under(sign, tree):
+    return tree if sign == "" else ("cap", tree) if sign == "()" else ("rep", tree, sign)
+
+
+def trees(leaves, items, over_leaves, over_others):
+    """The trees over these of so many leaves, with one of these signs, or none, over each leaf and over each other node."""
+    if leaves == 1:
+        bare, signs = items, ["", *over_leaves]
+    else:
+        bare, signs = joins(leaves, items, over_leaves, over_others), ["", *over_others]
+    for tree in bare:
+        for sign in signs:
+            yield under(sign, tree)
+
+
+def joins(leaves, items, *signs):
+    for front in range(1, leaves):
+        for left in trees(front, items, *signs):
+            for right in trees(leaves - front, items, *signs):
+                yield from (("cat", left, right), ("alt", left, right))
+
+
+def signed_once(tree):
+    """The tree with a sign over one of its nodes."""
+    yield from (under(sign, tree) for sign in SIGNS)
+    if tree[0] in ("cat", "alt"):
+        for side in (1, 2):
+            for part in signed_once(tree[side]):
+                yield tree[:side] + (part,) + tree[side + 1:]
+
+
+def table():
+    yield from trees(1, ITEMS, SIGNS, [])
+    yield from trees(2, ITEMS, SIGNS, SIGNS)
+    yield from trees(3, ITEMS, ["()", "*", "{1,2}"], ["()", "*", "{1,2}"])
+    yield from trees(4, ITEMS, ["()"], ["*"])
+    for tree in trees(4, [("cap", ITEMS[0]), ITEMS[1]], [], []):
+        yield from signed_once(tree)
+
+
+def text(tree):
+    kind = tree[0]
+    if kind == "leaf":
+        return tree[1]
+    if kind == "rep":
+        return text(tree[1]) + tree[2]
+    if kind == "cap":
+        return f"({text(tree[1])})"
+    return f"[{text(tree[1])}{' ' if kind == 'cat' else '|'}{text(tree[2])}]"
+
+
+def unfolded_leaves(tree):
+    kind = tree[0]
+    if kind == "leaf":
+        return 1
+    if kind == "cap":
+        return unfolded_leaves(tree[1])
+    if kind == "rep":
+        least, most = BOUNDS[tree[2]]
+        return unfolded_leaves(tree[1]) * (max(least, 1) if most is None else most)
+    return unfolded_leaves(tree[1]) + unfolded_leaves(tree[2])
+
+
+# What a tree generates, inside a capture or outside: the outputs of each word that it takes. A word is cut in two in
+# every way.
+def either(first, second):
+    return {word: first.get(word, set()) | second.get(word, set()) for word in {**first, **second}}
+
+
+def joined(first, second):
+    made = {}
+    for word in WORDS:
+        outputs = {output + more for front, back in CUTS[word] if front in first and back in second
+                   for output in first[front] for more in second[back]}
+        if outputs:
+            made[word] = outputs
+    return made
+
+
+@functools.lru_cache(maxsize=1 << 14)
+def generated(tree, captured):
+    kind = tree[0]
+    if kind == "leaf":
+        return {tree[1]: {tree[1] if captured else ""}}
+    if kind == "cap":
+        return generated(tree[1], True)
+    first = generated(tree[1], captured)
+    if kind == "rep":
+        least, most = BOUNDS[tree[2]]
+        turns, made = {"": {""}}, {}
+        for number in range((least + MOST if most is None else most) + 1):
+            made = either(made, turns) if number >= least else made
+            turns = joined(turns, first)
+        return made
+    second = generated(tree[2], captured)
+    return either(first, second) if kind == "alt" else joined(first, second)
+
+
+def parts():
+    """The trees in parts that one expression holds: by its bytes, and by its leaves."""
+    part, leaves, size = [], 0, 0
+    for tree in table():
+        more, longer = unfolded_leaves(tree) + 1, len(text(tree)) + 6
+        if leaves + more > 1024 or size + longer > 4096:
+            yield part
+            part, leaves, size = [], 0, 0
+        part.append(tree)
+        leaves, size = leaves + more, size + longer
+    yield part
+
+
+def compared(part):
+    """How many trees the part has, and the searches whose answer is not the definition's, with their ends."""
+    supports = {}
+    lines = []
+    for number, tree in enumerate(part):
+        lines += [" ".join([str(number), *word]) + "\n" for word in WORDS]
+        for outputs in generated(tree, False).values():
+            for output in outputs:
+                pattern = (str(number), *output)
+                supports[pattern] = supports.get(pattern, 0) + 1
+    expression = "|".join(f"({number}){text(tree)}" for number, tree in enumerate(part))
+    answer = sorted(supports.items(), key=lambda row: (-row[1], row[0]))
+    wanted = "".join(f"{support}\t{' '.join(pattern)}\n" for pattern, support in answer).encode()
+    file = write(f"words{os.getpid()}", "".join(lines))
+    seed = ["--simulate", str(len(part))]
+    differing = []
+    for engine in (["count"], ["dfs"], ["dfs", *seed], ["pivot", *seed] if len(part) % 2 else ["pivot"]):
+        status, output, message = run("--support", "1", "--engine", *engine, expression, file)
+        if (status, output, message) != (0, wanted, b""):
+            differing.append(f"{' '.join(engine)}: status {status} {message} {expression}")
+    return len(part), differing
+
+
+rows = Rows()
+compared_trees = 0
+with multiprocessing.get_context("fork").Pool(processors()) as pool:
+    for number, (trees_of_part, differing) in enumerate(pool.imap(compared, parts())):
+        compared_trees += trees_of_part
+        rows.hold(f"the trees of expression {number} mean what they say", not differing, "\n".join(differing))
+rows.hold(f"{TREES} trees were compared", compared_trees == TREES, f"and not {compared_trees}")
+rows.finish()
