@@ -35,13 +35,14 @@ same_tree() {
     diff <(tree "$1") "$2"
 }
 
-# A copy of what is needed, with a program that is up to date.
+# A copy of what is needed. Its launcher takes the program to be up to date.
 source="$WORK/with blank"
-mkdir -p "$source/docs" "$source/crates/desq_program/out"
-cp -R "$top/install" "$top/desq" "$top/crates.txt" "$top/HANDLES" "$top/completions" "$source/"
+mkdir -p "$source/docs" "$source/out"
+cp -R "$top/install" "$top/completions" "$source/"
 cp "$top/docs/desq.1" "$source/docs/"
-cp "$DESQ" "$source/crates/desq_program/out/desq"
-touch "$source/crates/desq_program/out/desq_built"
+cp "$DESQ" "$source/out/desq"
+printf '#!/bin/sh\nexec "%s/out/desq" "$@"\n' "$source" > "$source/desq"
+chmod +x "$source/desq"
 
 wanted="bin/desq 755
 share/bash-completion/completions/desq 644
@@ -131,10 +132,16 @@ relative() {
 }
 hold "a folder named from where one stands" relative
 
+# Where the launcher leaves the program is where it is taken from.
+same_place() {
+    grep -q '"$here/out/desq"' "$top/desq" && grep -q '^out/desq bin/desq 755$' "$top/install"
+}
+hold "the launcher leaves the program where it is taken from" same_place
+
 # Where the program is missing, the launcher is run, which builds it.
 missing() {
-    rm "$source/crates/desq_program/out/desq"
-    printf '#!/bin/sh\ncp "%s" "%s/crates/desq_program/out/desq"\n' "$DESQ" "$source" > "$source/desq"
+    rm "$source/out/desq"
+    printf '#!/bin/sh\ncp "%s" "%s/out/desq"\n' "$DESQ" "$source" > "$source/desq"
     "$source/install" "$WORK/four" && cmp "$DESQ" "$WORK/four/bin/desq"
 }
 hold "a program that is missing is built first" missing

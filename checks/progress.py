@@ -99,7 +99,7 @@ def long_run(engine, least):
         with open(f"{WORK}/out", "wb") as out:
             status, pieces, seconds = on_terminal([*words, "--stats"], out)
         is_long = processor_seconds() - before >= least
-        if len(LINE.findall(text_of(pieces))) >= 3 and is_long or seconds > 30:
+        if len(LINE.findall(text_of(pieces))) >= 3 and is_long or seconds > 10:
             return words, status, pieces, seconds
         count += count // 2
 
