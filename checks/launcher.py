@@ -2,6 +2,7 @@
 """The launcher `desq` in a small repository of its own, with an `rt` in the kit's place that records its calls and makes a
 program: when it builds and when not, what it says, and what it leaves behind."""
 import os
+import select
 import shutil
 import signal
 import subprocess
@@ -188,7 +189,7 @@ write(f"{kit}/wait_at_middle", "")
 first = begun("one")
 reached = is_at("middle")
 second = begun("two")
-told = second.stderr.readline()
+told = second.stderr.readline() if select.select([second.stderr], [], [], 20)[0] else "nothing"
 rows.hold("who waits for another's build is told so", reached and "waiting" in told, f"told {told!r}")
 os.remove(f"{kit}/wait_at_middle")
 ends = ended(first)[:2], ended(second)[:2]
