@@ -2,6 +2,7 @@
 """The launcher `desq` in a small repository of its own, with an `rt` in the kit's place that records its calls and makes a
 program: when it builds and when not, what it says, and what it leaves behind."""
 import os
+import select
 import shutil
 import signal
 import subprocess
@@ -17,6 +18,7 @@ KIT = r"""#!/bin/sh
 here=$(dirname "$0")
 crate=$(basename "$PWD")
 echo "$crate $*" >> "$here/calls"
+cat > /dev/null
 while [ -e "$here/wait_at_$crate" ]; do sleep 0.05; done
 if [ -e "$here/fail_at_$crate" ]; then echo "goals are open in $crate"; exit 1; fi
 if [ "$1" = run ]; then
@@ -119,8 +121,8 @@ rows.hold("a first run builds each crate once, those below first, and the progra
 rows.hold("the program has the words and the standard input, and gives the output and the status",
           end[:2] == (3, "first\n[--support]\n[2]\n[a b]\n[-]\nline\n"), f"the end is {end}")
 rows.hold("a first run tells that it builds, and nothing is left of its copies", "desq: building" in end[2] and is_tidy())
-end = ended(begun("again"))
-rows.hold("a second run builds nothing and tells nothing", end == (3, "first\n[again]\n", "") and not calls(), f"the end is {end}")
+end = ended(begun("once again", ""))
+rows.hold("a second run builds nothing and tells nothing", end == (3, "first\n[once again]\n[]\n", "") and not calls(), f"the end is {end}")
 os.utime(f"{top}/{MIDDLE}")
 end = ended(begun())
 rows.hold("a file that is touched and has the same bytes builds nothing", end == (3, "first\n", "") and not calls())
@@ -184,11 +186,20 @@ rows.hold("a lock that cannot be taken is told, with status 1", end[:2] == (1, "
           f"the end is {end}")
 
 anew()
+write(f"{kit}/wait_at_low", "")
+ran = begun()
+reached = is_at("low")
+time.sleep(0.5)
+made = calls()
+os.remove(f"{kit}/wait_at_low")
+rows.hold("a crate waits until those below it are built", reached and len(made) == 1 and ended(ran)[0] == 3, f"the calls are {made}")
+
+anew()
 write(f"{kit}/wait_at_middle", "")
 first = begun("one")
 reached = is_at("middle")
 second = begun("two")
-told = second.stderr.readline()
+told = second.stderr.readline() if select.select([second.stderr], [], [], 20)[0] else "nothing"
 rows.hold("who waits for another's build is told so", reached and "waiting" in told, f"told {told!r}")
 os.remove(f"{kit}/wait_at_middle")
 ends = ended(first)[:2], ended(second)[:2]
