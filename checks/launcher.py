@@ -237,4 +237,30 @@ os.remove(f"{kit}/wait_at_middle")
 end = ended(begun())
 rows.hold("what a build left that was killed outright, the next removes", reached and left and end[:2] == (3, "first\n")
           and is_tidy(), f"the end is {end}, left are {os.listdir(temporary)}")
+
+
+def gated(*, changed=False, older=False):
+    """A gate between the two calls of `build`, which makes a program; then a run, and the calls of the kit for it."""
+    anew()
+    made = f"{top}/crates/desq_program/out/desq_program"
+    statuses = [ended(begun("--gate-begins", command=f"{top}/build"))[0]]
+    write(made, "#!/bin/sh\necho of the gate\nexit 3\n")
+    os.chmod(made, 0o755)
+    if older:
+        os.utime(made, (1, 1))
+    if changed:
+        write(f"{top}/{MIDDLE}", "//! changed\n")
+    statuses.append(ended(begun("--gate-ended", command=f"{top}/build"))[0])
+    return statuses, ended(begun())[:2], len(calls())
+
+
+found = gated()
+rows.hold("the program of a gate is taken over", found == ([0, 0], (3, "of the gate\n"), 0), f"found {found}")
+builds("and runs again with no build", 0)
+write(f"{top}/{MIDDLE}", "//! changed\n")
+builds("until a source changes", 4)
+found = gated(changed=True)
+rows.hold("not where a source changed meanwhile", found == ([0, 0], (3, "first\n"), 4), f"found {found}")
+found = gated(older=True)
+rows.hold("nor where it is from before the gate", found == ([0, 0], (3, "first\n"), 4), f"found {found}")
 rows.finish()
