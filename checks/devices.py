@@ -439,9 +439,10 @@ def address_space():
     """From what the C library itself needs on, each limit of address space gives the answer or want of memory."""
     least = next(size for size in range(1 << 20, 64 << 20, 64 << 10)
                  if run("--support", "0", preexec_fn=limited(resource.RLIMIT_AS, size))[0] in (2, 7))
+    line = write("line", b"a " * 10_000)
     for search, by in searches():
         wrong, ends = [], set()
-        for size in [*range(least, least + (2 << 20), 32 << 10), *range(least + (4 << 20), least + (640 << 20), 32 << 20)]:
+        for size in [*range(least, least + (1 << 20), 32 << 10), *range(least + (4 << 20), least + (640 << 20), 64 << 20)]:
             ran = run(*example(*search), preexec_fn=limited(resource.RLIMIT_AS, size))
             ends.add(ran)
             if not no_memory_or(DONE, ran):
@@ -449,10 +450,10 @@ def address_space():
         rows.hold(f"the running example in any address space, {by}", not wrong and ends == {DONE, NO_MEMORY},
                   "\n".join(wrong[:4]) or f"the ends are {ends}")
         wrong, ends = [], set()
-        for more in (0, 1, 2, 3, 4, 6, 8, 12, 16, 32, 64, 128, 4_096):
-            ran = run("--support", "1", *search, "(a)*", long, preexec_fn=limited(resource.RLIMIT_AS, least + (more << 20)))
+        for more in (0, 1, 2, 3, 4, 6, 8, 16, 64, 4_096):
+            ran = run("--support", "1", *search, "(a)*", line, preexec_fn=limited(resource.RLIMIT_AS, least + (more << 20)))
             ends.add(ran)
-            if not no_memory_or((0, LONG_ANSWER, b""), ran):
+            if not no_memory_or((0, b"1\t" + b" ".join([b"a"] * 10_000) + b"\n", b""), ran):
                 wrong.append(f"{least} bytes and {more} MiB: {shown(ran)}")
         rows.hold(f"a long line in any address space, {by}", not wrong and len(ends) == 2,
                   "\n".join(wrong[:4]) or f"there are {len(ends)} ends")
