@@ -1,7 +1,8 @@
 #!/usr/bin/env python3
-"""Want of memory anywhere: malloc, calloc and realloc of the C library are replaced by ones that refuse one call, or all calls
-from one on, for each call of a run, those of the C library itself among them. A run that met no refusal is the last. Each
-run is done, or writes nothing and says that there is not enough memory; it never hangs."""
+"""Want of memory anywhere: malloc, calloc and realloc of the C library are replaced by ones that refuse one
+call, or all calls from one on, for each call of a run, those of the C library itself among them. A run that
+met no refusal is the last. Each run ends as it would with ample memory, or writes nothing and says that there
+is not enough memory; it never hangs."""
 import multiprocessing
 import os
 import subprocess
@@ -39,30 +40,65 @@ void *calloc(size_t count, size_t size) { return is_refused() ? 0 : __libc_callo
 void *realloc(void *old, size_t size) { return is_refused() ? 0 : __libc_realloc(old, size); }
 """
 ENDLESS = 1 << 62
-SEARCHES = {"count": b"desq: nodes 0 parts 0 candidates 13\n",
-            "dfs": b"desq: nodes 7 parts 1 candidates 0\n",
-            "pivot": b"desq: nodes 7 parts 1 candidates 0\n",
-            "dfs --simulate 7": b"desq: nodes 7 parts 1 candidates 0\n",
-            "pivot --simulate 7": b"desq: nodes 7 parts 1 candidates 0\n"}
-ANSWER = b"3\ta1 b\n2\ta1 A b\n2\ta1 a1 b\n"
+EXPRESSION = ".*(A)[(.^)|.]*(b).*"
+SEARCHES = ("count", "dfs", "pivot", "dfs --simulate 7", "pivot --simulate 7")
 NO_MEMORY = (7, b"", b"desq: out of memory\n")
-AT_ONCE = 64
+AT_ONCE = 16
 
 kinds, running = running_example()
 library = f"{WORK}/refuse.so"
 subprocess.run(["cc", "-O1", "-shared", "-fPIC", "-o", library, write("refuse.c", REFUSING)], check=True)
 
 
+def stats(nodes, parts, candidates):
+    return f"desq: nodes {nodes} parts {parts} candidates {candidates}\n".encode()
+
+
+def endings():
+    """The words of each run, by its name, and what it leaves with ample memory."""
+    above = ["--hierarchy", kinds]
+    twice = write("twice", "2 a1 c d c b\n2 e e a1 e a1 e b\n2 c d c b\n2 a2 d b\n2 a1 a1 b\n")
+    near = write("near", "a1 b\na2 b\n")
+    works = {"count": stats(0, 0, 13), "dfs": stats(7, 1, 0), "pivot": stats(7, 1, 0)}
+    # Frequent are A and b, and each line has A, b and `A b`. The pivot A has the prefixes of no item and of
+    # A; b has those of no item, b, A and `A b`.
+    near_works = {"count": stats(0, 0, 6), "dfs": stats(4, 1, 0), "pivot": stats(6, 2, 0)}
+    for search in SEARCHES:
+        engine = search.split()[0]
+        words = ["--workers", "4", "--stats", *above, "--engine", *search.split()]
+        yield (f"{search}", [*words, "--support", "2", EXPRESSION, running],
+               (0, b"3\ta1 b\n2\ta1 A b\n2\ta1 a1 b\n", works[engine]))
+        yield (f"{search} under a gap",
+               [*words, "--support", "2", "--max-gap", "0", "--max-length", "2", "--generalize", near],
+               (0, b"2\tA\n2\tA b\n2\tb\n", near_works[engine]))
+        if search == engine:
+            yield (f"{search} with weights", [*words, "--support", "4", "--weighted", EXPRESSION, twice],
+                   (0, b"6\ta1 b\n4\ta1 A b\n4\ta1 a1 b\n", works[engine]))
+    cycle = write("cycle", "x y\ny x\n")
+    for name, words, status, message in (
+            ("no support", [EXPRESSION, running, "--support", "0"], 2,
+             "usage: desq --support N [options] EXPR [FILE]"),
+            ("a bracket too few", ["(a", running], 3, "expression: column 3: unexpected"),
+            ("a cycle", ["--hierarchy", cycle, EXPRESSION, running], 3, "hierarchy: line 2: cycle"),
+            ("no weights", ["--weighted", EXPRESSION, running], 3, "sequences: line 1 column 1: bad weight"),
+            ("an unknown name", ["(A)", running], 3, "expression: column 2: unknown name"),
+            ("too many item expressions", ["--max-gap", "1000", "--max-length", "4", running], 4,
+             "expression: 3006 leaves, over 1024"),
+            ("no hierarchy", ["--hierarchy", f"{WORK}/absent", EXPRESSION, running], 5,
+             "hierarchy: read fault"),
+            ("no sequences", [*above, EXPRESSION, f"{WORK}/absent"], 5, "sequences: read fault")):
+        words = words if status == 2 else [*words, "--support", "2"]
+        yield name, words, (status, b"", f"desq: {message}\n".encode())
+
+
 def left(task):
     """What a run leaves whose allocations from the first to the last are refused, and whether one was."""
-    search, first, last = task
-    words = ["--support", "2", "--workers", "4", "--stats", "--hierarchy", kinds, ".*(A)[(.^)|.]*(b).*", running,
-             "--engine", *search.split()]
+    words, first, last = task
     path = f"{WORK}/told{os.getpid()}"
     with open(path, "wb") as told:
         try:
-            ran = subprocess.run([PROGRAM, *words], stdin=subprocess.DEVNULL, capture_output=True, timeout=SECONDS,
-                                 pass_fds=[told.fileno()],
+            ran = subprocess.run([PROGRAM, *words], stdin=subprocess.DEVNULL, capture_output=True,
+                                 timeout=SECONDS, pass_fds=[told.fileno()],
                                  env={"LD_PRELOAD": library, "TOLD_ON": str(told.fileno()),
                                       "FIRST_REFUSED": str(first), "LAST_REFUSED": str(last)})
         except subprocess.TimeoutExpired:
@@ -72,19 +108,19 @@ def left(task):
 
 rows = Rows()
 with multiprocessing.get_context("fork").Pool(processors()) as pool:
-    for search, told in SEARCHES.items():
-        done = (0, ANSWER, told)
+    for name, words, ample in endings():
         for which in ("alone", "and all later ones"):
             first, met, ends, wrong = 1, True, set(), []
             while met and not wrong:
                 numbers = range(first, first + AT_ONCE)
-                tasks = [(search, number, number if which == "alone" else ENDLESS) for number in numbers]
+                tasks = [(words, number, number if which == "alone" else ENDLESS) for number in numbers]
                 for number, (end, is_met) in zip(numbers, pool.map(left, tasks, chunksize=1)):
                     met = met and is_met
                     ends.add(end)
-                    if end != done and not (is_met and end == NO_MEMORY):
+                    if end != ample and not (is_met and end == NO_MEMORY):
                         wrong.append(f"allocation {number} refused {which}: {shown(end)}")
                 first += AT_ONCE
-            rows.hold(f"{search}, an allocation refused {which}: done, or told that memory is missing",
-                      not wrong and ends == {done, NO_MEMORY}, "\n".join(wrong[:8]) or f"the ends are {ends}")
+            rows.hold(f"{name}, an allocation refused {which}: ends as ever, or tells that memory is missing",
+                      not wrong and ends == {ample, NO_MEMORY},
+                      "\n".join(wrong[:8]) or f"the ends are {ends}")
 rows.finish()

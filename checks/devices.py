@@ -1,0 +1,564 @@
+#!/usr/bin/env python3
+"""What stands at the ends of a run may be anything: files that are folders, devices, pipes or that grow;
+streams that are closed, full, cut or lose their reader; calls of the system that fail or are interrupted, one
+by one; limits of the process; signals. Each run is done with the whole answer, or ends with the status and
+message of what failed, and never tells what is half written as done.
+
+Calls fail by a library that is put before the C library: it counts the calls that are named by letters, and
+gives a fault to those from one number to another. It also cuts reads and writes, and lets a file grow or
+shrink while it is read.
+"""
+import contextlib
+import errno
+import fcntl
+import os
+import resource
+import signal
+import socket
+import subprocess
+import sys
+import time
+
+sys.dont_write_bytecode = True
+from rows import PROGRAM, Rows, SECONDS, WORK, run, running_example, shown, write
+
+FAULTY = r"""
+#define _GNU_SOURCE
+#include <dlfcn.h>
+#include <errno.h>
+#include <fcntl.h>
+#include <pthread.h>
+#include <sched.h>
+#include <stdarg.h>
+#include <stdatomic.h>
+#include <stdlib.h>
+#include <string.h>
+#include <sys/syscall.h>
+#include <unistd.h>
+static atomic_ulong calls;
+static unsigned long first, last, cut, reads;
+static int fault, told;
+static const char *named, *grows, *shrinks;
+static unsigned long number_of(const char *name) {
+    const char *text = getenv(name);
+    return text ? strtoul(text, 0, 10) : 0;
+}
+__attribute__((constructor)) static void read_environment(void) {
+    named = getenv("NAMED");
+    first = number_of("FIRST");
+    last = number_of("LAST");
+    fault = number_of("FAULT");
+    cut = number_of("CUT");
+    told = number_of("TOLD_ON");
+    grows = getenv("GROWS");
+    shrinks = getenv("SHRINKS");
+}
+static int fails(char letter) {
+    if (!named || !strchr(named, letter))
+        return 0;
+    unsigned long number = atomic_fetch_add(&calls, 1) + 1;
+    if (number < first || last < number)
+        return 0;
+    syscall(SYS_write, told, "!", 1);
+    errno = fault;
+    return 1;
+}
+static size_t less(size_t size) { return cut && cut < size ? cut : size; }
+int open(const char *path, int flags, ...) {
+    va_list more;
+    va_start(more, flags);
+    mode_t mode = flags & O_CREAT ? va_arg(more, mode_t) : 0;
+    va_end(more);
+    return fails('o') ? -1 : syscall(SYS_openat, AT_FDCWD, path, flags, mode);
+}
+ssize_t read(int fd, void *buffer, size_t size) {
+    if (fails('r'))
+        return -1;
+    ssize_t count = syscall(SYS_read, fd, buffer, less(size));
+    reads++;
+    if (grows && reads <= 5) {
+        int file = syscall(SYS_openat, AT_FDCWD, grows, O_WRONLY | O_APPEND, 0);
+        syscall(SYS_write, file, "a\n", 2);
+        syscall(SYS_close, file);
+    }
+    if (shrinks && reads == 1)
+        syscall(SYS_truncate, shrinks, 0);
+    return count;
+}
+ssize_t write(int fd, const void *buffer, size_t size) {
+    if ((fd == 1 || fd == 2) && fails(fd == 1 ? '1' : '2'))
+        return fault ? -1 : 0;
+    return syscall(SYS_write, fd, buffer, less(size));
+}
+int close(int fd) {
+    long status = syscall(SYS_close, fd);
+    return fails('c') ? -1 : status;
+}
+int pthread_create(pthread_t *thread, const pthread_attr_t *how, void *(*body)(void *), void *with) {
+    static int (*real)(pthread_t *, const pthread_attr_t *, void *(*)(void *), void *);
+    if (!real)
+        real = dlsym(RTLD_NEXT, "pthread_create");
+    return fails('t') ? EAGAIN : real(thread, how, body, with);
+}
+int sched_getaffinity(pid_t pid, size_t size, cpu_set_t *set) {
+    return fails('a') ? -1 : syscall(SYS_sched_getaffinity, pid, size, set) < 0 ? -1 : 0;
+}
+"""
+EXPRESSION = ".*(A)[(.^)|.]*(b).*"
+ANSWER = b"3\ta1 b\n2\ta1 A b\n2\ta1 a1 b\n"
+WORKS = {"count": b"desq: nodes 0 parts 0 candidates 13\n",
+         "dfs": b"desq: nodes 7 parts 1 candidates 0\n",
+         "pivot": b"desq: nodes 7 parts 1 candidates 0\n"}
+DONE = (0, ANSWER, b"")
+FILES = ("hierarchy", "sequences")
+READ_FAULT = {file: (5, b"", f"desq: {file}: read fault\n".encode()) for file in FILES}
+TOO_LARGE = {file: (4, b"", f"desq: {file}: more than 67108864 bytes\n".encode()) for file in FILES}
+WRITE_FAULT = b"desq: write fault\n"
+NO_MEMORY = (7, b"", b"desq: out of memory\n")
+MOST_FILE_BYTES = 67_108_864
+LONG = 60_000
+LONG_ANSWER = b"1\t" + b" ".join([b"a"] * LONG) + b"\n"
+ENDLESS = 1 << 62
+# An interrupted call is made 64 times, and is a fault then.
+TRIES = 64
+
+kinds, running = running_example()
+long = write("long", b"a " * LONG + b"\n")
+first_bytes = {path: open(path, "rb").read() for path in (kinds, running, long)}
+library = os.path.join(WORK, "faulty.so")
+subprocess.run(["cc", "-O1", "-shared", "-fPIC", "-o", library, write("faulty.c", FAULTY)], check=True)
+rows = Rows()
+
+
+def searches():
+    """Each engine with each number of workers: the words, and how the row's name ends."""
+    for engine in WORKS:
+        for workers in ("1", "4", "64"):
+            yield ["--engine", engine, "--workers", workers], f"by {engine} with {workers} workers"
+
+
+def example(*more, hierarchy=kinds, sequences=running):
+    """The words of the running example."""
+    return ["--support", "2", "--hierarchy", hierarchy, *more, EXPRESSION, sequences]
+
+
+def faulty(words, named="", first=1, last=None, fault=errno.EIO, **more):
+    """What a run leaves whose named calls have a fault from the first to the last, and how many faults it
+    met."""
+    path = os.path.join(WORK, "told")
+    with open(path, "wb") as told:
+        settings = {"LD_PRELOAD": library, "TOLD_ON": told.fileno(), "NAMED": named, "FAULT": fault,
+                    "FIRST": first, "LAST": first if last is None else last, **more}
+        ran = run(*words, pass_fds=[told.fileno()],
+                  env={name: str(value) for name, value in settings.items()})
+    return ran, os.path.getsize(path)
+
+
+def faults(name, words, wanted, times, **how):
+    """A row: a run with faults leaves this, and met so many of them."""
+    ran, met = faulty(words, **how)
+    rows.hold(name, ran == wanted and met == times,
+              f"wanted {times} faults and {shown(wanted)}\nand got {met} and {shown(ran)}")
+
+
+def started(words, **options):
+    """A run that has begun, with pipes behind its output and error output."""
+    return subprocess.Popen([PROGRAM, *words], stdin=subprocess.DEVNULL, stdout=subprocess.PIPE,
+                            stderr=subprocess.PIPE, bufsize=0, **options)
+
+
+def ended(ran):
+    """What a run that has begun leaves. One that does not end has no status."""
+    try:
+        out, told = ran.communicate(timeout=SECONDS)
+    except subprocess.TimeoutExpired:
+        ran.kill()
+        ran.communicate()
+        return None, b"", b""
+    return ran.returncode, out, told
+
+
+def feed(ran, path):
+    """The writing end of a named pipe, which this run has opened unless it is over."""
+    while ran.poll() is None:
+        try:
+            return open(os.open(path, os.O_WRONLY | os.O_NONBLOCK), "wb", buffering=0)
+        except OSError:
+            time.sleep(0.001)
+    return open(os.open(path, os.O_RDWR), "wb", buffering=0)
+
+
+def fed(words, feeds):
+    """What a run leaves while named pipes are fed, one after the other, each with its pieces."""
+    ran = started(words)
+    for path, pieces in feeds:
+        with feed(ran, path) as pipe, contextlib.suppress(BrokenPipeError):
+            for piece in pieces:
+                pipe.write(piece)
+    return ended(ran)
+
+
+def named_pipe(name):
+    path = os.path.join(WORK, name)
+    os.mkfifo(path)
+    return path
+
+
+def single_bytes(path):
+    return [bytes([byte]) for byte in first_bytes[path]]
+
+
+def odd_files():
+    """Folders, devices, pipes and files of the kernel in place of files."""
+    above, below = named_pipe("above"), named_pipe("below")
+    absent = [("a folder", WORK), ("a path through a file", f"{running}/f"), ("a name of no bytes", ""),
+              ("a name of 5,000 bytes", "n" * 5_000), ("memory at its first byte", "/proc/self/mem")]
+    loop = os.path.join(WORK, "loop")
+    os.symlink(loop, loop)
+    absent.append(("a link to itself", loop))
+    listener = socket.socket(socket.AF_UNIX)
+    here = os.getcwd()
+    os.chdir(WORK)
+    listener.bind("socket")
+    os.chdir(here)
+    absent.append(("a socket", f"{WORK}/socket"))
+    for name, path in absent:
+        rows.ends(f"{name} as hierarchy", run(*example(hierarchy=path)), READ_FAULT["hierarchy"])
+        rows.ends(f"{name} as sequences", run(*example(sequences=path)), READ_FAULT["sequences"])
+    listener.close()
+    rows.ends("a terminal where there is none", run(*example(sequences="/dev/tty"), start_new_session=True),
+              READ_FAULT["sequences"])
+    for device in ("/dev/zero", "/dev/full", "/dev/urandom"):
+        rows.ends(f"{device} as hierarchy", run(*example(hierarchy=device)), TOO_LARGE["hierarchy"])
+        rows.ends(f"{device} as sequences", run(*example(sequences=device)), TOO_LARGE["sequences"])
+    sparse = write("sparse", b"")
+    os.truncate(sparse, MOST_FILE_BYTES)
+    rows.ends("the most bytes, which are no text", run(*example(sequences=sparse)),
+              (3, b"", b"desq: sequences: line 1 column 1: bad byte\n"))
+    os.truncate(sparse, MOST_FILE_BYTES + 1)
+    rows.ends("a byte more", run(*example(sequences=sparse)), TOO_LARGE["sequences"])
+    os.unlink(sparse)
+    column = len(os.fsencode(PROGRAM)) + 1
+    rows.ends("the program's own words, of which a byte 0 ends each, as sequences",
+              run(*example(sequences="/proc/self/cmdline")),
+              (3, b"", f"desq: sequences: line 1 column {column}: bad byte\n".encode()))
+    of_kernel = "/proc/sys/kernel/ostype"
+    with open(of_kernel, "rb") as file:
+        system = file.read().strip()
+    for search, by in searches():
+        rows.ends(f"/dev/null as sequences, {by}",
+                  run("--support", "1", *search, "(.)", "/dev/null"), (0, b"", b""))
+        rows.ends(f"/dev/null as hierarchy, {by}",
+                  run("--support", "3", "--hierarchy", "/dev/null", *search, ".*(a1).*(b)", running),
+                  (0, b"3\ta1 b\n", b""))
+        rows.ends(f"a file of the kernel whose size is 0, as both, {by}",
+                  run("--support", "1", "--hierarchy", of_kernel, *search, "(.)", of_kernel),
+                  (0, b"1\t" + system + b"\n", b""))
+        rows.ends(f"named pipes that give a byte at a time, {by}",
+                  fed(example(*search, hierarchy=above, sequences=below),
+                      [(above, single_bytes(kinds)), (below, single_bytes(running))]), DONE)
+        rows.ends(f"a named pipe that gives nothing, {by}",
+                  fed(["--support", "1", *search, "(.)", below], [(below, [])]), (0, b"", b""))
+        with open(running, "rb") as file:
+            rows.ends(f"standard input by its name in /dev, {by}",
+                      run(*example(*search, sequences="/dev/stdin"), stdin=file), DONE)
+        grown = write("grown", b"a\n" * 3_000)
+        rows.ends(f"a file that gains a line at each of five reads, {by}",
+                  faulty(["--support", "1", *search, "(a)", grown], GROWS=grown)[0], (0, b"3005\ta\n", b""))
+        shrunk = write("shrunk", b"a\n" * 3_000)
+        rows.ends(f"a file that is emptied after 4,096 bytes were read, {by}",
+                  faulty(["--support", "1", *search, "(a)", shrunk], SHRINKS=shrunk)[0],
+                  (0, b"2048\ta\n", b""))
+        both = write("both", first_bytes[running])
+        with open(both, "ab") as out:
+            ran = run(*example(*search, sequences=both), stdout=out)
+        with open(both, "rb") as file:
+            rows.ends(f"the answer behind the sequences in their file, {by}", (ran, file.read()),
+                      ((0, b"", b""), first_bytes[running] + ANSWER))
+
+
+def without(closed, *words):
+    """What a run leaves in which these streams are closed."""
+    return run(*words, preexec_fn=lambda: [os.close(stream) for stream in closed])
+
+
+def onto(output, *words):
+    """What a run leaves whose output is this descriptor, but for what it wrote there."""
+    ran = run(*words, stdout=output)
+    os.close(output)
+    return ran
+
+
+def untold(error_output, *words):
+    """What a run leaves whose error output is this descriptor, but for what it wrote there."""
+    ran = subprocess.run([PROGRAM, *words], stdin=subprocess.DEVNULL, stdout=subprocess.PIPE,
+                         stderr=error_output, timeout=SECONDS)
+    os.close(error_output)
+    return ran.returncode, ran.stdout, b""
+
+
+def lost_pipe():
+    """A pipe to write to whose reader is gone."""
+    reading, writing = os.pipe()
+    os.close(reading)
+    return writing
+
+
+def streams():
+    """Standard streams that are closed, full, without a reader, or of the wrong kind."""
+    for search, by in searches():
+        words = example(*search)
+        for name, output in (("a full device", os.open("/dev/full", os.O_WRONLY)),
+                             ("a pipe whose reader is gone", lost_pipe()),
+                             ("a file that is open to read alone", os.open(running, os.O_RDONLY))):
+            rows.ends(f"{name}, {by}", onto(output, *words), (6, b"", WRITE_FAULT))
+        rows.ends(f"no output, {by}", without([1], *words), (6, b"", WRITE_FAULT))
+        rows.ends(f"no output, and no answer, {by}",
+                  without([1], "--support", "6", *search, "(.)", running), (0, b"", b""))
+        rows.ends(f"no input, which is not named, {by}", without([0], *words), DONE)
+        rows.ends(f"no input, which is named, {by}", without([0], *example(*search, sequences="-")),
+                  READ_FAULT["sequences"])
+        rows.ends(f"no error output, {by}", without([2], *words, "--stats"), DONE)
+        rows.ends(f"no stream at all, {by}", without([0, 1, 2], *words, "--stats"), (6, b"", b""))
+        rows.ends(f"error output that is full, {by}",
+                  untold(os.open("/dev/full", os.O_WRONLY), *words, "--stats"), DONE)
+    for status, name, words in (
+            (2, "no words", []),
+            (3, "an expression that is malformed", ["--support", "1", "(a", running]),
+            (4, "too many item expressions", ["--support", "1", "[a{32}]{33}", running]),
+            (5, "a hierarchy that cannot be read", example(hierarchy=WORK)),
+            (5, "sequences that cannot be read", example(sequences=f"{WORK}/absent"))):
+        rows.ends(f"{name}, and no error output", without([2], *words), (status, b"", b""))
+        rows.ends(f"{name}, and error output whose reader is gone", untold(lost_pipe(), *words),
+                  (status, b"", b""))
+    rows.ends("neither output nor error output", without([1, 2], *example()), (6, b"", b""))
+    with open(kinds, "rb") as file:
+        rows.ends("a hierarchy on standard input", run(*example(hierarchy="-"), stdin=file), DONE)
+    with open(kinds, "rb") as file:
+        rows.ends("both on standard input: the hierarchy takes all",
+                  run("--support", "1", "--hierarchy", "-", "(A)", "-", stdin=file), (0, b"", b""))
+
+
+def is_cut(text):
+    """Whether this is the beginning of the long answer, and not all of it."""
+    return 0 < len(text) < len(LONG_ANSWER) and LONG_ANSWER.startswith(text)
+
+
+def lost_readers():
+    """Answers that are longer than a pipe holds, of which the reader takes the first bytes alone."""
+    for search, by in searches():
+        words = ["--support", "1", *search, "(a)*", long]
+        ran = started(words)
+        begun = ran.stdout.read(1)
+        ran.stdout.close()
+        status, _, told = ended(ran)
+        rows.ends(f"a reader that leaves after one byte, {by}", (status, begun, told), (6, b"1", WRITE_FAULT))
+        reading, writing = os.pipe()
+        fcntl.fcntl(writing, fcntl.F_SETFL, os.O_NONBLOCK)
+        ran = onto(writing, *words)
+        with open(reading, "rb") as pipe:
+            text = pipe.read()
+        rows.hold(f"a pipe that takes no more and does not wait, {by}",
+                  ran == (6, b"", WRITE_FAULT) and is_cut(text), f"{shown(ran)} and {len(text)} bytes")
+
+
+def failing_calls():
+    """Opens, reads, writes, closes and starts of threads that fail or are interrupted, one by one."""
+    # Cut by four bytes, the hierarchy takes an open and four reads, the sequences an open and fourteen.
+    for engine in WORKS:
+        words = example("--engine", engine)
+        for call in range(1, 21):
+            faults(f"call {call} of those that open and read fails, by {engine}", words,
+                   READ_FAULT["hierarchy" if call <= 5 else "sequences"], 1, named="or", first=call, CUT=4)
+        # The system is then asked in a file of its own how many processors there are.
+        rows.ends(f"each later call of those that open and read fails, by {engine}",
+                  faulty(words, named="or", first=21, last=ENDLESS, CUT=4)[0], DONE)
+        for call in (*range(1, 27), 27):
+            wanted = (6, ANSWER[:call - 1], WRITE_FAULT) if call <= 26 else DONE
+            faults(f"write {call} of single bytes fails, by {engine}", words, wanted, call <= 26,
+                   named="1", first=call, CUT=1)
+        told = WORKS[engine]
+        for call in range(1, len(told) + 1):
+            faults(f"write {call} of the line of --stats fails, by {engine}", [*words, "--stats"],
+                   (0, ANSWER, told[:call - 1]), 1, named="2", first=call, CUT=1)
+    usage = b"desq: usage: desq --support N [options] EXPR [FILE]\n"
+    for call in range(1, len(usage) + 1):
+        faults(f"write {call} of a message fails", [], (2, b"", usage[:call - 1]), 1,
+               named="2", first=call, CUT=1)
+    words = example()
+    for fault in (errno.EAGAIN, errno.EBADF, errno.EISDIR, errno.EMFILE, errno.ENOENT, errno.EPERM):
+        name = errno.errorcode[fault]
+        for call, which in ((1, "hierarchy"), (3, "hierarchy"), (6, "sequences"), (20, "sequences")):
+            faults(f"call {call} of those that open and read answers {name}", words, READ_FAULT[which], 1,
+                   named="or", first=call, fault=fault, CUT=4)
+    for fault in (0, errno.EAGAIN, errno.EBADF, errno.EDQUOT, errno.EFBIG, errno.ENOSPC, errno.EPIPE):
+        name = errno.errorcode.get(fault, "that it took nothing")
+        for call in (1, 2, 26):
+            faults(f"write {call} of single bytes answers {name}", words,
+                   (6, ANSWER[:call - 1], WRITE_FAULT), 1, named="1", first=call, fault=fault, CUT=1)
+    for call in (1, 2):
+        faults(f"open {call} is interrupted 1,000 times", words, DONE, 1_000,
+               named="o", first=call, last=call + 999, fault=errno.EINTR)
+    for call in range(1, 19):
+        for times in (1, TRIES - 1):
+            faults(f"read {call} is interrupted {times} times", words, DONE, times,
+                   named="r", first=call, last=call + times - 1, fault=errno.EINTR, CUT=4)
+        faults(f"read {call} is always interrupted", words,
+               READ_FAULT["hierarchy" if call <= 4 else "sequences"], TRIES,
+               named="r", first=call, last=ENDLESS, fault=errno.EINTR, CUT=4)
+    for call in range(1, 27):
+        for times in (1, TRIES - 1):
+            faults(f"write {call} of single bytes is interrupted {times} times", words, DONE, times,
+                   named="1", first=call, last=call + times - 1, fault=errno.EINTR, CUT=1)
+        faults(f"write {call} of single bytes is always interrupted", words,
+               (6, ANSWER[:call - 1], WRITE_FAULT), TRIES,
+               named="1", first=call, last=ENDLESS, fault=errno.EINTR, CUT=1)
+    for search, by in searches():
+        done = (0, ANSWER, WORKS[search[1]])
+        words = example(*search, "--stats")
+        rows.ends(f"reads and writes of single bytes, {by}", faulty(words, CUT=1)[0], done)
+        ran, met = faulty(words, named="c", last=ENDLESS)
+        rows.hold(f"files that cannot be closed, {by}", ran == done and met >= 2,
+                  f"{met} faults and {shown(ran)}")
+        rows.ends(f"processors that are not told, {by}",
+                  faulty(words, named="a", last=ENDLESS, fault=errno.EPERM)[0], done)
+        # There is a thread for each worker but the first, and others that may count frequencies.
+        for first in (1, 2, 3, 33, 63):
+            for last, later in ((first, ""), (ENDLESS, " and all later ones")):
+                ran, met = faulty(words, named="t", first=first, last=last)
+                rows.hold(f"thread {first}{later} cannot be started, {by}",
+                          ran == done and (met > 0 or first >= int(search[3])),
+                          f"{met} faults and {shown(ran)}")
+
+
+def within(kind, most, *words, **options):
+    """What a run leaves in which this limit of the process is so much, or what may be had at most."""
+    greatest = resource.getrlimit(kind)[1]
+    if greatest != resource.RLIM_INFINITY:
+        most = greatest if most == resource.RLIM_INFINITY else min(most, greatest)
+    return run(*words, preexec_fn=lambda: resource.setrlimit(kind, (most, most)), **options)
+
+
+def limits():
+    """Descriptors, sizes of files, stack and address space."""
+    for search, by in searches():
+        words = example(*search)
+        rows.ends(f"four descriptors, {by}", within(resource.RLIMIT_NOFILE, 4, *words), DONE)
+        rows.ends(f"a stack of 256 KiB, {by}", within(resource.RLIMIT_STACK, 256 << 10, *words), DONE)
+        rows.ends(f"a stack without a limit, {by}",
+                  within(resource.RLIMIT_STACK, resource.RLIM_INFINITY, *words), DONE)
+        for name, action, wanted in (
+                ("the signal of it ends the run", signal.SIG_DFL, (-signal.SIGXFSZ, ANSWER[:10], b"")),
+                ("the signal of it is ignored", signal.SIG_IGN, (6, ANSWER[:10], WRITE_FAULT))):
+            def limit(action=action):
+                signal.signal(signal.SIGXFSZ, action)
+                resource.setrlimit(resource.RLIMIT_FSIZE, (10, 10))
+            path = os.path.join(WORK, "ten")
+            with open(path, "wb") as out:
+                ran = run(*words, stdout=out, preexec_fn=limit)
+            with open(path, "rb") as file:
+                rows.ends(f"files of ten bytes at most, and {name}, {by}", (ran[0], file.read(), ran[2]),
+                          wanted)
+    above = named_pipe("kinds_pipe")
+    ran = started(example(hierarchy=above))
+    with feed(ran, above) as pipe, contextlib.suppress(ProcessLookupError):
+        resource.prlimit(ran.pid, resource.RLIMIT_NOFILE, (3, 3))
+        pipe.write(first_bytes[kinds])
+    rows.ends("no descriptor is left for the sequences", ended(ran), READ_FAULT["sequences"])
+    # The deepest expressions: dots in a repetition that is there no time, choices, signs of repetition, and
+    # dots that are too many, but are counted and dropped. Each runs in the default stack. In a small one it
+    # may end by a signal.
+    deep = {"4,091 dots": ("[" + "." * 4_091 + "]{0}", (0, b"", b"")),
+            "1,024 choices": ("|".join("a" * 1_024), (0, b"", b"")),
+            "128 signs of repetition": ("a" + "?" * 128, (0, b"", b"")),
+            "4,096 dots": ("." * 4_096, (4, b"", b"desq: expression: 4096 leaves, over 1024\n"))}
+    one = write("one", b"a\n")
+    for name, (expression, wanted) in deep.items():
+        words = ["--support", "1", expression, one]
+        rows.ends(f"{name} in a stack of 8 MiB", within(resource.RLIMIT_STACK, 8 << 20, *words), wanted)
+        ran = within(resource.RLIMIT_STACK, 64 << 10, *words)
+        rows.hold(f"{name} in a stack of 64 KiB: done, or ended by the signal with nothing written",
+                  ran in (wanted, (-signal.SIGSEGV, b"", b"")), shown(ran))
+    address_space()
+
+
+def address_space():
+    """From what the C library itself needs on, each limit of address space gives the answer or want of
+    memory."""
+    loaded = (size for size in range(1 << 20, 64 << 20, 64 << 10)
+              if within(resource.RLIMIT_AS, size, "--support", "0")[0] in (2, 7))
+    least = next(loaded, 64 << 20)
+    line = write("line", b"a " * 10_000)
+    small = [*range(0, 1 << 20, 32 << 10)]
+    large = [more << 20 for more in (1, 2, 3, 4, 6, 8, 16, 64, 128, 256, 512)]
+    for search, by in searches():
+        for name, words, done, sizes in (
+                ("the running example", example(*search), DONE, [*small, *large]),
+                ("a long line", ["--support", "1", *search, "(a)*", line],
+                 (0, b"1\t" + b" ".join([b"a"] * 10_000) + b"\n", b""), [0, *large, 4 << 30])):
+            wrong, ends = [], set()
+            for more in sizes:
+                ran = within(resource.RLIMIT_AS, least + more, *words)
+                ends.add(ran)
+                if ran not in (done, NO_MEMORY):
+                    wrong.append(f"{least + more} bytes: {shown(ran)}")
+            rows.hold(f"{name} in any address space, {by}", not wrong and ends == {done, NO_MEMORY},
+                      "\n".join(wrong[:4]) or f"there are {len(ends)} ends")
+
+
+def default_signals():
+    """What makes the signals act as in a process that nobody prepared."""
+    for number in (signal.SIGINT, signal.SIGTERM):
+        signal.signal(number, signal.SIG_DFL)
+
+
+def used_ticks(pid):
+    with open(f"/proc/{pid}/stat", encoding="utf-8") as file:
+        return sum(map(int, file.read().rpartition(")")[2].split()[11:13]))
+
+
+def signals():
+    """A signal ends a run while it reads, mines or writes: the status tells the signal, and what is written
+    is no more than the first bytes of the answer."""
+    many = write("many", b"".join(b" ".join(b"n%d" % (line * place % 97) for place in range(1, 40)) + b"\n"
+                                  for line in range(1, 400)))
+    below = named_pipe("below_signals")
+    for number in (signal.SIGINT, signal.SIGTERM):
+        name = signal.Signals(number).name
+        for search, by in searches():
+            for when, words in (("reads", example(*search, sequences=below)),
+                                ("mines", ["--support", "1", *search, ".*(.)[.*(.)]{1,6}.*", many]),
+                                ("writes", ["--support", "1", *search, "(a)*", long])):
+                ran = started(words, preexec_fn=default_signals)
+                begun, pipe = b"", None
+                if when == "reads":
+                    pipe = feed(ran, below)
+                    pipe.write(first_bytes[running])
+                elif when == "mines":
+                    give_up = time.monotonic() + SECONDS
+                    while ran.poll() is None and used_ticks(ran.pid) < 5 and time.monotonic() < give_up:
+                        time.sleep(0.005)
+                else:
+                    begun = ran.stdout.read(1)
+                ran.send_signal(number)
+                # What it waits for comes only after its end.
+                try:
+                    ran.wait(SECONDS)
+                except subprocess.TimeoutExpired:
+                    ran.kill()
+                out, told = ran.communicate()
+                if pipe:
+                    pipe.close()
+                text = begun + out
+                holds = (ran.returncode, told) == (-number, b"") and (
+                    is_cut(text) if when == "writes" else text == b"")
+                rows.hold(f"{name} while it {when}, {by}", holds,
+                          f"status {ran.returncode}, {len(text)} bytes and {shown([told])}")
+
+
+for part in (odd_files, streams, lost_readers, failing_calls, limits, signals):
+    part()
+for path, text in first_bytes.items():
+    with open(path, "rb") as file:
+        rows.hold(f"the file {os.path.basename(path)} is as it was", file.read() == text)
+rows.finish()
