@@ -122,12 +122,12 @@ for sign, sequences, patterns in (("|", [[name] for name in written], [[name] fo
     by_each(f"1,024 written names with '{sign}' between", 1, [expression, write("written", lines_of(sequences))],
             answer((pattern, 1) for pattern in patterns))
 
-# A rule of many item expressions over a long line.
-alike = write("alike", lines_of([["a"] * 20_000]))
-by_each("a gap of 1, lengths to 511, and 20,000 items", 1, ["--max-gap", "1", "--max-length", "511", alike],
+# A rule of 1,023 item expressions over a line. `dfs` walks the line once for each length, so it has 1,500 items.
+alike = write("alike", lines_of([["a"] * 1_500]))
+by_each("a gap of 1, lengths to 511, and 1,500 items", 1, ["--max-gap", "1", "--max-length", "511", alike],
         answer((["a"] * length, 1) for length in range(1, 512)))
-turns = write("turns", lines_of([list("abcd") * 1_000]))
-by_each("a gap of 509, lengths of 2 to 3, and 4,000 items", 1,
+turns = write("turns", lines_of([list("abcd") * 750]))
+by_each("a gap of 509, lengths of 2 to 3, and 3,000 items", 1,
         ["--max-gap", "509", "--min-length", "2", "--max-length", "3", turns],
         answer((list(first + second + third), 1) for first in "abcd" for second in "abcd" for third in ["", *"abcd"]))
 
