@@ -105,7 +105,7 @@ os.remove(million)
 chain = [named(number) for number in range(8_191)]
 above = write("chain", lines_of(zip(chain[1:], chain)))
 by_each("33,550,336 ancestors", 1, ["--hierarchy", above, "(.^)", write("lowest", chain[-1] + "\n")],
-        answer(([name], 1) for name in chain))
+        answer(([name], 1) for name in chain), ("dfs",))
 
 # Long names, which the table of names finds by a hash and not by their bytes.
 long_names = [named(number) + "x" * 40 for number in range(100_000)]
