@@ -1,0 +1,215 @@
+#!/usr/bin/env python3
+"""Nothing gives up at sizes: want of memory may come at any time by the contracts, and which worker does the work is nobody's
+promise, so only runs show that neither comes without cause. By each engine, with one worker and with four, the answers are
+those that the definition gives. Each size is above those with which the tables begin. A part for each of thousands of pivots
+over one long line costs `pivot` the square of their number, so there its line has as many items, but few of them frequent."""
+import os
+import resource
+import subprocess
+import sys
+import time
+
+sys.dont_write_bytecode = True
+from rows import PROGRAM, Rows, run, write
+
+ENGINES = ("count", "dfs", "pivot")
+SPACE = 512 << 20
+# Of the processor time of a run the busiest of four threads may have this part; an even share is a quarter.
+MOST_SHARE = 0.7
+
+rows = Rows()
+
+
+def named(number):
+    return f"{number:06d}"
+
+
+def lines_of(sequences):
+    return "".join(" ".join(sequence) + "\n" for sequence in sequences)
+
+
+def answer(supports):
+    """The text of the answer that has these patterns, each a list of names with its support."""
+    ordered = sorted((-support, pattern) for pattern, support in supports)
+    return "".join(f"{-support}\t{' '.join(pattern)}\n" for support, pattern in ordered).encode()
+
+
+def within(space):
+    return {"preexec_fn": lambda: resource.setrlimit(resource.RLIMIT_AS, (space, space))} if space else {}
+
+
+def by_each(name, support, words, wanted, engines=ENGINES, space=None):
+    """A row for each engine, with one worker and with four."""
+    for engine in engines:
+        for workers in ("1", "4"):
+            rows.ends(f"{name}, by {engine} with {workers}",
+                      run("--support", str(support), "--engine", engine, "--workers", workers, *words, **within(space)),
+                      (0, wanted, b""))
+
+
+def subsets(items):
+    """Each list that is left of these items where some are left out, but not all."""
+    for number, item in enumerate(items):
+        yield [item]
+        for behind in subsets(items[number + 1:]):
+            yield [item, *behind]
+
+
+# Many lines.
+for count in (20_000, 400_000):
+    pairs = write("pairs", "a b\n" * count)
+    by_each(f"{count} lines of one pair", 1, [".*(.)[(.)]?.*", pairs],
+            answer([(["a"], count), (["a", "b"], count), (["b"], count)]))
+
+# Many names, each on a line of its own.
+names = [named(number) for number in range(20_000)]
+own = write("own", lines_of([name] for name in names))
+each_once = answer(([name], 1) for name in names)
+by_each("20,000 names", 1, ["(.)", own], each_once)
+for engine in ("dfs", "pivot"):
+    for seed in ("0", "18446744073709551615"):
+        rows.ends(f"20,000 names, by {engine} simulated with {seed}",
+                  run("--support", "1", "--engine", engine, "--simulate", seed, "(.)", own), (0, each_once, b""))
+
+# Many candidates: of one line, and of many lines that have none in common.
+line = [named(number) for number in range(19)]
+by_each("a line with 524,287 candidates", 1, ["[(.)|.]*", write("candidates", lines_of([line]))],
+        answer((pattern, 1) for pattern in subsets(line)))
+lines = [[named(10 * number + place) for place in range(10)] for number in range(1_024)]
+by_each("1,047,552 different candidates", 1, ["[(.)|.]*", write("different", lines_of(lines))],
+        answer((pattern, 1) for line in lines for pattern in subsets(line)))
+
+# A node with many kids, each with a kid.
+pairs = [[f"x{name}", f"y{name}"] for name in names]
+by_each("20,000 kids of one node, each with a kid, within 512 MB", 1, ["(.)(.)", write("kids", lines_of(pairs))],
+        answer((pair, 1) for pair in pairs), space=SPACE)
+
+# The longest line. For `pivot` a second line makes every 256th of its items frequent.
+line = [named(number) for number in range(65_535)]
+longest = write("longest", lines_of([line]))
+by_each("65,535 different items in a line, and their pairs", 1, [".*(.)[(.)]?.*", longest],
+        answer([([item], 1) for item in line] + [(line[place:place + 2], 1) for place in range(65_534)]),
+        ("count", "dfs"))
+by_each("65,535 different items in a line, of which 256 are frequent", 2,
+        [".*(.)[(.)]?.*", write("longest_of_two", lines_of([line, line[::256]]))],
+        answer(([item], 2) for item in line[::256]))
+
+# A million names. `desq-rival`, the same search without proofs, needs 504 to 522 MB of addresses with one worker and 848 to
+# 950 MB with four for `.*(fffff).*`: the least N with which `(ulimit -v N; desq-rival --support 1 --engine dfs --workers 4
+# '.*(fffff).*' FILE)` has status 0. So a run that needs twice as much as it breaks here, and one that needs as much.
+million = write("million", lines_of([f"{16 * number + place:x}" for place in range(16)] for number in range(65_536)))
+by_each("1,048,576 names, within 512 MB", 1, [".*(fffff).*", million], b"1\tfffff\n", space=SPACE)
+os.remove(million)
+
+# As many ancestors as may be: a chain of 8,191, of which the lowest stands below all.
+chain = [named(number) for number in range(8_191)]
+above = write("chain", lines_of(zip(chain[1:], chain)))
+by_each("33,550,336 ancestors", 1, ["--hierarchy", above, "(.^)", write("lowest", chain[-1] + "\n")],
+        answer(([name], 1) for name in chain), ("dfs",))
+
+# Long names, which the table of names finds by a hash and not by their bytes.
+long_names = [named(number) + "x" * 40 for number in range(100_000)]
+by_each("100,000 names of 46 bytes", 2,
+        [".*(.).*", write("long_names", lines_of([[name] for name in long_names] + [[name] for name in long_names[::100]]))],
+        answer(([name], 2) for name in long_names[::100]))
+
+# The largest expression: 1,024 written names in 4,096 bytes.
+written = ["aa"] + [f"b{number:02x}" if number < 256 else f"{number:03x}" for number in range(1_023)]
+for sign, sequences, patterns in (("|", [[name] for name in written], [[name] for name in written]),
+                                  (" ", [written], [written])):
+    expression = f"({sign.join(written)})"
+    assert len(expression) == 4_096 and len(set(written)) == 1_024
+    by_each(f"1,024 written names with '{sign}' between", 1, [expression, write("written", lines_of(sequences))],
+            answer((pattern, 1) for pattern in patterns))
+
+# A rule of 1,023 item expressions over a line. `dfs` walks the line once for each length, so it has 1,500 items.
+alike = write("alike", lines_of([["a"] * 1_500]))
+by_each("a gap of 1, lengths to 511, and 1,500 items", 1, ["--max-gap", "1", "--max-length", "511", alike],
+        answer((["a"] * length, 1) for length in range(1, 512)))
+turns = write("turns", lines_of([list("abcd") * 750]))
+by_each("a gap of 509, lengths of 2 to 3, and 3,000 items", 1,
+        ["--max-gap", "509", "--min-length", "2", "--max-length", "3", turns],
+        answer((list(first + second + third), 1) for first in "abcd" for second in "abcd" for third in ["", *"abcd"]))
+
+# Every option at once. x is not frequent, and b ranks before A, and A before a.
+kinds = write("kinds", "a A\n")
+weighted = write("weighted", "2 a b\n3 a x b\n1 b\n")
+for engine, told in (("count", b"nodes 0 parts 0 candidates 4"), ("dfs", b"nodes 5 parts 1 candidates 0"),
+                     ("pivot", b"nodes 6 parts 2 candidates 0")):
+    seed = [] if engine == "count" else ["--simulate", "7"]
+    words = ["--stats", "--support=5", "--engine", engine, *seed, "--weighted", f"--hierarchy={kinds}", "--workers", "3"]
+    ends = (0, b"5\tA b\n5\ta b\n", b"desq: " + told + b"\n")
+    rows.ends(f"every option and an expression, by {engine}", run(*words, "--", ".*(.^).{0,1}(.^).*", weighted), ends)
+    rows.ends(f"every option and a gap, by {engine}",
+              run(weighted, "--generalize", "--max-gap=1", *words, "--max-length", "2", "--min-length", "2"), ends)
+
+# What is too long is refused, and told by its own message.
+rows.ends("a quoted name of 300 bytes", run("--support", "1", f"(a|'{'n' * 300}')", kinds),
+          (3, b"", b"desq: expression: column 4: unknown name\n"))
+rows.ends("an expression of 4,097 bytes", run("--support", "1", f"({'a ' * 2_047} )", kinds),
+          (4, b"", b"desq: expression: more than 4096 bytes\n"))
+rows.ends("a file name of 5,000 bytes", run("--support", "1", "(a)", "f" * 5_000),
+          (5, b"", b"desq: sequences: read fault\n"))
+rows.ends("a hierarchy's file name of 5,000 bytes", run("--support", "1", "--hierarchy", "f" * 5_000, "(a)", kinds),
+          (5, b"", b"desq: hierarchy: read fault\n"))
+
+# An expression is refused before anything is read: nobody writes to these, so a run that reads first has no end.
+fifo = f"{os.environ['WORK']}/fifo"
+os.mkfifo(fifo)
+reading, writing = os.pipe()
+for words, status, told in (([], 2, "usage: desq --support N [options] EXPR [FILE]"),
+                            (["(a);"], 3, "expression: column 4: bad token"),
+                            (["(a){2,1}"], 3, "expression: column 4: bad repeat"),
+                            (["(a"], 3, "expression: column 3: unexpected"),
+                            (["(a){1025}"], 4, "expression: column 4: repeat over 1024"),
+                            (["[" * 129 + "a" + "]" * 129], 4, "expression: column 129: nested over 128"),
+                            (["(a){1024}a"], 4, "expression: 1025 leaves, over 1024"),
+                            (["a" * 4_097], 4, "expression: more than 4096 bytes"),
+                            (["--max-gap", "1", "--max-length", "512"], 4, "expression: 1025 leaves, over 1024")):
+    ends = (status, b"", f"desq: {told}\n".encode())
+    rows.ends(f"refused before a file is opened: {told}", run("--support", "1", "--hierarchy", fifo, *words, fifo), ends)
+    rows.ends(f"refused before standard input is read: {told}", run("--support", "1", *words, "-", stdin=reading), ends)
+os.close(reading)
+os.close(writing)
+
+
+def processor_times(process):
+    """The processor time of each thread of a run, in ticks, as it was last seen."""
+    seen = {}
+    while process.poll() is None:
+        tasks = f"/proc/{process.pid}/task"
+        try:
+            for task in os.listdir(tasks):
+                with open(f"{tasks}/{task}/stat", "rb") as file:
+                    fields = file.read().rpartition(b")")[2].split()
+                seen[task] = int(fields[11]) + int(fields[12])
+        except OSError:
+            pass
+        time.sleep(0.005)
+    return sorted(seen.values(), reverse=True)
+
+
+def shared(name, support, expression, file):
+    """A row for a run of four workers of which none does most of the work."""
+    engine = name.split()[-1]
+    process = subprocess.Popen([PROGRAM, "--support", str(support), "--engine", engine, "--workers", "4", expression, file],
+                               stdin=subprocess.DEVNULL, stdout=subprocess.DEVNULL)
+    times = processor_times(process)
+    rows.hold(name, process.returncode == 0 and times[0] < MOST_SHARE * sum(times),
+              f"status {process.returncode}, ticks of each thread {times}")
+
+
+# Lines of a plane over the numbers below 101: each of 10,201 points is on one line of each slope, and no two points are
+# together on two. So each prefix of one item has all its lines to walk, and nothing below it.
+def plane(slopes):
+    return [[f"{place}_{(slope * place + start) % 101}" for place in range(101)] for slope in range(slopes) for start in range(101)]
+
+
+points = [[f"{place}_{height}"] for place in range(101) for height in range(101)]
+many, few = write("many", lines_of(plane(48))), write("few", lines_of(plane(8)))
+by_each("10,201 prefixes that end", 8, [".*(.)[.*(.)]?.*", few], answer((point, 8) for point in points), ("dfs", "pivot"))
+shared("four workers share 10,201 kids of one node, by dfs", 48, ".*(.)[.*(.)]?.*", many)
+shared("four workers share 10,201 parts, by pivot", 8, ".*(.)[.*(.)]?.*", few)
+alike = write("alike_lines", lines_of([list("abcdefghijkl")] * 4_096))
+shared("four workers share 16 blocks of lines, by count", 1, "[(.)|.]*", alike)
+rows.finish()
