@@ -1,21 +1,16 @@
 #!/usr/bin/env python3
-"""Nothing gives up at sizes: want of memory may come at any time by the contracts, and which worker does the work is nobody's
-promise, so only runs show that neither comes without cause. By each engine, with one worker and with four, the answers are
-those that the definition gives. Each size is above those with which the tables begin. A part for each of thousands of pivots
+"""Nothing gives up at sizes: want of memory may come at any time by the contracts, so only runs show that it does not come
+without cause. By each engine, with one worker and with four, the answers are those that the definition gives. Each size is above those with which the tables begin. A part for each of thousands of pivots
 over one long line costs `pivot` the square of their number, so there its line has as many items, but few of them frequent."""
 import os
 import resource
-import subprocess
 import sys
-import time
 
 sys.dont_write_bytecode = True
-from rows import PROGRAM, Rows, run, write
+from rows import Rows, run, write
 
 ENGINES = ("count", "dfs", "pivot")
 SPACE = 512 << 20
-# Of the processor time of a run the busiest of four threads may have this part; an even share is a quarter.
-MOST_SHARE = 0.7
 
 rows = Rows()
 
@@ -173,32 +168,6 @@ os.close(reading)
 os.close(writing)
 
 
-def processor_times(process):
-    """The processor time of each thread of a run, in ticks, as it was last seen."""
-    seen = {}
-    while process.poll() is None:
-        tasks = f"/proc/{process.pid}/task"
-        try:
-            for task in os.listdir(tasks):
-                with open(f"{tasks}/{task}/stat", "rb") as file:
-                    fields = file.read().rpartition(b")")[2].split()
-                seen[task] = int(fields[11]) + int(fields[12])
-        except OSError:
-            pass
-        time.sleep(0.005)
-    return sorted(seen.values(), reverse=True)
-
-
-def shared(name, support, expression, file):
-    """A row for a run of four workers of which none does most of the work."""
-    engine = name.split()[-1]
-    process = subprocess.Popen([PROGRAM, "--support", str(support), "--engine", engine, "--workers", "4", expression, file],
-                               stdin=subprocess.DEVNULL, stdout=subprocess.DEVNULL)
-    times = processor_times(process)
-    rows.hold(name, process.returncode == 0 and times[0] < MOST_SHARE * sum(times),
-              f"status {process.returncode}, ticks of each thread {times}")
-
-
 # Lines of a plane over the numbers below 101: each of 10,201 points is on one line of each slope, and no two points are
 # together on two. So each prefix of one item has all its lines to walk, and nothing below it.
 def plane(slopes):
@@ -206,10 +175,6 @@ def plane(slopes):
 
 
 points = [[f"{place}_{height}"] for place in range(101) for height in range(101)]
-many, few = write("many", lines_of(plane(48))), write("few", lines_of(plane(8)))
+few = write("few", lines_of(plane(8)))
 by_each("10,201 prefixes that end", 8, [".*(.)[.*(.)]?.*", few], answer((point, 8) for point in points), ("dfs", "pivot"))
-shared("four workers share 10,201 kids of one node, by dfs", 48, ".*(.)[.*(.)]?.*", many)
-shared("four workers share 10,201 parts, by pivot", 8, ".*(.)[.*(.)]?.*", few)
-alike = write("alike_lines", lines_of([list("abcdefghijkl")] * 4_096))
-shared("four workers share 16 blocks of lines, by count", 1, "[(.)|.]*", alike)
 rows.finish()
