@@ -6,78 +6,72 @@ use std::sync::Wait;
 use std::test::Fail;
 use std::thread::Threads;
 
-/// Options of a rule, the files `h` and `f`, and the answer.
-const ANSWERS: &[(&[&str], &str, &str, &str)] = &[
+/// The support and the options of a rule, with one blank between, the files `h` and `f`, and the answer.
+const ANSWERS: &[(&str, &str, &str, &str)] = &[
     (
-        &[
-            "1",
-            "--max-gap",
-            "1",
-            "--min-length",
-            "2",
-            "--max-length",
-            "2",
-        ],
+        "1 --max-gap 1 --min-length 2 --max-length 2",
         "",
         "a b c\na x x b\n",
         "1\ta b\n1\ta c\n1\ta x\n1\tb c\n1\tx b\n1\tx x\n",
     ),
     (
-        &[
-            "2",
-            "--max-gap",
-            "2",
-            "--min-length",
-            "2",
-            "--max-length",
-            "2",
-        ],
+        "2 --max-gap 2 --min-length 2 --max-length 2",
         "",
         "a b c\na x x b\n",
         "2\ta b\n",
     ),
     (
-        &[
-            "2",
-            "--max-gap",
-            "0",
-            "--min-length",
-            "2",
-            "--max-length",
-            "2",
-            "--generalize",
-        ],
+        "2 --max-gap 0 --min-length 2 --max-length 2 --generalize",
         "a1 A\na2 A\n",
         "a1 b\na2 b\n",
         "2\tA b\n",
     ),
-    // Of length 1, and a gap that is longer than the sequence.
+    // Of length 1.
     (
-        &["2", "--max-gap", "0", "--max-length", "1"],
+        "2 --max-gap 0 --max-length 1",
         "",
         "a b\nb a a\n",
         "2\ta\n2\tb\n",
     ),
+    // A gap that is longer than the sequence.
     (
-        &[
-            "1",
-            "--max-gap=509",
-            "--min-length=3",
-            "--max-length=3",
-            "--weighted",
-        ],
+        "1 --max-gap=509 --min-length=3 --max-length=3 --weighted",
         "",
         "7 a b c\n",
         "7\ta b c\n",
     ),
     // Several parents: each is written in place of the item.
     (
-        &["2", "--generalize", "--max-gap", "0", "--max-length", "1"],
+        "2 --generalize --max-gap 0 --max-length 1",
         "x P Q\nP R\n",
         "x\nx\n",
         "2\tP\n2\tQ\n2\tR\n2\tx\n",
     ),
 ];
+
+/// Whether a run by these words, which have one blank between, gives this answer.
+fn answers<R: Threads + Wait + Sync>(
+    rt: &R,
+    alloc: Global,
+    words: &str,
+    hierarchy: &str,
+    sequences: &str,
+    answer: &str,
+) -> Result<bool, Fail> {
+    let mut all = vec![in alloc; "f", "--hierarchy", "h"]?;
+    for word in words.split(' ') {
+        all.push(word)?;
+    }
+    let ran = run_on(
+        rt,
+        alloc,
+        all.as_slice(),
+        hierarchy.as_bytes(),
+        sequences.as_bytes(),
+        NO_FAULTS,
+    )?;
+    Ok(ran.status == 0 && ran.out.as_slice() == answer.as_bytes())
+}
 
 /// The number, from 0, of the first answer that the engine does not give with so many workers.
 fn first_unanswered<R: Threads + Wait + Sync>(
@@ -87,23 +81,8 @@ fn first_unanswered<R: Threads + Wait + Sync>(
     workers: &str,
 ) -> Result<Option<usize>, Fail> {
     for (number, (options, hierarchy, sequences, answer)) in ANSWERS.iter().enumerate() {
-        let mut words = vec![in alloc; "f", "--hierarchy", "h", "--engine"]?;
-        words.push(engine)?;
-        words.push("--workers")?;
-        words.push(workers)?;
-        words.push("--support")?;
-        for option in *options {
-            words.push(*option)?;
-        }
-        let ran = run_on(
-            rt,
-            alloc,
-            words.as_slice(),
-            hierarchy.as_bytes(),
-            sequences.as_bytes(),
-            NO_FAULTS,
-        )?;
-        if ran.status != 0 || ran.out.as_slice() != answer.as_bytes() {
+        let words = format!(in alloc; "--engine={engine} --workers={workers} --support {options}")?;
+        if !answers(rt, alloc, words.as_str(), hierarchy, sequences, answer)? {
             return Ok(Some(number));
         }
     }
