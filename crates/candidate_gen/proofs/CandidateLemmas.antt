@@ -7,7 +7,7 @@ use Rattle.mine_model.specs.Candidates.{IsFrequentItem}
 use Rattle.mine_model.specs.Ranks.{AreRanked, AreAllRanked}
 use Rattle.mine_model.proofs.ListLemmas.{AllByRecursion-weaker}
 use Rattle.mine_model.proofs.RankedLemmas.{ranked-none, ranked-same, ranked-all, ranked-held, ranked-bounds, AreAllRanked-length, AreAllRanked-at}
-use Rattle.fst_simulate.specs.Problems.{Problem, IsWhole, items_of}
+use Rattle.mining_job.specs.Problems.{Problem, IsWhole, items_of}
 use Rattle.candidate_gen.specs.Candidates.{IsCandidateAt, AreCandidateRanks, AreCandidates}
 use Rattle.candidate_gen.specs.Walk.{IsWritten, AreWritten}
 

@@ -15,12 +15,12 @@ use Rattle.fst_compile.specs.declared.edge.Edge.{Edge}
 use Rattle.fst_compile.specs.declared.edge.Label.{Label}
 use Rattle.fst_compile.specs.Transducer.{Enters, edges_from}
 use Rattle.fst_compile.proofs.RowLemmas.{Has-none}
-use Rattle.fst_simulate.specs.Grids.{Reads}
-use Rattle.fst_simulate.proofs.PathLemmas.{label_at_edge, writes-cases}
+use Rattle.sequence_grids.specs.Grids.{Reads}
+use Rattle.sequence_grids.proofs.PathLemmas.{label_at_edge, writes-cases}
 use Rattle.candidate_gen.specs.declared.place.Place.{Place}
 use Rattle.candidate_gen.specs.Paths.{Space, Writes}
 use Rattle.candidate_gen.specs.Places.{FollowsFound, FollowsLive}
-use Rattle.fst_simulate.specs.Successors.{LeadsFrom}
+use Rattle.sequence_grids.specs.Successors.{LeadsFrom}
 use Rattle.candidate_gen.specs.Views.{WritesMore, WritesAs}
 use Rattle.candidate_gen.specs.Steps.{IsAhead, FollowsInto, AreStates, AddsPlaces}
 use Rattle.candidate_gen.proofs.PathLemmas.{writes-end, writes-step}

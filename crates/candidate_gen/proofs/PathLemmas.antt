@@ -7,7 +7,7 @@ use Rattle.mine_model.specs.Generation.{MayWrite, WritesAt}
 use Rattle.mine_model.specs.Ranks.{HasRank, AreRanked}
 use Rattle.mine_model.proofs.RankedLemmas.{ranked-none, ranked-first}
 use Rattle.fst_compile.specs.declared.edge.Edge.{Edge}
-use Rattle.fst_simulate.proofs.PathLemmas.{writes-cases}
+use Rattle.sequence_grids.proofs.PathLemmas.{writes-cases}
 use Rattle.candidate_gen.specs.Paths.{Space, Writes, IsRead, WritesBehind}
 
 module _ (space : Space) where

@@ -6,9 +6,9 @@ use Rattle.mine_model.specs.Ranks.{Ranking, AreRanked}
 use Rattle.mine_model.proofs.RankLemmas.{HasRank-most}
 use Rattle.mine_model.proofs.ListLemmas.{Contains-first, Contains-none}
 use Rattle.fst_compile.specs.Transducer.{IsPath}
-use Rattle.fst_simulate.specs.declared.bound.Bound.{Bound}
-use Rattle.fst_simulate.specs.Problems.{Problem}
-use Rattle.fst_simulate.specs.Grids.{IsAllowed, HoldsNeeded, Completes, Ends, WritesRank, GridList, items_at, rest_at}
+use Rattle.mining_job.specs.declared.bound.Bound.{Bound}
+use Rattle.mining_job.specs.Problems.{Problem}
+use Rattle.sequence_grids.specs.Grids.{IsAllowed, HoldsNeeded, Completes, Ends, WritesRank, GridList, items_at, rest_at}
 use Rattle.candidate_gen.specs.Paths.{Space, Writes}
 use Rattle.candidate_gen.specs.Views.{IsGridOf, WritesMore, WritesAs}
 

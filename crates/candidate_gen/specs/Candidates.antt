@@ -6,7 +6,7 @@ use Rattle.std.specs.declared.cmp.Ordering.TheVariants.{Less}
 use Rattle.mine_model.specs.declared.item.Item.{Item}
 use Rattle.mine_model.specs.Candidates.{IsCandidate}
 use Rattle.mine_model.specs.Ranks.{AreRanked}
-use Rattle.fst_simulate.specs.Problems.{Problem, data_of, items_of}
+use Rattle.mining_job.specs.Problems.{Problem, data_of, items_of}
 
 -- a candidate of the sequence with this number
 abbrev pub IsCandidateAt : Problem → ℕ → List Item → Type 0

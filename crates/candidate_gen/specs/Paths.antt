@@ -6,7 +6,7 @@ use Rattle.mine_model.specs.Generation.{Matches, MayWrite}
 use Rattle.mine_model.specs.Ranks.{HasRank, AreRanked}
 use Rattle.fst_compile.specs.declared.edge.Edge.{Edge}
 use Rattle.fst_compile.specs.Transducer.{IsPath, edges_from}
-use Rattle.fst_simulate.specs.Problems.{Problem}
+use Rattle.mining_job.specs.Problems.{Problem}
 
 -- what a walk goes over
 pub record Space : Type 0 where

@@ -2,7 +2,7 @@
 use Rattle.std.specs.Prelude.{◌≡◌, ℕ, ◌+◌, ◌<◌, ◌≤◌, ◌⊎◌, ◌↔◌, Bool, IsTrue, Some, List, [], ◌∷◌, ◌++◌, length, drop, slice_get, Contains}
 use Rattle.state_bits.specs.Members.{Has}
 use Rattle.mine_model.specs.declared.item.Item.{Item}
-use Rattle.fst_simulate.specs.Grids.{Reads}
+use Rattle.sequence_grids.specs.Grids.{Reads}
 use Rattle.candidate_gen.specs.declared.place.Place.{Place}
 use Rattle.candidate_gen.specs.Paths.{Space, Writes}
 use Rattle.candidate_gen.specs.Places.{FollowsOf, FollowsFound, FollowsLive, IsOf, IsPlace}

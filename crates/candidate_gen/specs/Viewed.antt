@@ -1,8 +1,8 @@
 -- What a view of a sequence holds.
 use Rattle.std.specs.Prelude.{◌≡◌, ℕ, ◌<◌, ◌≤◌, length}
 use Rattle.mine_model.specs.Limits.{most_length}
-use Rattle.fst_simulate.specs.Problems.{IsWhole}
-use Rattle.fst_simulate.specs.Grids.{GridList, items_at}
+use Rattle.mining_job.specs.Problems.{IsWhole}
+use Rattle.sequence_grids.specs.Grids.{GridList, items_at}
 use Rattle.candidate_gen.specs.Views.{IsGridOf}
 
 pub record IsView (grids : GridList) (count : ℕ) : Type 0 where

@@ -3,8 +3,8 @@ use Rattle.std.specs.Prelude.{◌≡◌, ℕ, ◌≤◌, List, [], ◌∷◌, le
 use Rattle.mine_model.specs.declared.item.Item.{Item}
 use Rattle.mine_model.specs.Limits.{most_length}
 use Rattle.mine_model.specs.Ranks.{HasRank}
-use Rattle.fst_simulate.specs.Problems.{Problem}
-use Rattle.fst_simulate.specs.Grids.{GridList, Reads}
+use Rattle.mining_job.specs.Problems.{Problem}
+use Rattle.sequence_grids.specs.Grids.{GridList, Reads}
 use Rattle.candidate_gen.specs.Paths.{Space, Writes}
 
 -- the grids are those of the problem, and any frequent item may be written

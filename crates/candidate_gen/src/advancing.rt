@@ -4,9 +4,9 @@
 ghost use Rattle.std.specs.Prelude.{◌≡◌, ℕ, ◌+◌, ◌*◌, ◌≤◌, ◌<◌, ◌⊎◌, ◌↔◌, List, [], ◌∷◌, ◌++◌, length, map, drop, slice_get, Contains, AllPairs, IsTrue, IfOk, OnOk, IfSome, IfNone, Some};
 ghost use Rattle.state_bits.specs.Members.{Has};
 ghost use Rattle.mine_model.specs.declared.item.Item.{Item};
-ghost use Rattle.fst_simulate.specs.Grids.{Reads};
+ghost use Rattle.sequence_grids.specs.Grids.{Reads};
 ghost use Rattle.candidate_gen.specs.Paths.{Writes};
-ghost use Rattle.fst_simulate.specs.Successors.{AreSuccessors};
+ghost use Rattle.sequence_grids.specs.Successors.{AreSuccessors};
 ghost use Rattle.candidate_gen.specs.Views.{WritesMore, WritesAs, IsSmall};
 ghost use Rattle.candidate_gen.specs.declared.place.Place.{Place};
 ghost use Rattle.candidate_gen.specs.Places.{IsPlace, IsBelow, IsOf, FollowsFound};
@@ -15,8 +15,8 @@ ghost use Rattle.candidate_gen.specs.Walk.{Takes};
 
 use super::place::Place;
 use super::view::View;
-use fst_simulate::neighbours;
 use mine_model::NoMemory;
+use sequence_grids::neighbours;
 use state_bits::StateSet;
 
 /// Takes the topmost place away, where it is one of the prefix at the position, and gives its state.

@@ -4,8 +4,9 @@ ghost use Rattle.candidate_gen.specs.Candidates.{AreCandidateRanks};
 use super::rank_lists::RankLists;
 use super::view::View;
 use super::walk::Walk;
-use fst_simulate::{Bound, Grids, Job, Successors, successors_of};
 use mine_model::NoMemory;
+use mining_job::{Bound, Job};
+use sequence_grids::{Grids, Successors, successors_of};
 use std::alloc::Global;
 use std::marker::Model;
 
@@ -33,7 +34,7 @@ impl<'a> Model for CandidateList<'a> {
 
     ghost view = { λ c. record { problem = c.job.now; listed = c.listed } };
 
-    ghost use Rattle.fst_simulate.specs.Successors.{AreSuccessorsOf};
+    ghost use Rattle.sequence_grids.specs.Successors.{AreSuccessorsOf};
 
     ghost invariant = { λ c. IsGridOf c.job.now c.grids × AreSuccessorsOf c.job.now.machine c.successors };
 }

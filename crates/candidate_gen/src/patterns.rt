@@ -3,9 +3,8 @@ ghost use Rattle.mine_model.specs.Ranks.{AreAllRanked};
 ghost use Rattle.candidate_gen.specs.Candidates.{AreCandidates};
 
 use super::listing::CandidateList;
-use frequency_list::pattern_of;
-use fst_simulate::Job;
-use mine_model::{NoMemory, Pattern};
+use mine_model::{NoMemory, Pattern, pattern_of};
+use mining_job::Job;
 use std::alloc::Global;
 
 /// The candidates of a sequence, rising by their ranks.

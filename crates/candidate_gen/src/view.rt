@@ -1,12 +1,13 @@
 ghost use Rattle.std.specs.Prelude.{◌≡◌, ℕ, ◌≤◌, ◌<◌, ◌↔◌, List, [], ◌∷◌, length, drop, IsTrue, Contains, Some, slice_get};
 ghost use Rattle.mine_model.specs.declared.item.Item.{Item};
-ghost use Rattle.fst_simulate.specs.Problems.{IsWhole, items_of};
-ghost use Rattle.fst_simulate.specs.Grids.{Reads};
+ghost use Rattle.mining_job.specs.Problems.{IsWhole, items_of};
+ghost use Rattle.sequence_grids.specs.Grids.{Reads};
 ghost use Rattle.candidate_gen.specs.Paths.{Writes};
 ghost use Rattle.candidate_gen.specs.Views.{IsGridOf, WritesMore, WritesAs, IsSmall};
 
 use fst_compile::State;
-use fst_simulate::{Grids, Job};
+use mining_job::Job;
+use sequence_grids::Grids;
 use std::marker::Model;
 
 /// One sequence with its grid, as a walk reads it.
@@ -19,7 +20,7 @@ pub(crate) struct View<'a, 'b> {
 impl<'a, 'b> Model for View<'a, 'b> {
     ghost use Rattle.candidate_gen.specs.Paths.{Space};
     ghost use Rattle.candidate_gen.specs.Viewed.{IsView};
-    ghost use Rattle.fst_simulate.specs.Grids.{items_at};
+    ghost use Rattle.sequence_grids.specs.Grids.{items_at};
 
     ghost Value = { Space };
 

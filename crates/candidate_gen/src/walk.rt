@@ -1,6 +1,6 @@
 ghost use Rattle.std.specs.Prelude.{◌≡◌, ◌^◌, ◌≤◌, ◌<◌, true, false, List, [], ◌∷◌, ◌++◌, length, map, Contains, IsTrue, OnOk};
 ghost use Rattle.candidate_gen.specs.declared.place.Place.{Place};
-ghost use Rattle.fst_simulate.specs.Successors.{AreSuccessors, AreSuccessorsOf};
+ghost use Rattle.sequence_grids.specs.Successors.{AreSuccessors, AreSuccessorsOf};
 ghost use Rattle.candidate_gen.specs.Views.{IsSmall};
 ghost use Rattle.candidate_gen.specs.Places.{IsPlace, AreWaiting, OnlyEnds};
 ghost use Rattle.candidate_gen.specs.Walk.{AreWritten, IsListed, Keeps, AreRanksOf, ListsEnds, weight};
@@ -9,8 +9,8 @@ use super::advancing::advance;
 use super::place::Place;
 use super::rank_lists::RankLists;
 use super::view::View;
-use fst_simulate::Successors;
 use mine_model::NoMemory;
+use sequence_grids::Successors;
 use smallvec::SmallVec;
 use state_bits::StateSet;
 use std::alloc::Global;

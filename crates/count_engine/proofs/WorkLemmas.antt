@@ -13,7 +13,7 @@ use Rattle.mine_model.specs.Answer.{Data}
 use Rattle.mine_model.specs.Counted.{HasPairs, told_of, IsTold}
 use Rattle.mine_model.specs.Support.{Sequence}
 use Rattle.mine_model.proofs.ElementLemmas.{get-some, get-held}
-use Rattle.fst_simulate.specs.Problems.{Problem, data_of}
+use Rattle.mining_job.specs.Problems.{Problem, data_of}
 use Rattle.turn_lock.specs.Passes.{made, pass_count}
 use Rattle.count_shards.specs.declared.shards.Shards.{Shards}
 use Rattle.count_shards.specs.Blocks.{home_count, sequences_in, block_count, SumsBy}

@@ -4,7 +4,7 @@ use Rattle.std.specs.declared.alloc.Global.{Global}
 use Rattle.std.specs.declared.vec.Vec.{Vec}
 use Rattle.mine_model.specs.declared.memory.NoMemory.{NoMemory}
 use Rattle.mine_model.specs.Counted.{IsTold}
-use Rattle.fst_simulate.specs.Problems.{Problem}
+use Rattle.mining_job.specs.Problems.{Problem}
 use Rattle.turn_lock.specs.Passes.{made}
 use Rattle.count_shards.specs.declared.shards.Shards.{Shards}
 use Rattle.count_shards.specs.Blocks.{block_count}

@@ -2,7 +2,7 @@
 use Rattle.std.specs.Prelude.{ℕ, ◌%◌, ◌==◌, List, filter, map}
 use Rattle.std.specs.List.{range_with_len}
 use Rattle.mine_model.specs.Counted.{HasPairs}
-use Rattle.fst_simulate.specs.Problems.{Problem, data_of}
+use Rattle.mining_job.specs.Problems.{Problem, data_of}
 use Rattle.count_shards.specs.Blocks.{sequences_in, block_count, SumsBy}
 use Rattle.count_shards.specs.Shard.{entry_of}
 

@@ -4,15 +4,15 @@ ghost use Rattle.mine_model.specs.declared.row.Row.{Row};
 ghost use Rattle.mine_model.specs.Numbered.{AreFrequent};
 ghost use Rattle.mine_model.specs.Counted.{IsCountingWork};
 ghost use Rattle.mine_model.specs.Limits.{most_workers};
-ghost use Rattle.fst_simulate.specs.Problems.{data_of};
+ghost use Rattle.mining_job.specs.Problems.{data_of};
 ghost use Rattle.count_shards.specs.Shards.{AreShardsOf};
 ghost use Rattle.count_engine.specs.Hands.{IsHandOf, IsDone};
 
 use super::hands::{Done, Hand, gathered, hands_of};
 use super::working::work;
 use count_shards::Shards;
-use fst_simulate::Job;
 use mine_model::{Gate, Mined, NoMemory, Work};
+use mining_job::Job;
 use std::alloc::Global;
 use std::sync::Wait;
 use std::thread;

@@ -6,8 +6,8 @@ ghost use Rattle.count_shards.specs.Shards.{AreShardsOf, ArePassesOf};
 ghost use Rattle.count_engine.specs.Shares.{share_of, made_by, HasBlockPairs};
 
 use count_shards::{BlockCounts, Shard, Shards};
-use fst_simulate::Job;
 use mine_model::{Gate, NoMemory};
+use mining_job::Job;
 use std::alloc::Global;
 use std::sync::Wait;
 use turn_lock::Pass;

@@ -8,7 +8,7 @@ use Rattle.mine_model.specs.Labels.{SameLabels}
 use Rattle.mine_model.specs.Support.{Sequence, Counts}
 use Rattle.mine_model.proofs.FrequencyLemmas.{Counts-append}
 use Rattle.mine_model.proofs.OnceLemmas.{one, one-same, one-cases}
-use Rattle.fst_simulate.specs.Problems.{Problem}
+use Rattle.mining_job.specs.Problems.{Problem}
 use Rattle.count_shards.specs.Blocks.{block_size, sequences_in, block_count, HasCandidate, SumsBy, SumsTo}
 use Rattle.count_shards.specs.Shard.{entry_of}
 

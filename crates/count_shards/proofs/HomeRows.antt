@@ -14,7 +14,7 @@ use Rattle.mine_model.specs.Answer.{IsFrequent}
 use Rattle.mine_model.proofs.ListLemmas.{AllByRecursion-weaker, AllPairs-append, Contains-none}
 use Rattle.mine_model.proofs.SupportLemmas.{Counts-unique, Counts-one}
 use Rattle.mine_model.proofs.FrequencyLemmas.{Counts-by, frequencies-known, support-by_candidates, HasFrequency-within}
-use Rattle.fst_simulate.specs.Problems.{Problem, IsWhole, data_of}
+use Rattle.mining_job.specs.Problems.{Problem, IsWhole, data_of}
 use Rattle.pattern_counts.specs.Tally.{Tally, sum_of}
 use Rattle.count_shards.specs.Blocks.{home_count, home_of, HasCandidate}
 use Rattle.count_shards.specs.Rows.{Appends, IsCountedRow, IsRowOf, AreRowsFrom}

@@ -13,7 +13,7 @@ use Rattle.mine_model.specs.Ranks.{AreRanked, AreAllRanked}
 use Rattle.mine_model.specs.Support.{Sequence}
 use Rattle.mine_model.proofs.RankedLemmas.{same_ranks}
 use Rattle.mine_model.proofs.ListLemmas.{Contains-first, Contains-other}
-use Rattle.fst_simulate.specs.Problems.{Problem, IsWhole, data_of, items_of}
+use Rattle.mining_job.specs.Problems.{Problem, IsWhole, data_of, items_of}
 use Rattle.candidate_gen.specs.Candidates.{AreCandidateRanks, AreCandidates, IsEarlier, ComesEarlier}
 use Rattle.candidate_gen.proofs.CandidateLemmas.{patterns-all}
 use Rattle.count_shards.specs.Tallied.{ArePairs}

@@ -6,9 +6,9 @@ use Rattle.std.specs.declared.vec.Vec.{Vec}
 use Rattle.std.proofs.lemmas.Bool.{cases_eq, cases_lt}
 use Rattle.std.proofs.lemmas.Option.{same_Some, slice_get_within, get_or_from_slice_get}
 use Rattle.mine_model.specs.Labels.{SameLabels}
-use Rattle.mine_model.proofs.CoverLemmas.{sum_by-flat_map}
+use Rattle.mine_model.proofs.SumLemmas.{sum_by-flat_map}
 use Rattle.mine_model.proofs.ElementLemmas.{get-some}
-use Rattle.fst_simulate.specs.Problems.{Problem}
+use Rattle.mining_job.specs.Problems.{Problem}
 use Rattle.turn_lock.specs.History.{Made}
 use Rattle.turn_lock.specs.Passes.{IsPassOf, AreAllPasses, number, made, pass_count}
 use Rattle.count_shards.specs.Blocks.{home_count, block_count}

@@ -5,7 +5,7 @@ use Rattle.std.proofs.lemmas.List.{map-append}
 use Rattle.std.proofs.lemmas.List.Sums.{sum_by-cons}
 use Rattle.mine_model.specs.Labels.{SameLabels}
 use Rattle.mine_model.specs.Support.{Counts}
-use Rattle.fst_simulate.specs.Problems.{Problem}
+use Rattle.mining_job.specs.Problems.{Problem}
 use Rattle.pattern_counts.specs.Tally.{Tally, sum_of, AddsAll}
 use Rattle.turn_lock.specs.History.{Made}
 use Rattle.count_shards.specs.Blocks.{Block, block_count, home_of, tally_of, AreCountsOf, HasCandidate, InBlock, SumsTo}

@@ -10,7 +10,7 @@ use Rattle.mine_model.specs.Limits.{most_weight}
 use Rattle.mine_model.specs.Database.{IsWithinLimits, sequence_at}
 use Rattle.mine_model.specs.Support.{Sequence, Counts}
 use Rattle.mine_model.proofs.FrequencyLemmas.{Counts-append, Counts-most}
-use Rattle.fst_simulate.specs.Problems.{Problem}
+use Rattle.mining_job.specs.Problems.{Problem}
 use Rattle.candidate_gen.specs.Candidates.{AreCandidateRanks}
 use Rattle.pattern_counts.specs.Tally.{Tally, sum_of}
 use Rattle.count_shards.specs.Blocks.{block_size, home_of, sequences_in, HasCandidate, tally_of}

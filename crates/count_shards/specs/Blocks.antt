@@ -6,7 +6,7 @@ use Rattle.mine_model.specs.Counted.{HasPairs, IsTold}
 use Rattle.mine_model.specs.Limits.{most_weight}
 use Rattle.mine_model.specs.Ranks.{AreRanked}
 use Rattle.mine_model.specs.Support.{Sequence, Counts}
-use Rattle.fst_simulate.specs.Problems.{Problem, data_of}
+use Rattle.mining_job.specs.Problems.{Problem, data_of}
 use Rattle.pattern_counts.specs.Tally.{Tally, no_lists, sum_of}
 
 -- ---- blocks and homes

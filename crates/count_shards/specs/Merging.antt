@@ -2,7 +2,7 @@
 use Rattle.std.specs.Prelude.{◌≡◌, ℕ, ◌<◌, ◌≤◌, ◌⊎◌, List, [], ◌∷◌, ◌++◌, length, slice_get, Some}
 use Rattle.std.specs.declared.alloc.Global.{Global}
 use Rattle.std.specs.declared.vec.Vec.{Vec}
-use Rattle.fst_simulate.specs.Problems.{Problem}
+use Rattle.mining_job.specs.Problems.{Problem}
 use Rattle.turn_lock.specs.Passes.{AreAllPasses, AreFresh, made, pass_count}
 use Rattle.count_shards.specs.Shard.{entry_of}
 use Rattle.count_shards.specs.Shards.{Lock, ShardPass, PassLists, IsLockOf}

@@ -1,7 +1,7 @@
 -- A shard: the sums of one home over the blocks that were added to it.
 use Rattle.std.specs.Prelude.{◌≡◌, ◌≢◌, ℕ, ◌*◌, ◌<◌, ◌≤◌, List, [], ◌∷◌, map, length}
 use Rattle.mine_model.specs.Limits.{most_weight}
-use Rattle.fst_simulate.specs.Problems.{Problem}
+use Rattle.mining_job.specs.Problems.{Problem}
 use Rattle.turn_lock.specs.History.{Made}
 use Rattle.pattern_counts.specs.Tally.{Tally, sum_of}
 use Rattle.count_shards.specs.Blocks.{block_size, home_count, home_of, SumsTo}

@@ -4,7 +4,7 @@ use Rattle.mine_model.specs.declared.item.Item.{Item}
 use Rattle.mine_model.specs.Counted.{HasPairs, IsTold}
 use Rattle.mine_model.specs.Limits.{most_weight}
 use Rattle.mine_model.specs.Support.{Sequence, Counts}
-use Rattle.fst_simulate.specs.Problems.{Problem, data_of}
+use Rattle.mining_job.specs.Problems.{Problem, data_of}
 use Rattle.pattern_counts.specs.Tally.{Tally, sum_of}
 use Rattle.count_shards.specs.Blocks.{block_size, home_of, tally_of, HasCandidate}
 

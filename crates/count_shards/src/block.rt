@@ -4,8 +4,8 @@ ghost use Rattle.count_shards.specs.Blocks.{block_size, home_count, home_of, seq
 ghost use Rattle.count_shards.specs.Tallied.{sum_at, AddsEach, HasCounted};
 
 use candidate_gen::CandidateList;
-use fst_simulate::Job;
 use mine_model::NoMemory;
+use mining_job::Job;
 use pattern_counts::PatternCounts;
 use std::alloc::Global;
 use std::marker::Model;

@@ -2,8 +2,7 @@ ghost use Rattle.std.specs.Prelude.{◌≡◌, ◌≢◌, ℕ, ◌≤◌, List, 
 ghost use Rattle.pattern_counts.specs.Tally.{sum_of};
 ghost use Rattle.count_shards.specs.Rows.{Appends, IsCountedRow};
 
-use frequency_list::pattern_of;
-use mine_model::{NoMemory, Ranks, Row};
+use mine_model::{NoMemory, Ranks, Row, pattern_of};
 use pattern_counts::PatternCounts;
 use std::alloc::Global;
 

@@ -8,8 +8,8 @@ ghost use Rattle.count_shards.specs.Rows.{Appends, IsRowOf};
 
 use super::block::BlockCounts;
 use super::rows::append_rows;
-use fst_simulate::Job;
 use mine_model::{NoMemory, Row};
+use mining_job::Job;
 use pattern_counts::PatternCounts;
 use std::alloc::Global;
 use std::marker::Model;

@@ -11,9 +11,9 @@ use super::tests::{A, A1, B, Lines, Mined, RUNNING, WORDS, database, expression,
 use super::{BlockCounts, Shard, Shards, count_block};
 use frequency_list::count;
 use fst_compile::compile;
-use fst_simulate::Job;
 use item_names::Names;
 use mine_model::{NoMemory, Row};
+use mining_job::Job;
 use std::alloc::Global;
 use std::sync::Wait;
 use std::test::Fail;

@@ -14,7 +14,7 @@ use Rattle.mine_model.specs.declared.mined.Work.{Work}
 use Rattle.mine_model.specs.Status.{fault_status, status_of}
 use Rattle.mine_model.proofs.ListLemmas.{Contains-first, Contains-other}
 use Rattle.mine_model.proofs.FirstLemmas.{AtMostOne, FirstOf-unique, FirstAmong-unique}
-use Rattle.mine_model.proofs.RefusalLemmas.{ReadsAs-unique, IsExpressionRefusal-unique}
+use Rattle.patex_grammar.proofs.RefusalLemmas.{ReadsAs-unique, IsExpressionRefusal-unique}
 use Rattle.command_line.specs.Words.{Source, read, embed, Command, IsCommand, IsUsage, file_of}
 use Rattle.command_line.proofs.CommandLemmas.{IsCommand-unique, IsUsage-excludes}
 use Rattle.desq_run.specs.Sources.{IsSourceRefusal, IsUnknownIn}

@@ -5,13 +5,14 @@ use Rattle.mine_model.specs.declared.fault.Fault.{Fault}
 use Rattle.mine_model.specs.declared.fault.Fault.TheVariants.{Read, Write, NoMemory}
 use Rattle.mine_model.specs.declared.fault.Which.{Which}
 use Rattle.mine_model.specs.declared.fault.Which.TheVariants.{Hierarchy, Sequences}
-use Rattle.mine_model.specs.declared.sequence_fault.SequenceFault.{SequenceFault}
-use Rattle.mine_model.specs.declared.sequence_fault.SequenceFault.TheVariants as sequences
-use Rattle.mine_model.specs.declared.hierarchy_fault.HierarchyFault.{HierarchyFault}
-use Rattle.mine_model.specs.declared.hierarchy_fault.HierarchyFault.TheVariants as hierarchy
-use Rattle.mine_model.specs.declared.hierarchy_fault.CloseFault.{CloseFault}
-use Rattle.mine_model.specs.declared.hierarchy_fault.CloseFault.TheVariants as close
-use Rattle.mine_model.specs.Faults.{fault_of_sequences, fault_of_hierarchy, fault_of_close}
+use Rattle.sequence_reader.specs.declared.sequence_fault.SequenceFault.{SequenceFault}
+use Rattle.sequence_reader.specs.declared.sequence_fault.SequenceFault.TheVariants as sequences
+use Rattle.item_hierarchy.specs.declared.hierarchy_fault.HierarchyFault.{HierarchyFault}
+use Rattle.item_hierarchy.specs.declared.hierarchy_fault.HierarchyFault.TheVariants as hierarchy
+use Rattle.item_hierarchy.specs.declared.hierarchy_fault.CloseFault.{CloseFault}
+use Rattle.item_hierarchy.specs.declared.hierarchy_fault.CloseFault.TheVariants as close
+use Rattle.sequence_reader.specs.Faults.{fault_of_sequences}
+use Rattle.item_hierarchy.specs.Faults.{fault_of_hierarchy, fault_of_close}
 use Rattle.item_hierarchy.specs.Refusing.{IsReadRefusal}
 use Rattle.mine_model.specs.Refusal.{IsHierarchyRefusal, IsSequencesRefusal}
 use Rattle.mine_model.specs.Status.{fault_status}

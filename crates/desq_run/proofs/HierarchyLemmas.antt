@@ -5,9 +5,9 @@ use Rattle.std.proofs.lemmas.List.{get_or_default}
 use Rattle.std.proofs.lemmas.List.Elements.{All-map, All-contains, All-from_recursion, Contains-get_or}
 use Rattle.mine_model.specs.declared.item.Item.{Item}
 use Rattle.mine_model.specs.declared.fault.Fault.{Fault}
-use Rattle.mine_model.specs.declared.hierarchy_fault.CloseFault.{CloseFault}
-use Rattle.mine_model.specs.declared.hierarchy_fault.CloseFault.TheVariants.{Cycle, TooManyAncestors, NoMemory}
-use Rattle.mine_model.specs.Faults.{fault_of_close}
+use Rattle.item_hierarchy.specs.declared.hierarchy_fault.CloseFault.{CloseFault}
+use Rattle.item_hierarchy.specs.declared.hierarchy_fault.CloseFault.TheVariants.{Cycle, TooManyAncestors, NoMemory}
+use Rattle.item_hierarchy.specs.Faults.{fault_of_close}
 use Rattle.mine_model.specs.Limits.{most_ancestors}
 use Rattle.mine_model.specs.Hierarchy.{Link, PlacedLink, IsAcyclic, links_through, IsCycleLine, HasMoreAncestors}
 use Rattle.mine_model.specs.Ancestry.{Ancestry, item_at}

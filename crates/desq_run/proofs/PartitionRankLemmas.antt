@@ -15,7 +15,7 @@ use Rattle.mine_model.specs.Candidates.{IsFrequentItem}
 use Rattle.mine_model.specs.Names.{name_of}
 use Rattle.mine_model.specs.Growth.{IsAlive, AreFrequentItems}
 use Rattle.mine_model.specs.Ranks.{Ranking, HasRank, AreRanked, frequency_in, AreRanks, AreTiesByName}
-use Rattle.mine_model.specs.SearchTree.{item_of_rank, IsRankedUpTo, IsWithin, IsWithinPivot, label_of, IsAliveLabel}
+use Rattle.mine_model.specs.Pivots.{item_of_rank, IsRankedUpTo, IsWithin, IsWithinPivot, label_of, IsAliveLabel}
 use Rattle.mine_model.proofs.ListLemmas.{AllByRecursion-contained, AllByRecursion-weaker, front_of_both}
 use Rattle.mine_model.proofs.SupportLemmas.{Counts-unique}
 use Rattle.mine_model.proofs.FrequencyLemmas.{HasFrequency-within}
@@ -23,8 +23,8 @@ use Rattle.mine_model.proofs.NumberingLemmas.{map-none}
 use Rattle.mine_model.proofs.RankLemmas.{HasRank-held}
 use Rattle.mine_model.proofs.RankedLemmas.{ranked-first, ranked-same, ranked-all, item_rank, same_ranks}
 use Rattle.mine_model.proofs.AliveLemmas.{IsAlive-weaker, IsAlive-some}
-use Rattle.mine_model.proofs.SearchAnswerLemmas.{ranked-items, frequent-ranks}
-use Rattle.fst_simulate.specs.Problems.{Problem, data_of, IsWhole}
+use Rattle.search_tree.proofs.SearchAnswerLemmas.{ranked-items, frequent-ranks}
+use Rattle.mining_job.specs.Problems.{Problem, data_of, IsWhole}
 use Rattle.search_engine.specs.Partition.{IsPartitionWork as IsRankedWork}
 use Rattle.desq_run.specs.PartitionWork.{RanksBefore, IsPivotOf, IsPartitionWork, IsBytewiseBefore, IsNamedBefore}
 use Rattle.desq_run.proofs.PartitionWorkLemmas.{IsNumberOf-by}

@@ -5,13 +5,13 @@ use Rattle.mine_model.specs.declared.item.Item.{Item}
 use Rattle.mine_model.specs.declared.fault.Fault.{Fault}
 use Rattle.mine_model.specs.Support.{Sequence}
 use Rattle.mine_model.specs.Names.{name_of, AreDistinct, sequence_by, GrowBy}
-use Rattle.mine_model.specs.declared.hierarchy_fault.CloseFault.{CloseFault}
-use Rattle.mine_model.specs.declared.hierarchy_fault.CloseFault.TheVariants as close
+use Rattle.item_hierarchy.specs.declared.hierarchy_fault.CloseFault.{CloseFault}
+use Rattle.item_hierarchy.specs.declared.hierarchy_fault.CloseFault.TheVariants as close
 use Rattle.mine_model.specs.Limits.{most_file_bytes}
 use Rattle.mine_model.specs.Hierarchy.{Link, IsAncestor}
 use Rattle.mine_model.specs.Text.{lines_of}
 use Rattle.mine_model.specs.Ancestry.{Ancestry}
-use Rattle.mine_model.specs.Faults.{fault_of_close}
+use Rattle.item_hierarchy.specs.Faults.{fault_of_close}
 use Rattle.mine_model.specs.Refusal.{IsHierarchyRefusal, IsSequencesRefusal, items_of, sequences_of, names_of, placed_links_of, links_of}
 use Rattle.mine_model.proofs.ListLemmas.{Contains-none, Contains-first}
 use Rattle.item_hierarchy.specs.declared.edges.EdgeRow.{EdgeRow}

@@ -6,7 +6,7 @@ use Rattle.mine_model.specs.Grammar.{Use}
 use Rattle.mine_model.specs.Answer.{NamedRow, IsAnswer}
 use Rattle.mine_model.specs.Refusal.{IsUnknown, links_of, sequences_of}
 use Rattle.mine_model.proofs.AnswerLemmas.{IsAnswer-unique, Rises-unique}
-use Rattle.mine_model.proofs.RefusalLemmas.{ReadsAs-unique}
+use Rattle.patex_grammar.proofs.RefusalLemmas.{ReadsAs-unique}
 use Rattle.gap_front.proofs.AnswerLemmas.{same_answers}
 use Rattle.patex_parser.specs.Parsing.{use_at, IsParsed}
 use Rattle.command_line.specs.Options.{rows}

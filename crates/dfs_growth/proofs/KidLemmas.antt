@@ -9,15 +9,16 @@ use Rattle.mine_model.specs.declared.item.Item.{Item}
 use Rattle.mine_model.specs.Support.{Counts}
 use Rattle.mine_model.specs.Growth.{WeighAtLeast}
 use Rattle.mine_model.specs.Ranks.{HasRank, AreRanked}
-use Rattle.mine_model.specs.SearchTree.{IsRankedUpTo, label_of, IsAliveLabel, AreKids}
+use Rattle.mine_model.specs.Pivots.{IsRankedUpTo, label_of, IsAliveLabel}
+use Rattle.search_tree.specs.SearchTree.{AreKids}
 use Rattle.mine_model.proofs.ListLemmas.{AllByRecursion-contained, Contains-by, Contains-from, Contains-first, Contains-other, AllPairs-head, AllPairs-tail}
 use Rattle.mine_model.proofs.RankedLemmas.{same_ranks}
 use Rattle.mine_model.proofs.FrequencyLemmas.{Counts-by}
 use Rattle.mine_model.proofs.AliveLemmas.{WeighAtLeast-counted, WeighAtLeast-weaker, WeighAtLeast-some}
-use Rattle.fst_simulate.specs.declared.part_seed.PartSeed.{PartSeed}
-use Rattle.fst_simulate.specs.Problems.{Problem, data_of}
-use Rattle.fst_simulate.specs.Grids.{GridList}
-use Rattle.fst_simulate.specs.Parts.{pivot_of, IsComplete}
+use Rattle.mining_job.specs.declared.part_seed.PartSeed.{PartSeed}
+use Rattle.mining_job.specs.Problems.{Problem, data_of}
+use Rattle.sequence_grids.specs.Grids.{GridList}
+use Rattle.mining_job.specs.Parts.{pivot_of, IsComplete}
 use Rattle.snapshot_project.specs.declared.next_rank.NextRank.{NextRank}
 use Rattle.snapshot_project.specs.Extensions.{sequences_of, GrowsBehind, CanFollow, AreNextRanks}
 use Rattle.dfs_growth.specs.Projections.{part_of, IsPartBy}

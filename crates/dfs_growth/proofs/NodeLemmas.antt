@@ -7,9 +7,9 @@ use Rattle.std.proofs.lemmas.Option.{slice_get-get_or}
 use Rattle.mine_model.specs.Ranks.{AreRanked}
 use Rattle.mine_model.proofs.ListLemmas.{Contains-from}
 use Rattle.mine_model.proofs.RankedLemmas.{ranked-bounds}
-use Rattle.fst_simulate.specs.declared.part_seed.PartSeed.{PartSeed}
-use Rattle.fst_simulate.specs.Problems.{Problem}
-use Rattle.fst_simulate.specs.Grids.{GridList}
+use Rattle.mining_job.specs.declared.part_seed.PartSeed.{PartSeed}
+use Rattle.mining_job.specs.Problems.{Problem}
+use Rattle.sequence_grids.specs.Grids.{GridList}
 use Rattle.snapshot_project.specs.declared.next_rank.NextRank.{NextRank}
 use Rattle.snapshot_project.specs.Snapshots.{SnapshotList, AreSnapshots}
 use Rattle.dfs_growth.specs.Nodes.{Prefix, label_at, prefix_at, longer_by}

@@ -13,14 +13,14 @@ use Rattle.mine_model.specs.Numbered.{leaf_of, tree_of}
 use Rattle.mine_model.specs.Generation.{Matches, WritesAt, Generates, IsPatternOf}
 use Rattle.mine_model.specs.Ranks.{HasRank, AreRanked}
 use Rattle.mine_model.specs.Growth.{HasPatternBehind}
-use Rattle.mine_model.specs.SearchTree.{item_of_rank, IsWithinPivot}
+use Rattle.mine_model.specs.Pivots.{item_of_rank, IsWithinPivot}
 use Rattle.mine_model.proofs.ListLemmas.{Contains-cases, Contains-first, Contains-none, Contains-by, Contains-from, Contains-filter, filter-Contains}
 use Rattle.mine_model.proofs.ElementLemmas.{flat-cases, flat-held}
 use Rattle.mine_model.proofs.RankLemmas.{HasRank-most}
 use Rattle.mine_model.proofs.RankedLemmas.{ranked-none, ranked-first, ranked-split, ranked-cut, ranked-append, same_ranks}
 use Rattle.fst_compile.specs.declared.edge.Edge.{Edge}
 use Rattle.fst_compile.specs.Transducer.{edges_from, IsPath}
-use Rattle.fst_simulate.specs.Problems.{Problem, IsWhole, data_of}
+use Rattle.mining_job.specs.Problems.{Problem, IsWhole, data_of}
 use Rattle.dfs_growth.specs.Tree.{matches, may_write, all_ranks, written_by, outputs_by, outputs_from, begin_with, is_some_rank, are_within, grows, generates}
 use Rattle.dfs_growth.proofs.TestLemmas.{matches-Decides, may_write-Decides, any-forth, any-back, range-forth, range-back, begin_with-Decides, within-Decides, within-ranks}
 

@@ -7,13 +7,13 @@ use Rattle.mine_model.specs.Numbered.{tree_of}
 use Rattle.mine_model.specs.Ranks.{AreRanked}
 use Rattle.mine_model.specs.Support.{Counts}
 use Rattle.mine_model.specs.Growth.{WeighAtLeast, HasPatternBehind}
-use Rattle.mine_model.specs.SearchTree.{IsWithin, IsWithinPivot}
+use Rattle.mine_model.specs.Pivots.{IsWithin, IsWithinPivot}
 use Rattle.mine_model.proofs.RankedLemmas.{ranked-same}
 use Rattle.mine_model.proofs.AliveLemmas.{Counts-part, WeighAtLeast-part}
-use Rattle.fst_simulate.specs.declared.part_seed.PartSeed.{PartSeed}
-use Rattle.fst_simulate.specs.Problems.{Problem, data_of, items_of}
-use Rattle.fst_simulate.specs.Grids.{GridList}
-use Rattle.fst_simulate.specs.Parts.{pivot_of, IsComplete}
+use Rattle.mining_job.specs.declared.part_seed.PartSeed.{PartSeed}
+use Rattle.mining_job.specs.Problems.{Problem, data_of, items_of}
+use Rattle.sequence_grids.specs.Grids.{GridList}
+use Rattle.mining_job.specs.Parts.{pivot_of, IsComplete}
 use Rattle.snapshot_project.specs.Snapshots.{bound_of}
 use Rattle.snapshot_project.specs.Extensions.{sequences_of, GrowsBehind, GeneratesWithin}
 use Rattle.dfs_growth.specs.Projections.{part_of, IsPartBy}

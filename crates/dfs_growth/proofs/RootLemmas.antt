@@ -11,14 +11,15 @@ use Rattle.mine_model.specs.Answer.{Data}
 use Rattle.mine_model.specs.Database.{sequence_at}
 use Rattle.mine_model.specs.Support.{Sequence, Counts}
 use Rattle.mine_model.specs.Growth.{HasPatternBehind, IsAlive}
-use Rattle.mine_model.specs.SearchTree.{IsWithinPivot, label_of, IsAliveLabel, AreRootsOf}
+use Rattle.mine_model.specs.Pivots.{IsWithinPivot, label_of, IsAliveLabel}
+use Rattle.search_tree.specs.SearchTree.{AreRootsOf}
 use Rattle.mine_model.proofs.ListLemmas.{Contains-first, Contains-other, Contains-none}
 use Rattle.mine_model.proofs.RankedLemmas.{ranked-same}
 use Rattle.mine_model.proofs.AliveLemmas.{IsAlive-counted}
-use Rattle.fst_simulate.specs.declared.part_seed.PartSeed.{PartSeed}
-use Rattle.fst_simulate.specs.Problems.{Problem, IsWhole, data_of, items_of}
-use Rattle.fst_simulate.specs.Grids.{Completes}
-use Rattle.fst_simulate.specs.Parts.{pivot_of, IsComplete}
+use Rattle.mining_job.specs.declared.part_seed.PartSeed.{PartSeed}
+use Rattle.mining_job.specs.Problems.{Problem, IsWhole, data_of, items_of}
+use Rattle.sequence_grids.specs.Grids.{Completes}
+use Rattle.mining_job.specs.Parts.{pivot_of, IsComplete}
 use Rattle.snapshot_project.specs.Extensions.{sequences_of}
 use Rattle.dfs_growth.specs.Nodes.{Prefix, label_at, prefix_at}
 use Rattle.dfs_growth.specs.Projections.{part_of}

@@ -6,15 +6,15 @@ use Rattle.mine_model.specs.Generation.{IsPatternOf}
 use Rattle.mine_model.specs.Numbered.{tree_of}
 use Rattle.mine_model.specs.Support.{Counts}
 use Rattle.mine_model.specs.Ranks.{AreRanked}
-use Rattle.mine_model.specs.SearchTree.{IsRowAt}
+use Rattle.search_tree.specs.SearchTree.{IsRowAt}
 use Rattle.mine_model.proofs.RankedLemmas.{ranked-same}
 use Rattle.mine_model.proofs.SupportLemmas.{Counts-unique}
 use Rattle.mine_model.proofs.FrequencyLemmas.{Counts-by}
 use Rattle.mine_model.proofs.AliveLemmas.{WeighAtLeast-counted, WeighAtLeast-some}
-use Rattle.fst_simulate.specs.declared.part_seed.PartSeed.{PartSeed}
-use Rattle.fst_simulate.specs.Problems.{Problem, data_of}
-use Rattle.fst_simulate.specs.Grids.{GridList}
-use Rattle.fst_simulate.specs.Parts.{IsComplete}
+use Rattle.mining_job.specs.declared.part_seed.PartSeed.{PartSeed}
+use Rattle.mining_job.specs.Problems.{Problem, data_of}
+use Rattle.sequence_grids.specs.Grids.{GridList}
+use Rattle.mining_job.specs.Parts.{IsComplete}
 use Rattle.snapshot_project.specs.Extensions.{sequences_of, GeneratesWithin}
 use Rattle.dfs_growth.specs.Projections.{part_of, IsPartBy}
 use Rattle.dfs_growth.proofs.PartLemmas.{for_part, Within, part-counts, generates-within, within-pivot}

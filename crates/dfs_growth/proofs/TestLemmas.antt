@@ -11,12 +11,12 @@ use Rattle.mine_model.specs.Hierarchy.{Link, IsWalk, IsAncestor}
 use Rattle.mine_model.specs.Expression.{Leaf, under, exact, climb, forced, any, any_climb, not_under, not_exact}
 use Rattle.mine_model.specs.Generation.{Matches, MayWrite}
 use Rattle.mine_model.specs.Ranks.{HasRank, AreRanked}
-use Rattle.mine_model.specs.SearchTree.{IsRankedUpTo, HoldsRank, IsWithinPivot}
+use Rattle.mine_model.specs.Pivots.{IsRankedUpTo, HoldsRank, IsWithinPivot}
 use Rattle.mine_model.proofs.ListLemmas.{Contains-cases, Contains-first, Contains-other, Contains-none}
 use Rattle.mine_model.proofs.WalkLemmas.{IsAncestor-chain, IsAncestor-more}
 use Rattle.mine_model.proofs.ApartLemmas.{item_eq-Decides}
 use Rattle.mine_model.proofs.RankedLemmas.{item_rank}
-use Rattle.mine_model.proofs.SearchAnswerLemmas.{ranked-within}
+use Rattle.search_tree.proofs.SearchAnswerLemmas.{ranked-within}
 use Rattle.dfs_growth.specs.Tree.{is_above, matches, may_write, begin_with, are_within}
 
 -- Links

@@ -11,13 +11,14 @@ use Rattle.mine_model.specs.Generation.{IsPatternOf}
 use Rattle.mine_model.specs.Support.{Sequence, Counts}
 use Rattle.mine_model.specs.Ranks.{AreRanked}
 use Rattle.mine_model.specs.Growth.{HasPatternBehind}
-use Rattle.mine_model.specs.SearchTree.{item_of_rank, IsWithinPivot, label_of, IsAliveLabel, AreKids, IsRowAt, IsRowOf, AreRootsOf, IsSearchTree}
+use Rattle.mine_model.specs.Pivots.{item_of_rank, IsWithinPivot, label_of, IsAliveLabel}
+use Rattle.search_tree.specs.SearchTree.{AreKids, IsRowAt, IsRowOf, AreRootsOf, IsSearchTree}
 use Rattle.mine_model.proofs.ListLemmas.{Contains-filter, filter-Contains}
 use Rattle.mine_model.proofs.SupportLemmas.{Counts-unique}
 use Rattle.mine_model.proofs.RankedLemmas.{ranked-same, ranked-bounds}
 use Rattle.mine_model.proofs.AliveLemmas.{IsAlive-counted}
-use Rattle.mine_model.proofs.SearchAnswerLemmas.{ranked-items}
-use Rattle.fst_simulate.specs.Problems.{Problem, IsWhole, data_of}
+use Rattle.search_tree.proofs.SearchAnswerLemmas.{ranked-items}
+use Rattle.mining_job.specs.Problems.{Problem, IsWhole, data_of}
 use Rattle.dfs_growth.specs.Tree.{all_ranks, are_within, grows, generates, weight_of, support_of, is_alive, roots_by, kids_by, row_by, search_tree}
 use Rattle.dfs_growth.proofs.TestLemmas.{range-back, range-rises, within-Decides}
 use Rattle.dfs_growth.proofs.OutputLemmas.{grows-forth, grows-back, generates-forth, generates-back}

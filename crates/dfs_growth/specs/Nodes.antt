@@ -1,8 +1,9 @@
 -- Nodes of the search tree.
 use Rattle.std.specs.Prelude.{ℕ, Option, List, [], ◌∷◌, ◌++◌}
 use Rattle.mine_model.specs.declared.row.Row.{Row}
-use Rattle.mine_model.specs.SearchTree.{label_of, IsRowOf, AreKids}
-use Rattle.fst_simulate.specs.Problems.{Problem, data_of}
+use Rattle.mine_model.specs.Pivots.{label_of}
+use Rattle.search_tree.specs.SearchTree.{IsRowOf, AreKids}
+use Rattle.mining_job.specs.Problems.{Problem, data_of}
 
 -- what a node says: the problem, its pivot or 0, and the ranks of its prefix
 pub record Prefix : Type 0 where

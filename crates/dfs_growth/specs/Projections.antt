@@ -2,10 +2,10 @@
 -- article.
 use Rattle.std.specs.Prelude.{◌≡◌, ℕ, ◌≤◌, List, [], length}
 use Rattle.std.specs.Arc.{arc_value}
-use Rattle.fst_simulate.specs.declared.part_seed.PartSeed.{PartSeed}
-use Rattle.fst_simulate.specs.Problems.{Problem}
-use Rattle.fst_simulate.specs.Grids.{GridList}
-use Rattle.fst_simulate.specs.Parts.{pivot_of, IsComplete}
+use Rattle.mining_job.specs.declared.part_seed.PartSeed.{PartSeed}
+use Rattle.mining_job.specs.Problems.{Problem}
+use Rattle.sequence_grids.specs.Grids.{GridList}
+use Rattle.mining_job.specs.Parts.{pivot_of, IsComplete}
 use Rattle.snapshot_project.specs.Snapshots.{SnapshotList, AreSnapshots, bound_of}
 use Rattle.dfs_growth.specs.declared.state.State.{State}
 use Rattle.dfs_growth.specs.declared.state.State.TheVariants.{Root, Projected}

@@ -10,10 +10,11 @@ use Rattle.mine_model.specs.Hierarchy.{Link}
 use Rattle.mine_model.specs.Expression.{Leaf, under, exact, climb, forced, any_climb, not_under, not_exact}
 use Rattle.mine_model.specs.Numbered.{leaf_of}
 use Rattle.mine_model.specs.Support.{Sequence}
-use Rattle.mine_model.specs.SearchTree.{item_of_rank, label_of, SearchTree}
+use Rattle.mine_model.specs.Pivots.{item_of_rank, label_of}
+use Rattle.search_tree.specs.SearchTree.{SearchTree}
 use Rattle.fst_compile.specs.declared.edge.Edge.{Edge}
 use Rattle.fst_compile.specs.Transducer.{edges_from}
-use Rattle.fst_simulate.specs.Problems.{Problem}
+use Rattle.mining_job.specs.Problems.{Problem}
 
 -- tests of what is said of items
 

@@ -2,8 +2,8 @@
 
 ghost use Rattle.std.specs.Prelude.{◌≡◌, ℕ, ◌≤◌, ◌<◌, Some, [], ◌∷◌, ◌++◌, map, length, slice_get, All, AllPairs, IfOk};
 ghost use Rattle.std.specs.Arc.{arc_value};
-ghost use Rattle.mine_model.specs.SearchTree.{IsRowOf, AreKids};
-ghost use Rattle.fst_simulate.specs.Problems.{data_of};
+ghost use Rattle.search_tree.specs.SearchTree.{IsRowOf, AreKids};
+ghost use Rattle.mining_job.specs.Problems.{data_of};
 ghost use Rattle.snapshot_project.specs.declared.next_rank.NextRank.{NextRank as Next};
 ghost use Rattle.snapshot_project.specs.Snapshots.{SnapshotList};
 ghost use Rattle.dfs_growth.specs.Nodes.{Prefix, HasRow, HasKids, label_at, prefix_at, longer_by};
@@ -11,9 +11,9 @@ ghost use Rattle.dfs_growth.specs.Projections.{IsProjection};
 
 use super::node::Node;
 use super::state::State;
-use frequency_list::pattern_of;
-use fst_simulate::Job;
-use mine_model::{Grown, Label, NoMemory, Row};
+use mine_model::{NoMemory, Row, pattern_of};
+use mining_job::Job;
+use search_tree::{Grown, Label};
 use snapshot_project::{NextRank, Part, Room, Snapshots, advance_all, next_ranks, start, support};
 use std::alloc::Global;
 use std::sync::Arc;

@@ -1,5 +1,5 @@
 use super::state::State;
-use fst_simulate::Job;
+use mining_job::Job;
 use node_pool::Task;
 use std::marker::Model;
 

@@ -3,18 +3,19 @@
 ghost use Rattle.std.specs.Prelude.{◌≡◌, ℕ, ◌≤◌, ◌<◌, ◌↔◌, false, None, [], ◌∷◌, map, length, sum_by, All, AllPairs, Contains, IsTrue, IfOk};
 ghost use Rattle.std.specs.List.{AllByRecursion};
 ghost use Rattle.mine_model.specs.Database.{sequence_at};
-ghost use Rattle.mine_model.specs.SearchTree.{AreRootsOf};
-ghost use Rattle.fst_simulate.specs.declared.part_seed.PartSeed.{PartSeed as Seed};
-ghost use Rattle.fst_simulate.specs.Problems.{data_of, items_of};
-ghost use Rattle.fst_simulate.specs.Grids.{Completes};
-ghost use Rattle.fst_simulate.specs.Parts.{pivot_of, IsComplete};
+ghost use Rattle.search_tree.specs.SearchTree.{AreRootsOf};
+ghost use Rattle.mining_job.specs.declared.part_seed.PartSeed.{PartSeed as Seed};
+ghost use Rattle.mining_job.specs.Problems.{data_of, items_of};
+ghost use Rattle.sequence_grids.specs.Grids.{Completes};
+ghost use Rattle.mining_job.specs.Parts.{pivot_of, IsComplete};
 ghost use Rattle.dfs_growth.specs.Nodes.{Prefix, label_at, prefix_at};
 
 use super::node::Node;
 use super::state::State;
 use fst_compile::State as Place;
-use fst_simulate::{Bound, Grids, Job, PartSeed};
 use mine_model::NoMemory;
+use mining_job::{Bound, Job, PartSeed};
+use sequence_grids::Grids;
 use std::alloc::Global;
 
 /// The sequences that have a pattern of frequent items.

@@ -1,4 +1,4 @@
-use fst_simulate::PartSeed;
+use mining_job::PartSeed;
 use snapshot_project::{Part, Snapshots};
 use std::sync::Arc;
 

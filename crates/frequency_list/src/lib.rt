@@ -5,14 +5,12 @@ ghost use Rattle.std.specs.Prelude.{◌≡◌, ◌≤◌, ◌<◌, length, IfOk}
 ghost use Rattle.std.specs.List.{AllByRecursion};
 ghost use Rattle.mine_model.specs.Ranks.{AreRanks, AreTiesByName};
 
-mod patterns;
 mod pieces;
 mod ranking;
 mod tally;
 
 use item_names::Names;
 use mine_model::{Db, Hierarchy, NoMemory, Ranks};
-pub use patterns::pattern_of;
 use pieces::frequencies;
 use ranking::ranked;
 use std::alloc::Global;

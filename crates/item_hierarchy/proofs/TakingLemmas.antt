@@ -8,16 +8,16 @@ use Rattle.mine_model.specs.declared.item.Item.{Item}
 use Rattle.mine_model.specs.declared.fault.Fault.{Fault}
 use Rattle.mine_model.specs.declared.fault.Fault.TheVariants as fault
 use Rattle.mine_model.specs.declared.fault.Which.TheVariants.{Hierarchy}
-use Rattle.mine_model.specs.declared.hierarchy_fault.HierarchyFault.{HierarchyFault}
-use Rattle.mine_model.specs.declared.hierarchy_fault.HierarchyFault.TheVariants.{ReadFault, TooLarge, BadByte, NameTooLong, TooManyItems, NoMemory}
-use Rattle.mine_model.specs.Faults.{fault_of_hierarchy}
+use Rattle.item_hierarchy.specs.declared.hierarchy_fault.HierarchyFault.{HierarchyFault}
+use Rattle.item_hierarchy.specs.declared.hierarchy_fault.HierarchyFault.TheVariants.{ReadFault, TooLarge, BadByte, NameTooLong, TooManyItems, NoMemory}
+use Rattle.item_hierarchy.specs.Faults.{fault_of_hierarchy}
 use Rattle.mine_model.specs.First.{FirstAmong}
 use Rattle.mine_model.specs.Hierarchy.{PlacedLink}
 use Rattle.mine_model.specs.Limits.{most_file_bytes, most_items}
 use Rattle.mine_model.specs.Text.{lines_of, fields_of, bad_byte, long_name, IsSoundLine}
 use Rattle.mine_model.specs.Names.{name_of, HasName, link_by, GrowBy}
 use Rattle.mine_model.specs.Refusal.{HasMoreNames, names_of, links_of_line, links_from}
-use Rattle.mine_model.proofs.RefusalLemmas.{no_text_fault}
+use Rattle.mine_model.proofs.TextLemmas.{no_text_fault}
 use Rattle.mine_model.proofs.NameLemmas.{GrowBy-none, GrowBy-more, no_more_names, name_of-grown, HasName-grown}
 use Rattle.item_names.proofs.Growing.{HasMoreNames-grown}
 use Rattle.text_ports.specs.Lines.{WasGiven, TookAll, StoppedAt, Refused}

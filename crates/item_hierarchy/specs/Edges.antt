@@ -1,8 +1,8 @@
 -- Rows of a hierarchy file by the numbers of names, and why they make no hierarchy.
 use Rattle.std.specs.Prelude.{◌≡◌, ◌↔◌, ℕ, ◌<◌, List, map, All}
 use Rattle.mine_model.specs.declared.item.Item.{Item}
-use Rattle.mine_model.specs.declared.hierarchy_fault.CloseFault.{CloseFault}
-use Rattle.mine_model.specs.declared.hierarchy_fault.CloseFault.TheVariants.{Cycle, TooManyAncestors, NoMemory}
+use Rattle.item_hierarchy.specs.declared.hierarchy_fault.CloseFault.{CloseFault}
+use Rattle.item_hierarchy.specs.declared.hierarchy_fault.CloseFault.TheVariants.{Cycle, TooManyAncestors, NoMemory}
 use Rattle.mine_model.specs.Limits.{most_ancestors}
 use Rattle.mine_model.specs.Hierarchy.{Link, PlacedLink, IsAncestor, IsAcyclic, IsCycleLine, HasMoreAncestors}
 use Rattle.mine_model.specs.Ancestry.{Ancestry}

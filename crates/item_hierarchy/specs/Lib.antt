@@ -6,3 +6,4 @@ pub mod ByChild
 pub mod Walking
 pub mod Gathering
 pub mod Taking
+pub mod Faults

@@ -1,8 +1,8 @@
 -- How a line becomes rows, and why it is refused.
 use Rattle.std.specs.Prelude.{◌≡◌, ℕ, ◌≤◌, List, [], ◌∷◌, ◌++◌, map, length}
 use Rattle.mine_model.specs.declared.item.Item.{Item}
-use Rattle.mine_model.specs.declared.hierarchy_fault.HierarchyFault.{HierarchyFault}
-use Rattle.mine_model.specs.declared.hierarchy_fault.HierarchyFault.TheVariants.{ReadFault, TooLarge, BadByte, NameTooLong, TooManyItems, NoMemory}
+use Rattle.item_hierarchy.specs.declared.hierarchy_fault.HierarchyFault.{HierarchyFault}
+use Rattle.item_hierarchy.specs.declared.hierarchy_fault.HierarchyFault.TheVariants.{ReadFault, TooLarge, BadByte, NameTooLong, TooManyItems, NoMemory}
 use Rattle.mine_model.specs.Limits.{most_items}
 use Rattle.mine_model.specs.Text.{fields_of, IsSoundLine}
 use Rattle.mine_model.specs.Names.{GrowBy}

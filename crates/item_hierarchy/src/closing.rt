@@ -11,9 +11,10 @@ ghost use Rattle.item_hierarchy.specs.Gathering.{list_in, IsPart, AreFew};
 use super::ancestors::{Part, ancestors_of};
 use super::by_child::by_child;
 use super::edges::{EdgeRow, Edges};
+use super::hierarchy_fault::CloseFault;
 use super::walk::parents_first;
 use item_names::Names;
-use mine_model::{CloseFault, Hierarchy, Item, NoMemory};
+use mine_model::{Hierarchy, Item, NoMemory};
 use std::alloc::Global;
 
 /// The hierarchy that the rows say. `names` holds the names of the items.

@@ -5,12 +5,14 @@ mod ancestors;
 mod by_child;
 mod closing;
 mod edges;
+mod hierarchy_fault;
 mod reading;
 mod walk;
 
 pub use ancestors::MOST_ANCESTORS;
 pub use closing::close;
 pub use edges::{EdgeRow, Edges};
+pub use hierarchy_fault::{CloseFault, HierarchyFault};
 pub use reading::read;
 
 #[cfg(test)]

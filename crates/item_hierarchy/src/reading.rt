@@ -1,7 +1,7 @@
 ghost use Rattle.std.specs.Prelude.{◌≡◌, ◌≢◌, ℕ, ◌≤◌, List, [], ◌++◌, map, Err, length, IsTrue, IfOk, OnOk, IfSome};
 ghost use Rattle.mine_model.specs.declared.fault.Fault.{Fault};
 ghost use Rattle.mine_model.specs.Limits.{most_items};
-ghost use Rattle.mine_model.specs.Faults.{fault_of_hierarchy};
+ghost use Rattle.item_hierarchy.specs.Faults.{fault_of_hierarchy};
 ghost use Rattle.mine_model.specs.Names.{GrowBy};
 ghost use Rattle.mine_model.specs.Refusal.{names_of, placed_links_of};
 ghost use Rattle.mine_model.specs.Text.{lines_of};
@@ -12,8 +12,9 @@ ghost use Rattle.item_hierarchy.specs.Refusing.{IsReadRefusal};
 ghost use Rattle.item_hierarchy.specs.Taking.{TookLine, RefusedLine, IsTaken, rows_of_line};
 
 use super::edges::{EdgeRow, Edges};
-use item_names::{MOST_NAMES, Names};
-use mine_model::{HierarchyFault, Item, NamesFault, NoMemory};
+use super::hierarchy_fault::HierarchyFault;
+use item_names::{MOST_NAMES, Names, NamesFault};
+use mine_model::{Item, NoMemory};
 use std::alloc::Global;
 use std::mem;
 use text_ports::{Files, LineVisitor, Span, TextFault, read_lines};

@@ -8,10 +8,11 @@ ghost use Rattle.text_ports.specs.Lines.{IsWithin};
 ghost use Rattle.item_names.specs.Fields.{texts_at, AreItemsOf};
 ghost use Rattle.item_names.specs.Names.{IsInterned};
 
+use super::names_fault::NamesFault;
 use crate::keys::key_within;
 use crate::table::at_home;
 use crate::{MOST_NAMES, Names};
-use mine_model::{Item, NamesFault};
+use mine_model::Item;
 use text_ports::Span;
 
 impl Names {

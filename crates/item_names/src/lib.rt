@@ -3,6 +3,7 @@
 
 mod fields;
 mod keys;
+mod names_fault;
 mod table;
 mod texts;
 
@@ -13,7 +14,8 @@ ghost use Rattle.item_names.specs.Names.{IsInterned};
 ghost use Rattle.item_names.specs.Table.{key_of};
 
 use keys::{Key, key_of};
-use mine_model::{Item, NamesFault, NoMemory};
+use mine_model::{Item, NoMemory};
+pub use names_fault::NamesFault;
 use std::alloc::Global;
 use std::marker::Model;
 use table::{Slot, find, make_room, place};

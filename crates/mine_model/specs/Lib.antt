@@ -23,11 +23,4 @@ pub mod Ancestry
 pub mod Labels
 pub mod Database
 pub mod Ranks
-pub mod SearchTree
-pub mod Cover
-pub mod Faults
-pub mod Slots
--- what the proofs keep
-pub mod Machine
-pub mod Holding
-pub mod Bounds
+pub mod Pivots

@@ -36,27 +36,3 @@ pub fn at_most_one_search_work()
     ensures { (data_of_run : Data (List ℕ)) (first second : Work)
         → IsSearchWork data_of_run first → IsSearchWork data_of_run second → first ≡ second }
 {}
-
-/// Tokens read as at most one tree.
-pub fn at_most_one_tree()
-    ensures { (part : Part) (tokens : List Placed) (first second : Tree Use)
-        → Reads part tokens first → Reads part tokens second → first ≡ second }
-{}
-
-/// A text is at most one list of tokens.
-pub fn at_most_one_list_of_tokens()
-    ensures { (text : List ℕ) (first second : List Placed)
-        → AreTokens text first → AreTokens text second → first ≡ second }
-{}
-
-/// A text reads as at most one tree.
-pub fn at_most_one_reading()
-    ensures { (text : List ℕ) (first second : Tree Use)
-        → ReadsAs text first → ReadsAs text second → first ≡ second }
-{}
-
-/// An expression has at most one first refusal.
-pub fn at_most_one_expression_refusal()
-    ensures { (text : List ℕ) (first second : Fault)
-        → IsExpressionRefusal text first → IsExpressionRefusal text second → first ≡ second }
-{}

@@ -14,7 +14,7 @@ use Rattle.node_pool.specs.Ways.{AreRights}
 use Rattle.node_pool.specs.Opening.{Owner}
 use Rattle.node_pool.specs.Closing.{given_weight, got_weight, stolen_weight, all_stolen_weight, HaveParts, AreWays}
 use Rattle.node_pool.specs.Pool.{seat_ground, given, got, IsWholePool}
-use Rattle.mine_model.proofs.CoverLemmas.{sum_by-flat_map}
+use Rattle.mine_model.proofs.SumLemmas.{sum_by-flat_map}
 use Rattle.node_pool.proofs.Lists.{get_map, same_lists}
 use Rattle.node_pool.proofs.Kept.{kept_below, first_ground}
 use Rattle.node_pool.proofs.Steps.{sum_by_map}

@@ -1,1 +1,2 @@
+mod SlotLemmas
 pub mod TableLemmas

@@ -4,8 +4,8 @@ use Rattle.std.specs.List.{Contains}
 use Rattle.std.proofs.lemmas.Bool.{cases_eq, cases_lt}
 use Rattle.std.proofs.lemmas.List.{length-map, length_push, get_or-map, get_or_default, get_or_push, get_or_append_left, get_or_past, get_or-replicate, length-replicate}
 use Rattle.std.proofs.lemmas.List.Sums.{sum_by-set, sum_by-cons}
-use Rattle.mine_model.specs.Slots.{IsMet}
-use Rattle.mine_model.proofs.SlotLemmas.{met_either, weigh, all_taken, stays_taken}
+use Rattle.open_addressing.specs.Slots.{IsMet}
+use Rattle.open_addressing.proofs.SlotLemmas.{met_either, weigh, all_taken, stays_taken}
 use Rattle.open_addressing.specs.Table.{Layout, home_of, key_at, held_at, IsSlot, IsReached, IsPlace, IsTable}
 use Rattle.open_addressing.specs.Searching.{IsOther, AreOthers, IsFirstFree}
 

@@ -1,2 +1,3 @@
 pub mod Table
 pub mod Searching
+pub mod Slots

@@ -2,7 +2,7 @@
 -- up to a free one.
 use Rattle.std.specs.Prelude.{◌≡◌, ℕ, ◌+◌, ◌-◌, ◌<◌, ◌≤◌, min, List, length, slice_index_or, bit_and}
 use Rattle.std.specs.List.{sum_by}
-use Rattle.mine_model.specs.Slots.{IsMet}
+use Rattle.open_addressing.specs.Slots.{IsMet}
 
 -- where a search for a key with this hash begins, among so many slots
 unfoldable pub home_of : ℕ → ℕ → ℕ

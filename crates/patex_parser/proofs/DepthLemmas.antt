@@ -11,10 +11,10 @@ use Rattle.mine_model.specs.Tokens.{Token, name, sign, repeat, open_repeat, Plac
 use Rattle.mine_model.specs.Grammar.{Use, IsPostfix}
 use Rattle.mine_model.specs.Expression.{Tree}
 use Rattle.mine_model.specs.Refusal.{IsOpening, IsClosing, IsPostfixSign, AreOpen, none, one_more, one_less, as_many, IsTooDeepAfter}
-use Rattle.mine_model.specs.Machine as machine
-use Rattle.mine_model.specs.Machine.{Is, AreMarks, Last, Frame, frame, State, state, begun, finished, tree_of_last, with_last, with_name, with_caret, with_equals, extended, with_bar, opened, shut, repeating, nothing, excluding, extendable, closed, next, run, initial}
-use Rattle.mine_model.specs.Holding.{Reaches}
-use Rattle.mine_model.proofs.HoldingLemmas.{run-none}
+use Rattle.patex_grammar.specs.Machine as machine
+use Rattle.patex_grammar.specs.Machine.{Is, AreMarks, Last, Frame, frame, State, state, begun, finished, tree_of_last, with_last, with_name, with_caret, with_equals, extended, with_bar, opened, shut, repeating, nothing, excluding, extendable, closed, next, run, initial}
+use Rattle.patex_grammar.specs.Holding.{Reaches}
+use Rattle.patex_grammar.proofs.HoldingLemmas.{run-none}
 use Rattle.patex_parser.specs.declared.token.Mark.{Mark}
 use Rattle.patex_parser.specs.declared.token.Mark.TheVariants.{Name, Caret, Equals, Dot, Bang, Bar, Opening, Closing, Postfix}
 use Rattle.patex_parser.specs.declared.token.Kind.TheVariants.{Mark as AMark}

@@ -5,8 +5,8 @@ use Rattle.std.proofs.lemmas.Bool.Decides.{nat_tests}
 use Rattle.std.proofs.lemmas.List.{take_all, take_more, drop_more, drop_all, append_assoc, append-nil, length-take-le}
 use Rattle.mine_model.specs.Bytes.{quote, open_brace, close_brace}
 use Rattle.mine_model.specs.Tokens.{Token, name, sign, repeat, open_repeat, Each, BeginsOtherwise, Spells, BeginsToken, doubled, is_quote, is_bare_byte, is_sign, is_closing_brace}
-use Rattle.mine_model.proofs.BoundLemmas.{each-map}
-use Rattle.mine_model.proofs.TokenLemmas.{Ends, Kind, bare, quoted, signed, braced, IsKind, BeginsKind, kind-of, doubled-cases, never-quote, quote-ends, byte-false}
+use Rattle.patex_grammar.proofs.BoundLemmas.{each-map}
+use Rattle.patex_grammar.proofs.TokenLemmas.{Ends, Kind, bare, quoted, signed, braced, IsKind, BeginsKind, kind-of, doubled-cases, never-quote, quote-ends, byte-false}
 use Rattle.patex_parser.specs.declared.bytes.Class.TheVariants.{Bare, Inner}
 use Rattle.patex_parser.specs.declared.lexeme.Lexeme.TheVariants.{Name, Other}
 use Rattle.patex_parser.specs.declared.token.Kind.{Kind as ReadKind}

@@ -7,7 +7,7 @@ use Rattle.mine_model.specs.Bytes.{exclamation_mark, open_round, close_round, fu
 use Rattle.mine_model.specs.Tokens.{Token, sign, Placed}
 use Rattle.mine_model.specs.Grammar.{Use, named}
 use Rattle.mine_model.specs.Refusal.{IsBadRepeat, IsBeyondLimit}
-use Rattle.mine_model.specs.Machine.{Is, AreMarks}
+use Rattle.patex_grammar.specs.Machine.{Is, AreMarks}
 use Rattle.patex_parser.specs.declared.token.Bracket.TheVariants.{Round, Square}
 use Rattle.patex_parser.specs.declared.token.Mark.{Mark}
 use Rattle.patex_parser.specs.declared.token.Mark.TheVariants.{Name, Caret, Equals, Dot, Bang, Bar, Opening, Closing, Postfix}

@@ -5,20 +5,20 @@ use Rattle.std.proofs.lemmas.List.{append-nil}
 use Rattle.mine_model.specs.declared.item.Item.{Item}
 use Rattle.mine_model.specs.declared.fault.Fault.{Fault}
 use Rattle.mine_model.specs.declared.fault.Fault.TheVariants as fault
-use Rattle.mine_model.specs.declared.patex_fault.PatexFault.{PatexFault}
-use Rattle.mine_model.specs.Faults.{fault_of}
+use Rattle.patex_parser.specs.declared.patex_fault.PatexFault.{PatexFault}
+use Rattle.patex_parser.specs.Faults.{fault_of}
 use Rattle.mine_model.specs.Limits.{most_expression_bytes, most_leaves, most_told_leaves}
 use Rattle.mine_model.specs.Expression.{Tree, tree_by, named_in, unfolded_leaves}
 use Rattle.mine_model.specs.Tokens.{Placed, AreTokens, IsBadToken}
 use Rattle.mine_model.specs.Grammar.{Use, expression, Reads, Begins}
 use Rattle.mine_model.specs.First.{FirstAmong}
 use Rattle.mine_model.specs.Refusal.{IsFirstToken, IsBadRepeat, IsBeyondLimit, IsWrongAfter, IsUnexpected, IsTooDeepAfter, IsExpressionRefusal}
-use Rattle.mine_model.specs.Machine.{State, state, next, initial}
-use Rattle.mine_model.specs.Holding.{Reaches}
-use Rattle.mine_model.proofs.TokenLemmas.{AreTokens-unique, AreTokens-no_bad}
-use Rattle.mine_model.proofs.PrefixLemmas.{answered-reads, reaches-begins, begins-cut, wrong-mark, open-bracket, no-operand, reaches-cut, reads-answered}
-use Rattle.mine_model.proofs.RefusalLemmas.{begun-none-wrong, OfTokens}
-use Rattle.mine_model.proofs.Unambiguous.{unambiguous}
+use Rattle.patex_grammar.specs.Machine.{State, state, next, initial}
+use Rattle.patex_grammar.specs.Holding.{Reaches}
+use Rattle.patex_grammar.proofs.TokenLemmas.{AreTokens-unique, AreTokens-no_bad}
+use Rattle.patex_grammar.proofs.PrefixLemmas.{answered-reads, reaches-begins, begins-cut, wrong-mark, open-bracket, no-operand, reaches-cut, reads-answered}
+use Rattle.patex_grammar.proofs.RefusalLemmas.{begun-none-wrong, OfTokens}
+use Rattle.patex_grammar.proofs.Unambiguous.{unambiguous}
 use Rattle.patex_parser.specs.declared.token.Kind.{Kind}
 use Rattle.patex_parser.specs.declared.token.Kind.TheVariants.{Mark as AMark, BadRepeat, BeyondLimit}
 use Rattle.patex_parser.specs.declared.token.ReadToken.{ReadToken}

@@ -7,10 +7,10 @@ use Rattle.mine_model.specs.Bytes.{comma}
 use Rattle.mine_model.specs.Tokens.{Each, BeginsOtherwise, is_free, repeat}
 use Rattle.std.specs.Char.{is_ascii_digit}
 use Rattle.mine_model.specs.Grammar.{IsPadded, IsRepeat, value_of_digits}
-use Rattle.mine_model.specs.Bounds.{is_comma}
-use Rattle.mine_model.proofs.BoundLemmas.{each-map, each-append, free-commas, free_no_digit, digit_no_comma}
+use Rattle.patex_grammar.specs.Bounds.{is_comma}
+use Rattle.patex_grammar.proofs.BoundLemmas.{each-map, each-append, free-commas, free_no_digit, digit_no_comma}
 use Rattle.mine_model.proofs.ListLemmas.{front_of_both, back_of_both}
-use Rattle.mine_model.proofs.TokenLemmas.{cut-same, ends-otherwise}
+use Rattle.patex_grammar.proofs.TokenLemmas.{cut-same, ends-otherwise}
 use Rattle.patex_parser.specs.declared.bounds.Part.{Part}
 use Rattle.patex_parser.specs.declared.bounds.Part.TheVariants.{Blank, Number, Other}
 use Rattle.patex_parser.specs.declared.token.Kind.TheVariants.{BadRepeat}

@@ -5,7 +5,7 @@ use Rattle.mine_model.specs.Limits.{most_times}
 use Rattle.mine_model.specs.Tokens.{Token, name, sign, repeat, open_repeat}
 use Rattle.mine_model.specs.Grammar.{IsRepeat}
 use Rattle.mine_model.specs.Refusal.{IsBadRepeat, IsBeyondLimit}
-use Rattle.mine_model.proofs.BoundLemmas.{repeat-bounds}
+use Rattle.patex_grammar.proofs.BoundLemmas.{repeat-bounds}
 use Rattle.patex_parser.specs.declared.token.Mark.TheVariants.{Postfix}
 use Rattle.patex_parser.specs.declared.token.Kind.TheVariants.{Mark, BadRepeat, BeyondLimit}
 use Rattle.patex_parser.specs.Scanning.{IsSound, IsKind}

@@ -1,9 +1,9 @@
 -- The machine over items that stand for uses runs as over the uses, and what it has read names what its marks name.
 use Rattle.std.proofs.Common.{◌≡◌, ℕ, Option, Some, None, List, [], ◌∷◌, ◌++◌, map, refl, sym, ap, ◌∙◌, append_assoc}
 use Rattle.std.proofs.lemmas.List.{append-nil}
-use Rattle.mine_model.proofs.HoldingLemmas.{run-none}
+use Rattle.patex_grammar.proofs.HoldingLemmas.{run-none}
 use Rattle.mine_model.specs.Expression.{Leaf, under, exact, climb, forced, any, any_climb, not_under, not_exact, Tree, leaf, cat, alt, rep, cap, named_by, named_in, leaf_by, tree_by, unfolded_leaves}
-use Rattle.mine_model.specs.Machine.{Bracket, round, square, Mark, name_of, caret, equals, dot, bang, bar, opening, closing, postfix, Last, nothing, excluding, extendable, closed, Frame, frame, State, state, row_with, choice_with, tree_of_last, begun, ended, chosen, finished, with_last, with_name, with_caret, with_equals, extended, with_bar, opened, shut, repeating, next, run}
+use Rattle.patex_grammar.specs.Machine.{Bracket, round, square, Mark, name_of, caret, equals, dot, bang, bar, opening, closing, postfix, Last, nothing, excluding, extendable, closed, Frame, frame, State, state, row_with, choice_with, tree_of_last, begun, ended, chosen, finished, with_last, with_name, with_caret, with_equals, extended, with_bar, opened, shut, repeating, next, run}
 
 module _ {A B : Type 0} (f : A → B) where
   abbrev pub mark_by : Mark A → Mark B

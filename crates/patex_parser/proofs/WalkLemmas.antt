@@ -3,9 +3,9 @@ use Rattle.std.proofs.Common.{◌≡◌, ℕ, ◌+◌, ◌<◌, Some, None, List
 use Rattle.std.proofs.lemmas.List.{map-append}
 use Rattle.std.proofs.lemmas.List.Sums.{fold-append}
 use Rattle.mine_model.specs.declared.item.Item.{Item}
-use Rattle.mine_model.specs.Machine.{State, next, run, initial}
-use Rattle.mine_model.specs.Machine as machine
-use Rattle.mine_model.proofs.ReadingLemmas.{run-append}
+use Rattle.patex_grammar.specs.Machine.{State, next, run, initial}
+use Rattle.patex_grammar.specs.Machine as machine
+use Rattle.patex_grammar.proofs.ReadingLemmas.{run-append}
 use Rattle.patex_parser.specs.declared.token.ReadToken.{ReadToken}
 use Rattle.patex_parser.specs.Reading.{mark_of_kind, marks_of, IsBehind, IsStuck}
 use Rattle.patex_parser.specs.Checking.{effect_of, open_step, signs_step, open_after, signs_after}

@@ -2,8 +2,8 @@
 use Rattle.std.specs.Prelude.{◌≡◌, ℕ, ◌+◌, ◌-◌, ◌<◌, ◌≤◌, ◌⊎◌, min, Option, Some, None, List, [], ◌∷◌, ◌++◌}
 use Rattle.std.specs.List.{fold}
 use Rattle.mine_model.specs.declared.item.Item.{Item}
-use Rattle.mine_model.specs.declared.patex_fault.PatexFault.{PatexFault}
-use Rattle.mine_model.specs.declared.patex_fault.PatexFault.TheVariants.{BadRepeat, RepeatLimit, TooDeep, TooManyLeaves}
+use Rattle.patex_parser.specs.declared.patex_fault.PatexFault.{PatexFault}
+use Rattle.patex_parser.specs.declared.patex_fault.PatexFault.TheVariants.{BadRepeat, RepeatLimit, TooDeep, TooManyLeaves}
 use Rattle.mine_model.specs.Limits.{most_nested, most_leaves, most_told_leaves}
 use Rattle.mine_model.specs.Expression.{Tree, unfolded_leaves}
 use Rattle.mine_model.specs.First.{FirstAmong}

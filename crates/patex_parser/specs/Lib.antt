@@ -8,3 +8,4 @@ pub mod View
 pub mod Reading
 pub mod Checking
 pub mod Resolving
+pub mod Faults

@@ -3,9 +3,9 @@ use Rattle.std.specs.Prelude.{◌≡◌, ℕ, ◌+◌, ◌<◌, ◌⊎◌, List,
 use Rattle.std.specs.List.{AllByRecursion, slice_index_or}
 use Rattle.mine_model.specs.declared.item.Item.{Item}
 use Rattle.mine_model.specs.declared.fault.Fault.{Fault}
-use Rattle.mine_model.specs.declared.patex_fault.PatexFault.{PatexFault}
-use Rattle.mine_model.specs.declared.patex_fault.PatexFault.TheVariants.{NoMemory}
-use Rattle.mine_model.specs.Faults.{fault_of}
+use Rattle.patex_parser.specs.declared.patex_fault.PatexFault.{PatexFault}
+use Rattle.patex_parser.specs.declared.patex_fault.PatexFault.TheVariants.{NoMemory}
+use Rattle.patex_parser.specs.Faults.{fault_of}
 use Rattle.mine_model.specs.Expression.{Tree, named_in, tree_by}
 use Rattle.mine_model.specs.Grammar.{Use, ReadsAs}
 use Rattle.patex_parser.specs.declared.parsed.NameUse.{NameUse}

@@ -1,11 +1,11 @@
 -- What the machine says of tokens that were read.
 use Rattle.std.specs.Prelude.{◌≡◌, ℕ, ◌⊎◌, Option, Some, None, List, [], ◌∷◌, ◌++◌, map}
 use Rattle.mine_model.specs.declared.item.Item.{Item}
-use Rattle.mine_model.specs.declared.patex_fault.PatexFault.{PatexFault}
-use Rattle.mine_model.specs.declared.patex_fault.PatexFault.TheVariants.{Unexpected, NoMemory}
+use Rattle.patex_parser.specs.declared.patex_fault.PatexFault.{PatexFault}
+use Rattle.patex_parser.specs.declared.patex_fault.PatexFault.TheVariants.{Unexpected, NoMemory}
 use Rattle.mine_model.specs.Expression.{Tree}
-use Rattle.mine_model.specs.Machine as machine
-use Rattle.mine_model.specs.Machine.{State, state, next, run, initial, finished}
+use Rattle.patex_grammar.specs.Machine as machine
+use Rattle.patex_grammar.specs.Machine.{State, state, next, run, initial, finished}
 use Rattle.patex_parser.specs.declared.token.Mark.{Mark}
 use Rattle.patex_parser.specs.declared.token.Kind.{Kind}
 use Rattle.patex_parser.specs.declared.token.Kind.TheVariants.{Mark as AMark, BadRepeat, BeyondLimit}

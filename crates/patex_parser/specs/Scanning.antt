@@ -1,8 +1,8 @@
 -- What a text was read as, token by token.
 use Rattle.std.specs.Prelude.{◌≡◌, ℕ, ◌+◌, ◌<◌, ◌≤◌, ◌⊎◌, List, [], ◌∷◌, ◌++◌, length, take, drop}
 use Rattle.mine_model.specs.declared.item.Item.{Item}
-use Rattle.mine_model.specs.declared.patex_fault.PatexFault.{PatexFault}
-use Rattle.mine_model.specs.declared.patex_fault.PatexFault.TheVariants.{BadToken, NoMemory}
+use Rattle.patex_parser.specs.declared.patex_fault.PatexFault.{PatexFault}
+use Rattle.patex_parser.specs.declared.patex_fault.PatexFault.TheVariants.{BadToken, NoMemory}
 use Rattle.mine_model.specs.Bytes.{exclamation_mark, quote, open_round, close_round, full_stop, equals_sign, open_square, close_square, circumflex, vertical_bar}
 use Rattle.mine_model.specs.Tokens.{Token, name, sign, Placed, is_quote, doubled, BeginsOtherwise, Spells, AreTokensBefore, AreTokens, IsBadToken}
 use Rattle.mine_model.specs.Grammar.{Use, named, IsPostfix}

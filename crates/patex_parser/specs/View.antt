@@ -4,7 +4,7 @@ use Rattle.mine_model.specs.declared.item.Item.{Item}
 use Rattle.mine_model.specs.declared.expression.Expr.{Expr}
 use Rattle.mine_model.specs.Expression.{Tree}
 use Rattle.mine_model.specs.Numbered.{leaf_of, tree_of}
-use Rattle.mine_model.specs.Machine as machine
+use Rattle.patex_grammar.specs.Machine as machine
 use Rattle.patex_parser.specs.declared.token.Bracket.{Bracket}
 use Rattle.patex_parser.specs.declared.token.Bracket.TheVariants.{Round, Square}
 use Rattle.patex_parser.specs.declared.token.Mark.{Mark}

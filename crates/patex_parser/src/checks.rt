@@ -6,8 +6,9 @@ ghost use Rattle.mine_model.specs.Numbered.{tree_of};
 ghost use Rattle.patex_parser.specs.Reading.{IsMarked};
 ghost use Rattle.patex_parser.specs.Checking.{IsRepeatFault, IsDepthFault, IsNotTooDeep, IsLeavesFault, IsTooDeepAt, effect_of, open_step, signs_step};
 
+use super::patex_fault::PatexFault;
 use super::token::{Kind, Mark, ReadToken};
-use mine_model::{Expr, PatexFault};
+use mine_model::Expr;
 
 // The most item expressions once all repetitions are written out.
 const MOST_LEAVES: u32 = 1024;

@@ -9,6 +9,7 @@ mod lexeme;
 mod machine;
 mod parsed;
 mod parser;
+mod patex_fault;
 mod reading;
 mod resolving;
 mod scan;
@@ -17,6 +18,7 @@ mod token;
 pub use find_name::FindName;
 pub use parsed::{NameUse, Parsed};
 pub use parser::parse;
+pub use patex_fault::PatexFault;
 pub use resolving::resolve;
 
 #[cfg(test)]

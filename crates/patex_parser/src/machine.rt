@@ -1,6 +1,6 @@
 ghost use Rattle.std.specs.Prelude.{◌≡◌, Some, None, IfOk, if◌then◌else◌};
 ghost use Rattle.mine_model.specs.Numbered.{tree_of};
-ghost use Rattle.mine_model.specs.Machine as machine;
+ghost use Rattle.patex_grammar.specs.Machine as machine;
 ghost use Rattle.patex_parser.specs.Reading.{IsEnd};
 ghost use Rattle.patex_parser.specs.View.{tree_if, tree_if_if, last_of, last_if, frames_of, state_of, state_if, mark_of};
 

@@ -6,9 +6,9 @@ ghost use Rattle.patex_parser.specs.Parsing.{use_view, IsParsed, IsRefused};
 
 use super::checks::{check_depth, check_leaves, check_repeats};
 use super::parsed::Parsed;
+use super::patex_fault::PatexFault;
 use super::reading::read;
 use super::scan::scan;
-use mine_model::PatexFault;
 use std::alloc::Global;
 
 // The most bytes of an expression.

@@ -4,8 +4,9 @@ ghost use Rattle.mine_model.specs.Numbered.{tree_of};
 ghost use Rattle.patex_parser.specs.Reading.{IsMarked, IsReadWhole, IsUnexpectedFault};
 
 use super::machine::Machine;
+use super::patex_fault::PatexFault;
 use super::token::{Kind, ReadToken};
-use mine_model::{Expr, PatexFault};
+use mine_model::Expr;
 use std::alloc::Global;
 
 /// Reads tokens as an expression, behind the last of which the text ends at the column `end`.

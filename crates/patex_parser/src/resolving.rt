@@ -10,7 +10,8 @@ ghost use Rattle.patex_parser.specs.Resolving.{AreItemsOf, item_at};
 
 use super::find_name::FindName;
 use super::parsed::{NameUse, Parsed};
-use mine_model::{Expr, Item, Leaf, NoMemory, PatexFault};
+use super::patex_fault::PatexFault;
+use mine_model::{Expr, Item, Leaf, NoMemory};
 use std::alloc::Global;
 
 // The items of uses.

@@ -6,8 +6,9 @@ ghost use Rattle.patex_parser.specs.Scanning.{IsScannedTo, IsScanned, IsBadToken
 use super::bytes::is_free;
 use super::lexeme::{Lexeme, first_lexeme};
 use super::parsed::NameUse;
+use super::patex_fault::PatexFault;
 use super::token::{Kind, Mark, ReadToken};
-use mine_model::{Item, NoMemory, PatexFault};
+use mine_model::{Item, NoMemory};
 use std::alloc::Global;
 
 /// The tokens of an expression, and its names where they stand.

@@ -1,7 +1,8 @@
 ghost use Rattle.std.specs.Prelude.{[], ◌∷◌};
 
+use super::patex_fault::PatexFault;
 use super::{FindName, NameUse, parse, resolve};
-use mine_model::{Item, PatexFault};
+use mine_model::Item;
 use std::alloc::{AllocError, Global};
 use std::test::Fail;
 

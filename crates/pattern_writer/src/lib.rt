@@ -3,9 +3,11 @@
 #![tactic(auto)]
 
 mod ordering;
+mod write_fault;
 mod writing;
 
 pub use ordering::order;
+pub use write_fault::WriteFault;
 pub use writing::write;
 
 #[cfg(test)]

@@ -8,9 +8,10 @@ ghost use Rattle.mine_model.specs.Names.{name_of, HasName, named_row};
 ghost use Rattle.text_ports.specs.Faults.{Rose};
 ghost use Rattle.pattern_writer.specs.Written.{IsHeld, IsCut};
 
+use super::write_fault::WriteFault;
 use item_names::Names;
 use itoa::Buffer;
-use mine_model::{Item, Row, WriteFault};
+use mine_model::{Item, Row};
 use text_ports::{Failed, Sink, write_all};
 
 /// Writes the lines of the rows, in their order: the support in decimal, a tab, the names joined by one

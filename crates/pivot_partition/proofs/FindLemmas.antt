@@ -6,11 +6,11 @@ use Rattle.std.proofs.lemmas.List.Elements.{Contains-get_or}
 use Rattle.std.proofs.lemmas.Option.{slice_get-get_or}
 use Rattle.mine_model.specs.declared.item.Item.{Item}
 use Rattle.fst_compile.specs.Transducer.{Leads}
-use Rattle.fst_simulate.specs.declared.reading.Reading.{Reading}
-use Rattle.fst_simulate.specs.Problems.{Problem, IsWhole}
-use Rattle.fst_simulate.specs.Grids.{GridList, items_at, rest_at}
-use Rattle.fst_simulate.specs.Readings.{IsReading, HasOutputs, outputs_at}
-use Rattle.fst_simulate.specs.Kinds.{IsTarget}
+use Rattle.sequence_grids.specs.declared.reading.Reading.{Reading}
+use Rattle.mining_job.specs.Problems.{Problem, IsWhole}
+use Rattle.sequence_grids.specs.Grids.{GridList, items_at, rest_at}
+use Rattle.sequence_grids.specs.Readings.{IsReading, HasOutputs, outputs_at}
+use Rattle.sequence_grids.specs.Kinds.{IsTarget}
 use Rattle.pivot_partition.specs.Tops.{no_rank, IsRowOf, IsTableFrom, GoesUpTo, row_at}
 use Rattle.pivot_partition.proofs.TopLemmas.{reading-goes, reading-needs, reading-ranks, entered-row, before-row, front-step}
 use Rattle.pivot_partition.proofs.TableLemmas.{table-more}

@@ -3,8 +3,8 @@ use Rattle.std.proofs.Common.{◌≡◌, ℕ, zero, suc, ◌+◌, ◌≤◌, ◌
 use Rattle.std.specs.List.{Contains, slice_index}
 use Rattle.std.proofs.lemmas.Bool.{cases_lt}
 use Rattle.mine_model.specs.declared.item.Item.{Item}
-use Rattle.fst_simulate.specs.Problems.{Problem, IsWhole}
-use Rattle.fst_simulate.specs.Grids.{Completes}
+use Rattle.mining_job.specs.Problems.{Problem, IsWhole}
+use Rattle.sequence_grids.specs.Grids.{Completes}
 use Rattle.pivot_partition.specs.Tops.{no_rank, bound_by, WritesFrom}
 use Rattle.pivot_partition.proofs.TopLemmas.{end-writes}
 

@@ -2,8 +2,8 @@
 use Rattle.std.proofs.Common.{◌≡◌, ◌↔◌, ℕ, ◌≤◌, Bool, false, None, List, [], ◌∷◌, ◌++◌, length, ap, ◌∙◌, subst}
 use Rattle.std.specs.List.{Contains}
 use Rattle.mine_model.proofs.ListLemmas.{Contains-none}
-use Rattle.fst_simulate.specs.Problems.{Problem, IsWhole, items_of}
-use Rattle.fst_simulate.specs.Grids.{GridList, Completes}
+use Rattle.mining_job.specs.Problems.{Problem, IsWhole, items_of}
+use Rattle.sequence_grids.specs.Grids.{GridList, Completes}
 use Rattle.pivot_partition.specs.Tops.{bound_by}
 use Rattle.pivot_partition.specs.Marks.{AreMarked}
 use Rattle.pivot_partition.specs.Pivots.{IsPivotOf}

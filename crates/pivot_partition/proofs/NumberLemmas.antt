@@ -1,7 +1,7 @@
 -- Rows of a table, by their numbers.
 use Rattle.std.proofs.Common.{◌≡◌, ℕ, ◌+◌, ◌-◌, ◌*◌, ◌<◌, ◌≤◌, List, length, arith}
 use Rattle.mine_model.specs.declared.item.Item.{Item}
-use Rattle.fst_simulate.specs.Problems.{Problem}
+use Rattle.mining_job.specs.Problems.{Problem}
 use Rattle.pivot_partition.specs.Tops.{row_at}
 
 rows_more : (n k s : ℕ) → k < n → (n - k) * s ≡ (n - (k + 1)) * s + s

@@ -8,7 +8,7 @@ use Rattle.std.proofs.lemmas.List.Elements.{Contains-append_left, Contains-appen
 use Rattle.std.proofs.lemmas.List.Kept.{AllPairs-cons}
 use Rattle.mine_model.specs.declared.memory.NoMemory.{NoMemory}
 use Rattle.mine_model.proofs.ListLemmas.{Contains-none, Contains-by, Contains-from, AllPairs-head, AllPairs-tail, AllPairs-append}
-use Rattle.fst_simulate.specs.Problems.{Problem, items_of}
+use Rattle.mining_job.specs.Problems.{Problem, items_of}
 use Rattle.pivot_partition.specs.declared.pairs.Pair.{Pair}
 use Rattle.pivot_partition.specs.Pivots.{IsPivotOf}
 use Rattle.pivot_partition.specs.Pairs.{ComesFirst, ArePairs, place, ArePieces, all_of}

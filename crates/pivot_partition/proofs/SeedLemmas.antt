@@ -14,16 +14,16 @@ use Rattle.mine_model.specs.Database.{sequence_at, IsWithinLimits}
 use Rattle.mine_model.specs.Limits.{most_sequences, most_weight}
 use Rattle.mine_model.specs.Support.{Counts}
 use Rattle.mine_model.specs.Growth.{HasPatternBehind, IsAlive}
-use Rattle.mine_model.specs.SearchTree.{IsWithinPivot, IsAliveLabel}
+use Rattle.mine_model.specs.Pivots.{IsWithinPivot, IsAliveLabel}
 use Rattle.mine_model.proofs.ListLemmas.{Contains-cases, Contains-first, Contains-other, Contains-none, AllPairs-head, AllPairs-tail}
 use Rattle.mine_model.proofs.ElementLemmas.{flat-held}
 use Rattle.mine_model.proofs.RankLemmas.{HasRank-most}
 use Rattle.mine_model.proofs.RankedLemmas.{ranked-same}
 use Rattle.mine_model.proofs.FrequencyLemmas.{Counts-most}
 use Rattle.mine_model.proofs.AliveLemmas.{Counts-part, IsAlive-counted, IsAlive-some}
-use Rattle.fst_simulate.specs.declared.part_seed.PartSeed.{PartSeed}
-use Rattle.fst_simulate.specs.Problems.{Problem, data_of, items_of}
-use Rattle.fst_simulate.specs.Parts.{pivot_of, IsComplete}
+use Rattle.mining_job.specs.declared.part_seed.PartSeed.{PartSeed}
+use Rattle.mining_job.specs.Problems.{Problem, data_of, items_of}
+use Rattle.mining_job.specs.Parts.{pivot_of, IsComplete}
 use Rattle.pivot_partition.specs.declared.pairs.Pair.{Pair}
 use Rattle.pivot_partition.specs.Pivots.{IsPivotOf, pivots_in}
 use Rattle.pivot_partition.specs.Pairs.{ComesFirst, ArePairs, sequences_with, weight_with, AreWeights, AreLists, all_of}

@@ -3,7 +3,7 @@ use Rattle.std.proofs.Common.{◌≡◌, ℕ, ◌+◌, ◌-◌, ◌≤◌, ◌<�
 use Rattle.std.proofs.lemmas.Bool.{cases_lt}
 use Rattle.std.proofs.lemmas.List.{drop-append-le, drop_at, drop_all, get_or_append_left, length-drop}
 use Rattle.mine_model.specs.declared.item.Item.{Item}
-use Rattle.fst_simulate.specs.Problems.{Problem}
+use Rattle.mining_job.specs.Problems.{Problem}
 use Rattle.pivot_partition.specs.Tops.{IsLeastTop, GoesOn, IsRowOf, IsTableFrom, row_at}
 use Rattle.pivot_partition.proofs.NumberLemmas.{row-next, row-end, row-later}
 

@@ -5,17 +5,17 @@ use Rattle.std.proofs.lemmas.Bool.{false≢true}
 use Rattle.state_bits.specs.Members.{Has}
 use Rattle.mine_model.specs.declared.item.Item.{Item}
 use Rattle.mine_model.specs.Growth.{HasPatternBehind}
-use Rattle.mine_model.specs.SearchTree.{IsRankedUpTo, IsWithinPivot}
+use Rattle.mine_model.specs.Pivots.{IsRankedUpTo, IsWithinPivot}
 use Rattle.mine_model.proofs.ListLemmas.{Contains-none}
 use Rattle.mine_model.proofs.RankLemmas.{HasRank-most}
 use Rattle.fst_compile.specs.Transducer.{Leads}
-use Rattle.fst_simulate.specs.declared.bound.Bound.{Bound}
-use Rattle.fst_simulate.specs.declared.reading.Reading.{Reading}
-use Rattle.fst_simulate.specs.Problems.{Problem, IsWhole, data_of}
-use Rattle.fst_simulate.specs.Grids.{Completes, WritesRank}
-use Rattle.fst_simulate.specs.Readings.{IsReading, outputs_at}
-use Rattle.fst_simulate.specs.Kinds.{Goes, Needs, IsTarget}
-use Rattle.fst_simulate.proofs.PathLemmas.{seen-step, unseen-step, target-of}
+use Rattle.mining_job.specs.declared.bound.Bound.{Bound}
+use Rattle.sequence_grids.specs.declared.reading.Reading.{Reading}
+use Rattle.mining_job.specs.Problems.{Problem, IsWhole, data_of}
+use Rattle.sequence_grids.specs.Grids.{Completes, WritesRank}
+use Rattle.sequence_grids.specs.Readings.{IsReading, outputs_at}
+use Rattle.sequence_grids.specs.Kinds.{Goes, Needs, IsTarget}
+use Rattle.sequence_grids.proofs.PathLemmas.{seen-step, unseen-step, target-of}
 use Rattle.pivot_partition.specs.Tops.{no_rank, bound_by, GoesOn, IsRowOf, IsEnteredRow, GoesUpTo, WritesFrom, WritesAt}
 
 module _ (problem : Problem) (whole : IsWhole problem) where

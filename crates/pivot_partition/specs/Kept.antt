@@ -1,7 +1,7 @@
 -- What is kept between one sequence and the next.
 use Rattle.std.specs.Prelude.{◌≡◌, ℕ, ◌+◌, ◌<◌, Bool, None, List, [], length}
-use Rattle.fst_simulate.specs.Problems.{Problem}
-use Rattle.fst_simulate.specs.Grids.{GridList}
+use Rattle.mining_job.specs.Problems.{Problem}
+use Rattle.sequence_grids.specs.Grids.{GridList}
 use Rattle.pivot_partition.specs.Tops.{no_rank}
 use Rattle.pivot_partition.specs.Marks.{AreMarked}
 

@@ -3,7 +3,7 @@ use Rattle.std.specs.Prelude.{◌≡◌, ◌≢◌, ℕ, zero, suc, ◌+◌, ◌
 use Rattle.std.specs.List.{AllZip, range_with_len, flat_map, slice_index_or}
 use Rattle.std.specs.Global.{Vec}
 use Rattle.mine_model.specs.Database.{sequence_at}
-use Rattle.fst_simulate.specs.Problems.{Problem, items_of}
+use Rattle.mining_job.specs.Problems.{Problem, items_of}
 use Rattle.pivot_partition.specs.declared.pairs.Pair.{Pair}
 use Rattle.pivot_partition.specs.Pivots.{IsPivotOf}
 

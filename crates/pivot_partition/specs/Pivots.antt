@@ -2,10 +2,10 @@
 use Rattle.std.specs.Prelude.{◌≡◌, ℕ, ◌≤◌, ◌<◌, max, ◌↔◌, List, [], length, map, AllPairs, Contains}
 use Rattle.mine_model.specs.declared.item.Item.{Item}
 use Rattle.mine_model.specs.Growth.{HasPatternBehind}
-use Rattle.mine_model.specs.SearchTree.{IsWithinPivot}
-use Rattle.fst_simulate.specs.declared.part_seed.PartSeed.{PartSeed}
-use Rattle.fst_simulate.specs.Problems.{Problem, data_of}
-use Rattle.fst_simulate.specs.Parts.{pivot_of}
+use Rattle.mine_model.specs.Pivots.{IsWithinPivot}
+use Rattle.mining_job.specs.declared.part_seed.PartSeed.{PartSeed}
+use Rattle.mining_job.specs.Problems.{Problem, data_of}
+use Rattle.mining_job.specs.Parts.{pivot_of}
 
 -- the number is the greater of one of the first list and one of the second
 abbrev pub IsGreaterOf : List ℕ → List ℕ → ℕ → Type 0

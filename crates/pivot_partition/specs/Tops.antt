@@ -3,12 +3,12 @@
 use Rattle.std.specs.Prelude.{◌≡◌, ℕ, ◌+◌, ◌-◌, ◌*◌, ◌≤◌, ◌<◌, ◌⊎◌, ◌↔◌, true, false, Some, List, [], length, slice_index, drop, Contains}
 use Rattle.mine_model.specs.declared.item.Item.{Item}
 use Rattle.fst_compile.specs.Transducer.{Leads}
-use Rattle.fst_simulate.specs.declared.bound.Bound.{Bound}
-use Rattle.fst_simulate.specs.declared.reading.Reading.{Reading}
-use Rattle.fst_simulate.specs.Problems.{Problem}
-use Rattle.fst_simulate.specs.Grids.{Completes}
-use Rattle.fst_simulate.specs.Readings.{outputs_at}
-use Rattle.fst_simulate.specs.Kinds.{Goes, Needs, IsTarget}
+use Rattle.mining_job.specs.declared.bound.Bound.{Bound}
+use Rattle.sequence_grids.specs.declared.reading.Reading.{Reading}
+use Rattle.mining_job.specs.Problems.{Problem}
+use Rattle.sequence_grids.specs.Grids.{Completes}
+use Rattle.sequence_grids.specs.Readings.{outputs_at}
+use Rattle.sequence_grids.specs.Kinds.{Goes, Needs, IsTarget}
 use Rattle.state_bits.specs.Members.{HasBit}
 
 -- what stands for a rank where there is none

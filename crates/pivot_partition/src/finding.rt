@@ -2,8 +2,8 @@
 
 ghost use Rattle.std.specs.Prelude.{◌≡◌, ℕ, ◌+◌, ◌-◌, ◌^◌, ◌≤◌, ◌<◌, ◌⊎◌, ◌↔◌, false, [], ◌∷◌, length, drop, slice_index, slice_get, Some, All, Contains, IfOk, OnOk};
 ghost use Rattle.mine_model.specs.declared.item.Item.{Item};
-ghost use Rattle.fst_simulate.specs.Grids.{Completes, items_at, rest_at};
-ghost use Rattle.fst_simulate.specs.Readings.{HasOutputs, outputs_at};
+ghost use Rattle.sequence_grids.specs.Grids.{Completes, items_at, rest_at};
+ghost use Rattle.sequence_grids.specs.Readings.{HasOutputs, outputs_at};
 ghost use Rattle.pivot_partition.specs.Marks.{AreMarked};
 ghost use Rattle.pivot_partition.specs.Tops.{no_rank, bound_by, IsTableFrom, GoesUpTo};
 
@@ -12,8 +12,9 @@ use super::marks::mark_from;
 use super::reading::{NONE, least_output};
 use super::table::fill_table;
 use fst_compile::State;
-use fst_simulate::{Grids, Job, Reading};
 use mine_model::NoMemory;
+use mining_job::Job;
+use sequence_grids::{Grids, Reading};
 
 /// Finds the ranks that a path over the first grid's sequence may write as its greatest, with room for a
 /// table and two rows.

@@ -5,8 +5,8 @@ ghost use Rattle.pivot_partition.specs.declared.pairs.Pair.{Pair as Found};
 ghost use Rattle.pivot_partition.specs.Pairs.{ArePairs};
 
 use super::pivots::Pivots;
-use fst_simulate::Job;
 use mine_model::NoMemory;
+use mining_job::Job;
 use std::alloc::Global;
 
 /// A sequence and one of its pivots.

@@ -4,8 +4,8 @@ ghost use Rattle.std.specs.Prelude.{◌≡◌, ◌+◌, ◌*◌, ◌^◌, ◌≤
 ghost use Rattle.pivot_partition.specs.Pairs.{ArePairs, ArePieces, place};
 
 use super::pairs::{Pair, pairs_of};
-use fst_simulate::Job;
 use mine_model::NoMemory;
+use mining_job::Job;
 use rayon::prelude::*;
 use std::alloc::Global;
 use std::thread::Threads;

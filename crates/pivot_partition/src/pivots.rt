@@ -1,13 +1,14 @@
 ghost use Rattle.std.specs.Prelude.{◌≡◌, ◌≢◌, ℕ, ◌<◌, ◌↔◌, length, AllPairs, Contains, IfOk, OnOk};
-ghost use Rattle.fst_simulate.specs.Problems.{items_of};
+ghost use Rattle.mining_job.specs.Problems.{items_of};
 ghost use Rattle.pivot_partition.specs.Pivots.{IsPivotOf, ArePivots};
 
 use super::finding::find_in;
 use super::marks::{no_marks, unmark};
 use super::reading::NONE;
 use fst_compile::State;
-use fst_simulate::{Bound, Grids, Job};
 use mine_model::NoMemory;
+use mining_job::{Bound, Job};
+use sequence_grids::Grids;
 use std::alloc::Global;
 use std::marker::Model;
 
@@ -44,7 +45,7 @@ pub struct Pivots<'a> {
 }
 
 impl<'a> Model for Pivots<'a> {
-    ghost use Rattle.fst_simulate.specs.Problems.{Problem};
+    ghost use Rattle.mining_job.specs.Problems.{Problem};
 
     ghost Value = { Problem };
 

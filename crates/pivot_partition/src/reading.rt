@@ -2,11 +2,11 @@
 
 ghost use Rattle.std.specs.Prelude.{◌≡◌, ℕ, ◌≤◌, ◌<◌, ◌↔◌, max, slice_index, IsTrue};
 ghost use Rattle.state_bits.specs.Members.{HasBit};
-ghost use Rattle.fst_simulate.specs.Readings.{HasOutputs};
+ghost use Rattle.sequence_grids.specs.Readings.{HasOutputs};
 ghost use Rattle.pivot_partition.specs.Tops.{no_rank, IsLeastOf, GoesUpTo};
 
 use fst_compile::State;
-use fst_simulate::Reading;
+use sequence_grids::Reading;
 
 /// What stands for a rank where there is none: it is greater than all.
 pub(crate) const NONE: u32 = u32::MAX;

@@ -1,18 +1,18 @@
 //! The parts of the pivots.
 
 ghost use Rattle.std.specs.Prelude.{◌≡◌, ℕ, ◌+◌, ◌≤◌, ◌<◌, ◌↔◌, ◌++◌, ◌∷◌, [], false, Some, IsTrue, length, All, AllPairs, Contains, IfOk, OnOk};
-ghost use Rattle.mine_model.specs.SearchTree.{IsAliveLabel};
-ghost use Rattle.fst_simulate.specs.declared.part_seed.PartSeed.{PartSeed as Seed};
-ghost use Rattle.fst_simulate.specs.Problems.{data_of};
-ghost use Rattle.fst_simulate.specs.Parts.{IsComplete};
+ghost use Rattle.mine_model.specs.Pivots.{IsAliveLabel};
+ghost use Rattle.mining_job.specs.declared.part_seed.PartSeed.{PartSeed as Seed};
+ghost use Rattle.mining_job.specs.Problems.{data_of};
+ghost use Rattle.mining_job.specs.Parts.{IsComplete};
 ghost use Rattle.pivot_partition.specs.Pivots.{pivots_in};
 ghost use Rattle.pivot_partition.specs.Pairs.{ArePairs, AreWeights, AreLists, all_of};
 
 use super::pairs::{Pair, pairs_of};
 use super::pieces::pieces_of;
 use super::weighing::weights;
-use fst_simulate::{Job, PartSeed};
 use mine_model::NoMemory;
+use mining_job::{Job, PartSeed};
 use std::alloc::Global;
 use std::thread::Threads;
 

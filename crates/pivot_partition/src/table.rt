@@ -4,15 +4,16 @@ ghost use Rattle.std.specs.Prelude.{◌≡◌, ℕ, ◌+◌, ◌-◌, ◌^◌, �
 ghost use Rattle.mine_model.specs.declared.item.Item.{Item};
 ghost use Rattle.state_bits.specs.Members.{Has};
 ghost use Rattle.fst_compile.specs.Transducer.{Leads};
-ghost use Rattle.fst_simulate.specs.Grids.{items_at, rest_at};
-ghost use Rattle.fst_simulate.specs.Readings.{HasOutputs};
+ghost use Rattle.sequence_grids.specs.Grids.{items_at, rest_at};
+ghost use Rattle.sequence_grids.specs.Readings.{HasOutputs};
 ghost use Rattle.pivot_partition.specs.Tops.{no_rank, IsRowOf, IsEnteredRow, IsTableFrom, row_at, GoesUpTo};
 
 use super::edges::least_behind;
 use super::reading::{NONE, least_output};
 use fst_compile::{Fst, State};
-use fst_simulate::{Grids, Job, Reading};
 use mine_model::NoMemory;
+use mining_job::Job;
+use sequence_grids::{Grids, Reading};
 
 /// Fills the table of the first grid, whose sequence has so many items. The grids allow all ranks.
 pub(crate) fn fill_table(

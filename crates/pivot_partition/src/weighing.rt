@@ -4,8 +4,8 @@ ghost use Rattle.std.specs.Prelude.{◌≡◌, ℕ, ◌+◌, ◌^◌, ◌<◌, l
 ghost use Rattle.pivot_partition.specs.Pairs.{ArePairs, AreWeights, all_of, weight_with};
 
 use super::pairs::Pair;
-use fst_simulate::Job;
 use mine_model::NoMemory;
+use mining_job::Job;
 use std::alloc::Global;
 
 /// By pivot the weights of the sequences that have it, where these are all pairs.

@@ -2,13 +2,13 @@
 use Rattle.std.proofs.Common.{◌≡◌, ◌≢◌, ℕ, zero, suc, ◌+◌, ◌-◌, ◌≤◌, Option, Some, None, List, [], ◌∷◌, ◌++◌, set, slice_get, length, refl, sym, ap, ◌∙◌, arith, length-append, replicate, sum_by, flat_map, subst}
 use Rattle.std.proofs.lemmas.List.{append-nil, length_push}
 use Rattle.std.proofs.lemmas.List.Sums.{sum_by-cons, sum_by-append}
-use Rattle.mine_model.specs.Cover.{Covers}
+use Rattle.search_tree.specs.Cover.{Covers}
 use Rattle.pool_schedule.specs.State.{Load, State, pending_of, all_pending, all_held, grown, IsBalanced, IsIdle, idle, start}
 use Rattle.pool_schedule.specs.Steps.{Posts, Grows, Puts, Takes, Steals, Step, Runs}
 use Rattle.pool_schedule.specs.declared.event.Event.{Event}
 use Rattle.pool_schedule.specs.declared.event.Event.TheVariants.{Post, Grow, Put, Take, Steal}
 use Rattle.pool_schedule.proofs.Measure.{lying, IsWithin, left_over, extra}
-use Rattle.mine_model.proofs.CoverLemmas.{kids_weight, kids-weight, flat-weight}
+use Rattle.search_tree.proofs.CoverLemmas.{kids_weight, kids-weight, flat-weight}
 use Rattle.mine_model.proofs.ElementLemmas.{flat_map_set}
 
 pending_weight : (List ℕ → ℕ) → List Load → ℕ

@@ -1,7 +1,7 @@
 -- What a loop over a schedule keeps.
 use Rattle.std.proofs.Common.{◌≡◌, ℕ, ◌%◌, ◌<◌, ◌↔◌, Bool, List, [], length, sym, subst}
 use Rattle.std.specs.Prelude.{IsTrue}
-use Rattle.mine_model.specs.Cover.{Covers}
+use Rattle.search_tree.specs.Cover.{Covers}
 use Rattle.mine_model.proofs.ElementLemmas.{get-held}
 use Rattle.pool_schedule.specs.State.{State, start, IsBalanced}
 use Rattle.pool_schedule.specs.Steps.{Step, IsEnabled}

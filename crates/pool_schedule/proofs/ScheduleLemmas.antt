@@ -9,7 +9,7 @@ use Rattle.std.proofs.lemmas.Option.{slice_get_within}
 use Rattle.std.proofs.lemmas.List.Elements.{Contains-append_right, Contains-append_cases}
 use Rattle.mine_model.proofs.ListLemmas.{Contains-cases, Contains-first, Contains-other, Contains-none}
 use Rattle.mine_model.proofs.ElementLemmas.{get-held, flat-cases, flat-held, get-some}
-use Rattle.mine_model.specs.Cover.{Covers}
+use Rattle.search_tree.specs.Cover.{Covers}
 use Rattle.pool_schedule.specs.State.{Load, State, IsBalanced}
 use Rattle.pool_schedule.specs.Steps.{Step, IsQuiet}
 use Rattle.pool_schedule.specs.declared.event.Event.{Event}

@@ -3,11 +3,11 @@ use Rattle.std.proofs.Common.{◌≡◌, ℕ, zero, suc, ◌<◌, inl, inr, Bool
 use Rattle.std.specs.Prelude.{ltb}
 use borrow.Author.Tests.{ltb-true}
 use Rattle.std.proofs.lemmas.Bool.{cases_Bool}
-use Rattle.mine_model.specs.Cover.{Covers, level, down_to}
+use Rattle.search_tree.specs.Cover.{Covers, level, down_to}
 use Rattle.mine_model.proofs.ListLemmas.{Contains-cases, Contains-none}
 use Rattle.mine_model.proofs.ElementLemmas.{flat-cases}
-use Rattle.mine_model.proofs.DepthLemmas.{short_tree}
-use Rattle.mine_model.proofs.GrowthLemmas.{kids_of, kids_grow}
+use Rattle.search_tree.proofs.DepthLemmas.{short_tree}
+use Rattle.search_tree.proofs.GrowthLemmas.{kids_of, kids_grow}
 use Rattle.pool_schedule.specs.Trial.{large_ranks}
 
 below-five : (label kid : List ℕ) → Contains (kids_of large_ranks label) kid → length label < 5

@@ -1,7 +1,7 @@
 -- The schedule machine: workers that share the labels of a tree.
 use Rattle.std.specs.Prelude.{◌≡◌, ℕ, ◌-◌, Option, Some, None, List, [], ◌∷◌, ◌++◌, replicate}
 use Rattle.std.specs.List.{flat_map}
-use Rattle.mine_model.specs.Cover.{Balanced}
+use Rattle.search_tree.specs.Cover.{Balanced}
 
 -- the words of the promise
 

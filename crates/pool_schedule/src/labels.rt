@@ -1,7 +1,8 @@
 //! Labels one behind the other in memory.
 ghost use Rattle.std.specs.Prelude.{◌≡◌, ◌≤◌, ◌<◌, [], ◌∷◌, ◌++◌, Some, IfOk, OnOk, OnErr, take, length, slice_get};
 
-use mine_model::{Label, NoMemory};
+use mine_model::NoMemory;
+use search_tree::Label;
 use std::alloc::Global;
 use std::marker::Model;
 

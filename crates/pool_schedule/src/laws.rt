@@ -1,6 +1,7 @@
 //! Laws of the machine. Each is the contract of a function that does nothing.
 ghost use Rattle.std.specs.Prelude.{◌≡◌, ℕ, ◌↔◌, List, Contains};
-ghost use Rattle.mine_model.specs.Cover.{GrowByOne, Covers, IsInTree, IsOnce, AreApart};
+ghost use Rattle.search_tree.specs.Cover.{GrowByOne, Covers, IsInTree, AreApart};
+ghost use Rattle.mine_model.specs.Labels.{IsOnce};
 ghost use Rattle.pool_schedule.specs.State.{State, start, IsBalanced, IsIdle};
 ghost use Rattle.pool_schedule.specs.Steps.{IsQuiet, Runs};
 ghost use Rattle.pool_schedule.specs.Schedule.{IsScheduled};

@@ -6,7 +6,6 @@
 
 mod choice;
 mod event;
-mod grow;
 mod labels;
 mod laws;
 mod machine;
@@ -17,7 +16,6 @@ mod tests;
 mod worker;
 
 pub use event::Event;
-pub use grow::Grow;
 pub use labels::Labels;
 pub use laws::{
     choices_settle_the_schedule, events_keep_the_balance, quiet_machine_is_idle,

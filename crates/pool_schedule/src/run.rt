@@ -1,7 +1,7 @@
 //! A whole schedule.
 ghost use Rattle.std.specs.Prelude.{◌≡◌, ◌≤◌, ℕ, List, IfOk};
 ghost use Rattle.std.specs.List.{filter_map};
-ghost use Rattle.mine_model.specs.Cover.{Covers};
+ghost use Rattle.search_tree.specs.Cover.{Covers};
 ghost use Rattle.pool_schedule.specs.Schedule.{first_choice, later_choices, ArePosted};
 
 use crate::grow::Grow;

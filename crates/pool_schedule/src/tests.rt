@@ -2,11 +2,12 @@
 ghost use Rattle.std.specs.Prelude.{◌≡◌, ◌≤◌, IfOk, Some, [], ◌∷◌, ◌++◌, map};
 ghost use Rattle.pool_schedule.specs.Trial.{row_at, small_ranks as the_small_ranks};
 ghost use Rattle.pool_schedule.specs.Trial.{large_ranks as the_large_ranks};
-ghost use Rattle.mine_model.specs.Cover.{Covers, down_to};
-ghost use Rattle.mine_model.proofs.GrowthLemmas.{kids_of as kids_by};
+ghost use Rattle.search_tree.specs.Cover.{Covers, down_to};
+ghost use Rattle.search_tree.proofs.GrowthLemmas.{kids_of as kids_by};
 
 use crate::{Event, Grow, Labels, Machine, Posted, run_schedule, step};
-use mine_model::{Grown, Item, Label, NoMemory, Pattern, Row};
+use mine_model::{Item, NoMemory, Pattern, Row};
+use search_tree::{Grown, Label};
 use std::alloc::Global;
 use std::test::Fail;
 
@@ -113,7 +114,7 @@ impl Grow for Small {
     type Room = ();
 
     ghost use Rattle.std.specs.Prelude.{[], ◌∷◌};
-    ghost use Rattle.mine_model.proofs.GrowthLemmas.{kids_of as kids_by};
+    ghost use Rattle.search_tree.proofs.GrowthLemmas.{kids_of as kids_by};
     ghost use Rattle.pool_schedule.specs.Trial.{row_by, small_ranks};
 
     ghost label_of = { λ _ node. node.items };
@@ -171,7 +172,7 @@ impl Grow for Large {
     type Room = ();
 
     ghost use Rattle.std.specs.Prelude.{[], ◌∷◌};
-    ghost use Rattle.mine_model.proofs.GrowthLemmas.{kids_of as kids_by};
+    ghost use Rattle.search_tree.proofs.GrowthLemmas.{kids_of as kids_by};
     ghost use Rattle.pool_schedule.specs.Trial.{row_by, large_ranks};
 
     ghost label_of = { λ _ node. node.items };

@@ -2,7 +2,8 @@
 ghost use Rattle.std.specs.Prelude.{◌≡◌, ◌<◌, ◌↔◌, None, [], All, IsTrue, OnOk, length};
 
 use crate::grow::Grow;
-use mine_model::{Label, NoMemory, Row};
+use mine_model::{NoMemory, Row};
+use search_tree::Label;
 use std::alloc::Global;
 use std::collections::VecDeque;
 

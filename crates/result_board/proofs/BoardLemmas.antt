@@ -5,9 +5,9 @@ use Rattle.std.specs.Option.{option_to_list}
 use Rattle.std.proofs.lemmas.List.{append-nil, length-map, map_push}
 use Rattle.std.specs.declared.snapshot.Snapshot.{Snapshot}
 use Rattle.mine_model.specs.declared.row.Row.{Row}
-use Rattle.mine_model.specs.SearchTree.{SearchTree, IsSearchTree}
-use Rattle.mine_model.proofs.SearchTreeLemmas.{IsRowOf-same}
-use Rattle.fst_simulate.specs.Problems.{Problem, data_of}
+use Rattle.search_tree.specs.SearchTree.{SearchTree, IsSearchTree}
+use Rattle.search_tree.proofs.SearchTreeLemmas.{IsRowOf-same}
+use Rattle.mining_job.specs.Problems.{Problem, data_of}
 use Rattle.turn_lock.specs.History.{Made}
 use Rattle.result_board.specs.declared.board.Entry.{Entry}
 use Rattle.result_board.specs.Entries.{history_of}

@@ -10,7 +10,7 @@ use Rattle.mine_model.specs.Support.{Sequence, HasFrequency, HoldsUnder}
 use Rattle.mine_model.proofs.AncestryLemmas.{Item-same}
 use Rattle.mine_model.proofs.ListLemmas.{Contains-first}
 use Rattle.fst_compile.proofs.OutputLemmas.{only_one as one_item}
-use Rattle.fst_simulate.specs.Problems.{Problem}
+use Rattle.mining_job.specs.Problems.{Problem}
 use Rattle.result_board.specs.Board.{HasRow}
 
 abbrev pub the_item : Item

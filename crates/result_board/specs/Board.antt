@@ -2,8 +2,8 @@
 use Rattle.std.specs.Prelude.{◌≡◌, ℕ, Option, List, [], ◌∷◌, ◌++◌, map}
 use Rattle.std.specs.Option.{option_to_list}
 use Rattle.mine_model.specs.declared.row.Row.{Row}
-use Rattle.mine_model.specs.SearchTree.{IsRowOf}
-use Rattle.fst_simulate.specs.Problems.{Problem, data_of}
+use Rattle.search_tree.specs.SearchTree.{IsRowOf}
+use Rattle.mining_job.specs.Problems.{Problem, data_of}
 use Rattle.turn_lock.specs.History.{Made}
 
 -- a label, and its row where it has one

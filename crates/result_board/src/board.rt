@@ -2,12 +2,13 @@ ghost use Rattle.std.specs.Prelude.{◌≡◌, ℕ, ◌<◌, List, [], ◌∷◌
 ghost use Rattle.std.specs.Prelude.{vec_len, vec_capacity};
 ghost use Rattle.std.specs.List.{filter_map};
 ghost use Rattle.std.specs.Option.{option_to_list};
-ghost use Rattle.mine_model.specs.SearchTree.{SearchTree, IsSearchTree};
-ghost use Rattle.fst_simulate.specs.Problems.{data_of};
+ghost use Rattle.search_tree.specs.SearchTree.{SearchTree, IsSearchTree};
+ghost use Rattle.mining_job.specs.Problems.{data_of};
 ghost use Rattle.result_board.specs.Board.{HasRow, AreRowsOf, labels_of};
 
-use fst_simulate::Job;
-use mine_model::{Label, NoMemory, Row};
+use mine_model::{NoMemory, Row};
+use mining_job::Job;
+use search_tree::Label;
 use std::alloc::Global;
 use std::marker::Model;
 use std::snapshot::Snapshot;

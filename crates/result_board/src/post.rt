@@ -2,7 +2,8 @@ ghost use Rattle.std.specs.Prelude.{◌≡◌};
 ghost use Rattle.result_board.specs.Board.{HasRow};
 
 use super::board::Board;
-use mine_model::{Label, NoMemory, Row};
+use mine_model::{NoMemory, Row};
+use search_tree::Label;
 use std::marker::Model;
 use turn_lock::Change;
 

@@ -4,8 +4,9 @@ ghost use Rattle.result_board.specs.Board.{HasRow};
 
 use super::{Board, Post};
 use fst_compile::compile;
-use fst_simulate::Job;
-use mine_model::{Db, Expr, Hierarchy, Item, Label, Leaf, NoMemory, Pattern, Ranks, Row};
+use mine_model::{Db, Expr, Hierarchy, Item, Leaf, NoMemory, Pattern, Ranks, Row};
+use mining_job::Job;
+use search_tree::Label;
 use std::alloc::Global;
 use std::sync::Wait;
 use turn_lock::{Pass, TurnLock};

@@ -2,9 +2,9 @@
 use Rattle.std.proofs.Common.{◌≡◌, ℕ, ◌+◌, List, [], ◌∷◌, ◌++◌, refl, sym, ap, ◌∙◌, arith, append_assoc, sum_by, flat_map, map}
 use Rattle.std.proofs.lemmas.List.{append-nil, map-append}
 use Rattle.std.proofs.lemmas.List.Sums.{sum_by-cons, sum_by-append}
-use Rattle.mine_model.specs.Cover.{Covers, Shift, IsEven}
+use Rattle.search_tree.specs.Cover.{Covers, Shift, IsEven}
 use Rattle.mine_model.specs.Labels.{SameLabels}
-use Rattle.mine_model.proofs.CoverLemmas.{kids_weight, kids-weight, flat-weight}
+use Rattle.search_tree.proofs.CoverLemmas.{kids_weight, kids-weight, flat-weight}
 use Rattle.node_pool.specs.Pool.{given, got}
 use Rattle.node_pool.specs.declared.seat.Seat.{Seat}
 use Rattle.turn_lock.specs.Passes.{made}

@@ -9,15 +9,15 @@ use Rattle.fst_compile.specs.contracts.fst.Fst.TheInside as FstInside
 use Rattle.mine_model.specs.contracts.expression.Expr as Expr
 use Rattle.mine_model.specs.contracts.expression.Expr.TheKnot as Knot
 use Rattle.fst_compile.specs.contracts.fst.Fst as Fst
-use Rattle.fst_simulate.specs.contracts.job.Job as Job
-use Rattle.fst_simulate.specs.contracts.part_seed.PartSeed as Seed
+use Rattle.mining_job.specs.contracts.job.Job as Job
+use Rattle.mining_job.specs.contracts.part_seed.PartSeed as Seed
 use Rattle.snapshot_project.specs.contracts.part.Part as Part
 use Rattle.snapshot_project.specs.contracts.snapshots.Snapshots as Snapshots
 use Rattle.snapshot_project.specs.contracts.part.Part.TheInside as PartInside
-use Rattle.fst_simulate.specs.contracts.grids.Grids as Grids
-use Rattle.fst_simulate.specs.contracts.grids.Grids.TheInside as GridsInside
-use Rattle.fst_simulate.specs.contracts.successors.Successors as Successors
-use Rattle.fst_simulate.specs.contracts.tables.Tables as Tables
+use Rattle.sequence_grids.specs.contracts.grids.Grids as Grids
+use Rattle.sequence_grids.specs.contracts.grids.Grids.TheInside as GridsInside
+use Rattle.sequence_grids.specs.contracts.successors.Successors as Successors
+use Rattle.sequence_grids.specs.contracts.tables.Tables as Tables
 use Rattle.dfs_growth.specs.contracts.node.Node as Node
 
 -- an expression reaches itself, so it is shown layer by layer

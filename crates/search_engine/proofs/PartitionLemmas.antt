@@ -8,16 +8,17 @@ use Rattle.mine_model.specs.Support.{HasFrequency}
 use Rattle.mine_model.specs.Answer.{Data, IsFrequent}
 use Rattle.mine_model.specs.Ranks.{Ranking, HasRank, AreRanked, AreRanks}
 use Rattle.mine_model.specs.Numbered.{AreFrequent}
-use Rattle.mine_model.specs.Cover.{Covers}
-use Rattle.mine_model.specs.SearchTree.{IsRankedUpTo, HoldsRank, IsWithin, IsWithinPivot, label_of, IsAliveLabel, IsRowAt, IsRowOf, AreRootsOf, SearchTree, IsSearchTree}
+use Rattle.search_tree.specs.Cover.{Covers}
+use Rattle.mine_model.specs.Pivots.{IsRankedUpTo, HoldsRank, IsWithin, IsWithinPivot, label_of, IsAliveLabel}
+use Rattle.search_tree.specs.SearchTree.{IsRowAt, IsRowOf, AreRootsOf, SearchTree, IsSearchTree}
 use Rattle.mine_model.proofs.ListLemmas.{Contains-cases, Contains-none, Contains-first, Contains-other, AllByRecursion-contained, filter_map-forth, filter_map-back, filter_map-pairs}
 use Rattle.mine_model.proofs.RankLemmas.{HasRank-held}
 use Rattle.mine_model.proofs.RankedLemmas.{item_rank, same_ranks, ranked-bounds}
 use Rattle.mine_model.proofs.FrequencyLemmas.{frequent-items}
 use Rattle.mine_model.proofs.AliveLemmas.{IsAlive-frequent}
 use Rattle.mine_model.proofs.OnceLemmas.{once-apart}
-use Rattle.mine_model.proofs.SearchAnswerLemmas.{frequent-ranks}
-use Rattle.mine_model.proofs.SearchTreeLemmas.{IsAliveLabel-shorter, IsRowOf-same, search-members, search-once}
+use Rattle.search_tree.proofs.SearchAnswerLemmas.{frequent-ranks}
+use Rattle.search_tree.proofs.SearchTreeLemmas.{IsAliveLabel-shorter, IsRowOf-same, search-members, search-once}
 use Rattle.search_engine.specs.Partition.{AreAlivePivots, IsPartitionWork}
 
 raised : (order : List Item) (low high : ℕ) → low ≤ high → (items : List Item) → AllByRecursion (IsRankedUpTo order low) items → AllByRecursion (IsRankedUpTo order high) items

@@ -6,10 +6,11 @@ use Rattle.std.proofs.lemmas.List.Elements.{All-nil, All-cons, All-head, All-tai
 use Rattle.std.proofs.lemmas.List.Sums.{sum_by-append}
 use Rattle.std.proofs.lemmas.Option.{same_Some}
 use Rattle.mine_model.specs.declared.memory.NoMemory.{NoMemory}
-use Rattle.mine_model.specs.Cover.{Covers, Shift, IsEven, all_made, all_given, all_got}
+use Rattle.search_tree.specs.Cover.{Covers, Shift, IsEven, all_made, all_given, all_got}
 use Rattle.mine_model.specs.Labels.{SameLabels}
-use Rattle.mine_model.proofs.CoverLemmas.{kids_weight, flat-weight, sum_by-flat_map}
-use Rattle.mine_model.proofs.ShiftLemmas.{shifts_cover}
+use Rattle.search_tree.proofs.CoverLemmas.{kids_weight, flat-weight}
+use Rattle.mine_model.proofs.SumLemmas.{sum_by-flat_map}
+use Rattle.search_tree.proofs.ShiftLemmas.{shifts_cover}
 use Rattle.node_pool.specs.Deques.{Deque}
 use Rattle.node_pool.specs.Pool.{seat_ground, given, got, IsSeatAt, IsWholePool}
 use Rattle.node_pool.specs.declared.seat.Seat.{Seat}

@@ -5,18 +5,19 @@ use Rattle.mine_model.specs.declared.item.Item.{Item}
 use Rattle.mine_model.specs.declared.mined.Work.{Work}
 use Rattle.mine_model.specs.declared.row.Row.{Row}
 use Rattle.mine_model.specs.Candidates.{IsFrequentItem}
-use Rattle.mine_model.specs.Cover.{Covers, down_to}
+use Rattle.search_tree.specs.Cover.{Covers, down_to}
 use Rattle.mine_model.specs.Growth.{HasPatternBehind}
 use Rattle.mine_model.specs.Numbered.{tree_of as expression_of, AreFrequent}
-use Rattle.mine_model.specs.SearchTree.{IsWithinPivot, IsRowOf, AreKids, AreRootsOf, IsSearchTree}
+use Rattle.mine_model.specs.Pivots.{IsWithinPivot}
+use Rattle.search_tree.specs.SearchTree.{IsRowOf, AreKids, AreRootsOf, IsSearchTree}
 use Rattle.mine_model.specs.Support.{HasFrequency}
 use Rattle.mine_model.proofs.FrequencyLemmas.{frequent-items, frequencies-known, HasFrequency-within}
 use Rattle.mine_model.proofs.ListLemmas.{AllByRecursion-weaker}
-use Rattle.mine_model.proofs.SearchAnswerLemmas.{search-rows, search-work}
-use Rattle.mine_model.proofs.SearchTreeLemmas.{AreKids-same, IsRowOf-same, AreRootsOf-same, search-covers, longest, longest-all}
-use Rattle.fst_simulate.specs.declared.part_seed.PartSeed.{PartSeed}
-use Rattle.fst_simulate.specs.Parts.{pivot_of, IsComplete}
-use Rattle.fst_simulate.specs.Problems.{Problem, IsWhole, data_of, items_of}
+use Rattle.search_tree.proofs.SearchAnswerLemmas.{search-rows, search-work}
+use Rattle.search_tree.proofs.SearchTreeLemmas.{AreKids-same, IsRowOf-same, AreRootsOf-same, search-covers, longest, longest-all}
+use Rattle.mining_job.specs.declared.part_seed.PartSeed.{PartSeed}
+use Rattle.mining_job.specs.Parts.{pivot_of, IsComplete}
+use Rattle.mining_job.specs.Problems.{Problem, IsWhole, data_of, items_of}
 use Rattle.dfs_growth.specs.Nodes.{Prefix, label_at}
 use Rattle.dfs_growth.specs.Tree.{search_tree, roots_by, kids_by, row_by}
 use Rattle.dfs_growth.proofs.TreeLemmas.{search_tree-is}

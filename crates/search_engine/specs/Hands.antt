@@ -3,7 +3,7 @@ use Rattle.std.specs.Prelude.{◌≡◌, ℕ, Some, List, [], ◌∷◌, ◌++�
 use Rattle.std.specs.List.{flat_map}
 use Rattle.mine_model.specs.declared.memory.NoMemory.{NoMemory}
 use Rattle.mine_model.specs.Labels.{SameLabels}
-use Rattle.fst_simulate.specs.Problems.{Problem}
+use Rattle.mining_job.specs.Problems.{Problem}
 use Rattle.node_pool.specs.Pool.{seat_ground, given, got, SameSeat, IsWholePool}
 use Rattle.node_pool.specs.declared.seat.Seat.{Seat}
 use Rattle.turn_lock.specs.Passes.{IsPassOf, AreAllPasses, number, made, opened_with}

@@ -4,7 +4,7 @@ use Rattle.mine_model.specs.declared.item.Item.{Item}
 use Rattle.mine_model.specs.declared.mined.Work.{Work}
 use Rattle.mine_model.specs.Answer.{Data}
 use Rattle.mine_model.specs.Growth.{IsSearchWork}
-use Rattle.mine_model.specs.SearchTree.{label_of, IsAliveLabel}
+use Rattle.mine_model.specs.Pivots.{label_of, IsAliveLabel}
 
 -- the pivots under whose bounds the empty prefix is alive, rising
 pub record AreAlivePivots (d : Data Item) (order : List Item) (pivots : List ℕ) : Type 0 where

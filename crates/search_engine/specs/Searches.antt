@@ -1,9 +1,9 @@
 -- A search by prefixes, and the tree that it walks.
 use Rattle.std.specs.Prelude.{ℕ, List, All}
-use Rattle.mine_model.specs.SearchTree.{SearchTree}
-use Rattle.fst_simulate.specs.declared.part_seed.PartSeed.{PartSeed}
-use Rattle.fst_simulate.specs.Problems.{Problem, IsWhole}
-use Rattle.fst_simulate.specs.Parts.{IsComplete}
+use Rattle.search_tree.specs.SearchTree.{SearchTree}
+use Rattle.mining_job.specs.declared.part_seed.PartSeed.{PartSeed}
+use Rattle.mining_job.specs.Problems.{Problem, IsWhole}
+use Rattle.mining_job.specs.Parts.{IsComplete}
 use Rattle.dfs_growth.specs.Tree.{search_tree}
 
 -- the problem, and the pivots of the roots, where 0 alone stands for a search without pivots

@@ -1,7 +1,7 @@
 -- How the labels stand while a worker runs.
 use Rattle.std.specs.Prelude.{ℕ, List, ◌++◌}
 use Rattle.std.specs.List.{flat_map}
-use Rattle.mine_model.specs.Cover.{Shift}
+use Rattle.search_tree.specs.Cover.{Shift}
 use Rattle.mine_model.specs.Labels.{SameLabels}
 use Rattle.node_pool.specs.declared.seat.Seat.{Seat}
 use Rattle.search_engine.specs.Workers.{BoardPass, IsShift}

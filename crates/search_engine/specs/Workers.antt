@@ -1,9 +1,9 @@
 -- What a worker of a search does with the nodes that it comes by.
 use Rattle.std.specs.Prelude.{◌≡◌, ℕ, ◌≤◌, Option, Some, List, ◌++◌, length}
 use Rattle.mine_model.specs.declared.row.Row.{Row}
-use Rattle.mine_model.specs.Cover.{Shift, IsEven}
+use Rattle.search_tree.specs.Cover.{Shift, IsEven}
 use Rattle.mine_model.specs.Labels.{SameLabels}
-use Rattle.fst_simulate.specs.Problems.{Problem}
+use Rattle.mining_job.specs.Problems.{Problem}
 use Rattle.node_pool.specs.Pool.{seat_ground, given, got}
 use Rattle.node_pool.specs.declared.seat.Seat.{Seat}
 use Rattle.turn_lock.specs.Passes.{IsPassOf, made, opened_with}

@@ -7,8 +7,8 @@ ghost use Rattle.mine_model.specs.Support.{HasFrequency};
 ghost use Rattle.mine_model.specs.Answer.{Data};
 ghost use Rattle.mine_model.specs.Ranks.{Ranking, AreRanks};
 ghost use Rattle.mine_model.specs.Numbered.{AreFrequent};
-ghost use Rattle.mine_model.specs.Cover.{Covers};
-ghost use Rattle.mine_model.specs.SearchTree.{SearchTree, IsSearchTree};
+ghost use Rattle.search_tree.specs.Cover.{Covers};
+ghost use Rattle.search_tree.specs.SearchTree.{SearchTree, IsSearchTree};
 ghost use Rattle.search_engine.specs.Partition.{AreAlivePivots, IsPartitionWork};
 
 /// Over a cover of the trees of the alive pivots the rows are the frequent patterns, each once, where each

@@ -5,14 +5,14 @@ ghost use Rattle.std.specs.List.{AllByRecursion};
 ghost use Rattle.mine_model.specs.declared.row.Row.{Row};
 ghost use Rattle.mine_model.specs.Limits.{most_workers};
 ghost use Rattle.mine_model.specs.Numbered.{AreFrequent};
-ghost use Rattle.fst_simulate.specs.Problems.{data_of};
+ghost use Rattle.mining_job.specs.Problems.{data_of};
 ghost use Rattle.search_engine.specs.Partition.{IsWorkFor};
 
 use super::search::Search;
 use super::workers::posted;
-use fst_simulate::Job;
 use mine_model::{Gate, Mined, NoMemory, Work};
-use pool_schedule::Grow;
+use mining_job::Job;
+use search_tree::Grow;
 use std::alloc::Global;
 use std::sync::Wait;
 use std::thread::Threads;

@@ -1,15 +1,15 @@
 //! The search by prefixes of a job.
 ghost use Rattle.std.specs.Prelude.{◌≡◌, ℕ, ◌≤◌, [], ◌∷◌, map, All, IfOk};
-ghost use Rattle.fst_simulate.specs.declared.part_seed.PartSeed.{PartSeed as Seed};
-ghost use Rattle.fst_simulate.specs.Problems.{Problem, IsWhole, data_of};
-ghost use Rattle.fst_simulate.specs.Parts.{pivot_of, IsComplete};
+ghost use Rattle.mining_job.specs.declared.part_seed.PartSeed.{PartSeed as Seed};
+ghost use Rattle.mining_job.specs.Problems.{Problem, IsWhole, data_of};
+ghost use Rattle.mining_job.specs.Parts.{pivot_of, IsComplete};
 ghost use Rattle.search_engine.specs.Partition.{AreAlivePivots, ArePivotsFor};
 
 use dfs_growth::{Node, expand, roots, whole};
-use fst_simulate::{Job, PartSeed};
-use mine_model::{Grown, NoMemory};
+use mine_model::NoMemory;
+use mining_job::{Job, PartSeed};
 use pivot_partition::{split, split_alone};
-use pool_schedule::Grow;
+use search_tree::{Grow, Grown};
 use snapshot_project::Room;
 use std::alloc::Global;
 use std::marker::Model;
@@ -24,8 +24,8 @@ pub(crate) struct Search<'a> {
 
 impl<'a> Model for Search<'a> {
     ghost use Rattle.std.specs.Prelude.{map};
-    ghost use Rattle.fst_simulate.specs.declared.part_seed.PartSeed.{PartSeed as Seed};
-    ghost use Rattle.fst_simulate.specs.Parts.{pivot_of};
+    ghost use Rattle.mining_job.specs.declared.part_seed.PartSeed.{PartSeed as Seed};
+    ghost use Rattle.mining_job.specs.Parts.{pivot_of};
     ghost use Rattle.search_engine.specs.Searches.{Search, IsSeeded};
 
     ghost Value = { Search };

@@ -4,17 +4,18 @@ ghost use Rattle.std.specs.List.{AllByRecursion, filter_map};
 ghost use Rattle.mine_model.specs.declared.row.Row.{Row};
 ghost use Rattle.mine_model.specs.Limits.{most_workers};
 ghost use Rattle.mine_model.specs.Numbered.{AreFrequent};
-ghost use Rattle.mine_model.specs.SearchTree.{SearchTree, IsSearchTree};
-ghost use Rattle.fst_simulate.specs.Problems.{data_of};
+ghost use Rattle.search_tree.specs.SearchTree.{SearchTree, IsSearchTree};
+ghost use Rattle.mining_job.specs.Problems.{data_of};
 ghost use Rattle.pool_schedule.specs.Schedule.{ArePosted};
 ghost use Rattle.search_engine.specs.Choices.{choices_of};
 ghost use Rattle.search_engine.specs.Partition.{ArePivotsFor, IsWorkFor};
 
 use super::choices::choices;
 use super::search::Search;
-use fst_simulate::Job;
 use mine_model::{Mined, NoMemory, Work};
-use pool_schedule::{Grow, Posted, run_schedule};
+use mining_job::Job;
+use pool_schedule::{Posted, run_schedule};
+use search_tree::Grow;
 use std::alloc::Global;
 
 /// The frequent patterns of a job with their supports, each once, and the work of a search of so many

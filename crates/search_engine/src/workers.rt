@@ -1,6 +1,6 @@
 //! Several workers, each in a thread of its own.
 ghost use Rattle.std.specs.Prelude.{◌≡◌, ℕ, ◌≤◌, List, [], ◌∷◌, ◌++◌, All, map, length, IfOk, OnOk, vec_len};
-ghost use Rattle.mine_model.specs.Cover.{Covers};
+ghost use Rattle.search_tree.specs.Cover.{Covers};
 ghost use Rattle.mine_model.specs.Limits.{most_workers};
 ghost use Rattle.turn_lock.specs.Passes.{IsPassOf, number, made};
 ghost use Rattle.result_board.specs.Board.{labels_of, HasRow};
@@ -14,11 +14,11 @@ use super::hand::Hand;
 use super::seats::put_all;
 use super::steer::Steer;
 use super::working::{grow, work};
-use fst_simulate::Job;
 use mine_model::{Gate, NoMemory};
+use mining_job::Job;
 use node_pool::{Seat, Task, finish, open};
-use pool_schedule::Grow;
 use result_board::Board;
+use search_tree::Grow;
 use std::alloc::Global;
 use std::sync::Wait;
 use std::thread;

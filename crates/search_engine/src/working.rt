@@ -8,10 +8,10 @@ ghost use Rattle.search_engine.specs.Workers.{IsManned, IsRun, AreTasks, IsBoard
 
 use super::seats::{next_task, put_all};
 use super::steer::Steer;
-use mine_model::{Gate, Grown, NoMemory};
+use mine_model::{Gate, NoMemory};
 use node_pool::{Seat, Task};
-use pool_schedule::Grow;
 use result_board::{Board, Post};
+use search_tree::{Grow, Grown};
 use std::alloc::Global;
 use std::sync::Wait;
 use turn_lock::{Pass, TurnLock};

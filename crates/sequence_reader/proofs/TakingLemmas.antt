@@ -7,9 +7,9 @@ use Rattle.mine_model.specs.declared.item.Item.{Item}
 use Rattle.mine_model.specs.declared.fault.Fault.{Fault}
 use Rattle.mine_model.specs.declared.fault.Fault.TheVariants as fault
 use Rattle.mine_model.specs.declared.fault.Which.TheVariants.{Sequences}
-use Rattle.mine_model.specs.declared.sequence_fault.SequenceFault.{SequenceFault}
-use Rattle.mine_model.specs.declared.sequence_fault.SequenceFault.TheVariants.{ReadFault, TooLarge, BadByte, NameTooLong, TooManySequences, BadWeight, TooLong, TooManyItems, NoMemory}
-use Rattle.mine_model.specs.Faults.{fault_of_sequences}
+use Rattle.sequence_reader.specs.declared.sequence_fault.SequenceFault.{SequenceFault}
+use Rattle.sequence_reader.specs.declared.sequence_fault.SequenceFault.TheVariants.{ReadFault, TooLarge, BadByte, NameTooLong, TooManySequences, BadWeight, TooLong, TooManyItems, NoMemory}
+use Rattle.sequence_reader.specs.Faults.{fault_of_sequences}
 use Rattle.mine_model.specs.First.{FirstAmong}
 use Rattle.mine_model.specs.Limits.{most_file_bytes, most_items}
 use Rattle.mine_model.specs.Text.{lines_of, fields_of, placed_fields_of, bad_byte, long_name, IsSoundLine}
@@ -17,7 +17,7 @@ use Rattle.mine_model.specs.Support.{Sequence}
 use Rattle.mine_model.specs.Names.{name_of, HasName, sequence_by, GrowBy}
 use Rattle.mine_model.specs.Refusal.{HasMoreNames, sequence_of, sequences_of_lines, items_of, IsBadWeight, IsSequenceLineRefusal, IsSequencesRefusal}
 use Rattle.mine_model.proofs.ListLemmas.{of_both}
-use Rattle.mine_model.proofs.RefusalLemmas.{no_text_fault}
+use Rattle.mine_model.proofs.TextLemmas.{no_text_fault}
 use Rattle.mine_model.proofs.NameLemmas.{GrowBy-none, GrowBy-more, no_more_names}
 use Rattle.item_names.proofs.Growing.{HasMoreNames-grown}
 use Rattle.text_ports.specs.Lines.{WasGiven, TookAll, StoppedAt, Refused}

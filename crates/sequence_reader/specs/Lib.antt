@@ -1,2 +1,3 @@
 -- what the proofs keep
 pub mod Taking
+pub mod Faults

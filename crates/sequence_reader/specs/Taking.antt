@@ -2,8 +2,8 @@
 use Rattle.std.specs.Prelude.{◌≡◌, ℕ, ◌≤◌, ◌<◌, Bool, List, [], ◌∷◌, ◌++◌, map, length}
 use Rattle.std.specs.List.{AllByRecursion}
 use Rattle.mine_model.specs.declared.item.Item.{Item}
-use Rattle.mine_model.specs.declared.sequence_fault.SequenceFault.{SequenceFault}
-use Rattle.mine_model.specs.declared.sequence_fault.SequenceFault.TheVariants.{ReadFault, TooLarge, BadByte, NameTooLong, TooManySequences, BadWeight, TooLong, TooManyItems, NoMemory}
+use Rattle.sequence_reader.specs.declared.sequence_fault.SequenceFault.{SequenceFault}
+use Rattle.sequence_reader.specs.declared.sequence_fault.SequenceFault.TheVariants.{ReadFault, TooLarge, BadByte, NameTooLong, TooManySequences, BadWeight, TooLong, TooManyItems, NoMemory}
 use Rattle.mine_model.specs.Limits.{most_sequences, most_length, most_items}
 use Rattle.mine_model.specs.Text.{fields_of, placed_fields_of, IsSoundLine}
 use Rattle.mine_model.specs.Support.{Sequence}

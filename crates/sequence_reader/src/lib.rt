@@ -2,9 +2,11 @@
 #![tactic(auto)]
 
 mod reading;
+mod sequence_fault;
 mod weighing;
 
 pub use reading::read;
+pub use sequence_fault::SequenceFault;
 
 #[cfg(test)]
 mod tests;

@@ -2,7 +2,7 @@ ghost use Rattle.std.specs.Prelude.{◌≡◌, ◌≢◌, ℕ, ◌≤◌, List, 
 ghost use Rattle.std.specs.List.{AllByRecursion};
 ghost use Rattle.mine_model.specs.declared.fault.Fault.{Fault};
 ghost use Rattle.mine_model.specs.Limits.{most_items};
-ghost use Rattle.mine_model.specs.Faults.{fault_of_sequences};
+ghost use Rattle.sequence_reader.specs.Faults.{fault_of_sequences};
 ghost use Rattle.mine_model.specs.Names.{name_of, HasName, sequence_by, GrowBy};
 ghost use Rattle.mine_model.specs.Refusal.{sequences_of, items_of, IsSequencesRefusal};
 ghost use Rattle.mine_model.specs.Text.{lines_of};
@@ -10,9 +10,10 @@ ghost use Rattle.text_ports.specs.Faults.{Rose};
 ghost use Rattle.text_ports.specs.Lines.{OfBytes};
 ghost use Rattle.sequence_reader.specs.Taking.{TookLine, RefusedLine, IsTaken};
 
+use super::sequence_fault::SequenceFault;
 use super::weighing::weigh;
-use item_names::{MOST_NAMES, Names};
-use mine_model::{Db, Item, NamesFault, SequenceFault};
+use item_names::{MOST_NAMES, Names, NamesFault};
+use mine_model::{Db, Item};
 use std::alloc::Global;
 use std::mem;
 use text_ports::{Files, LineVisitor, Span, TextFault, read_lines};

@@ -1,8 +1,9 @@
 ghost use Rattle.std.specs.Prelude.{◌<◌};
 
+use super::sequence_fault::SequenceFault;
 use super::*;
 use item_names::Names;
-use mine_model::{Db, Item, SequenceFault};
+use mine_model::{Db, Item};
 use std::alloc::{AllocError, Global};
 use std::process::Abort;
 use std::test::Fail;

@@ -1,7 +1,7 @@
 //! The weight of a line.
 
 ghost use Rattle.std.specs.Prelude.{◌≡◌, ℕ, ◌≤◌, Err, length, All, IfOk, OnOk, MatchOption};
-ghost use Rattle.mine_model.specs.declared.sequence_fault.SequenceFault.TheVariants.{BadWeight};
+ghost use Rattle.sequence_reader.specs.declared.sequence_fault.SequenceFault.TheVariants.{BadWeight};
 ghost use Rattle.mine_model.specs.Limits.{most_weight};
 ghost use Rattle.mine_model.specs.Text.{fields_of, placed_fields_of};
 ghost use Rattle.std.specs.Char.{is_ascii_digit};
@@ -10,7 +10,7 @@ ghost use Rattle.mine_model.specs.Refusal.{IsWeight, IsBadWeight, sequence_of};
 ghost use Rattle.text_ports.specs.Lines.{AreFields, IsWithin};
 ghost use Rattle.item_names.specs.Fields.{texts_at};
 
-use mine_model::SequenceFault;
+use super::sequence_fault::SequenceFault;
 use text_ports::Span;
 
 /// The greatest weight.

@@ -7,8 +7,8 @@ use Rattle.mine_model.specs.declared.item.Item.{Item}
 use Rattle.mine_model.specs.Database.{sequence_at}
 use Rattle.mine_model.specs.Support.{Counts}
 use Rattle.mine_model.proofs.ElementLemmas.{get-held}
-use Rattle.fst_simulate.specs.Problems.{items_of}
-use Rattle.fst_simulate.specs.Grids.{GridList, items_at}
+use Rattle.mining_job.specs.Problems.{items_of}
+use Rattle.sequence_grids.specs.Grids.{GridList, items_at}
 use Rattle.snapshot_project.specs.declared.snapshot.Snapshot.{Snapshot}
 use Rattle.snapshot_project.specs.declared.grouping.Group.{Group}
 use Rattle.snapshot_project.specs.declared.hit.Hit.{Hit}

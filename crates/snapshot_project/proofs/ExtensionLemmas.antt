@@ -6,12 +6,12 @@ use Rattle.mine_model.specs.Generation.{IsPatternOf}
 use Rattle.mine_model.specs.Growth.{HasPatternBehind}
 use Rattle.mine_model.specs.Numbered.{tree_of}
 use Rattle.mine_model.specs.Ranks.{Ranking, HasRank, AreRanked}
-use Rattle.mine_model.specs.SearchTree.{IsWithin}
+use Rattle.mine_model.specs.Pivots.{IsWithin}
 use Rattle.mine_model.proofs.ListLemmas.{front_of_both, back_of_both, of_both}
 use Rattle.mine_model.proofs.RankedLemmas.{item_rank, ranked-same, ranked-push, ranked-split}
-use Rattle.fst_simulate.specs.declared.bound.Bound.{Bound}
-use Rattle.fst_simulate.specs.Problems.{IsWhole, data_of}
-use Rattle.fst_simulate.specs.Grids.{GridList, IsAllowed, HoldsNeeded, Ends}
+use Rattle.mining_job.specs.declared.bound.Bound.{Bound}
+use Rattle.mining_job.specs.Problems.{IsWhole, data_of}
+use Rattle.sequence_grids.specs.Grids.{GridList, IsAllowed, HoldsNeeded, Ends}
 use Rattle.snapshot_project.specs.Snapshots.{HasSnapshot}
 use Rattle.snapshot_project.specs.Extensions.{GrowsBehind, GeneratesWithin}
 use Rattle.snapshot_project.specs.Live.{WritesNext, EndsNext}

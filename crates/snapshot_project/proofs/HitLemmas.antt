@@ -9,8 +9,8 @@ use Rattle.std.proofs.lemmas.List.Elements.{Contains-append_left, Contains-appen
 use Rattle.std.proofs.lemmas.Option.{same_Some}
 use Rattle.state_bits.specs.Members.{Has, HasBit}
 use Rattle.mine_model.proofs.ListLemmas.{AllPairs-append, AllPairs-head, AllPairs-tail, Contains-cases, Contains-first, Contains-none, Contains-by, Contains-from}
-use Rattle.fst_simulate.specs.declared.reading.Reading.{Reading}
-use Rattle.fst_simulate.specs.Readings.{outputs_at}
+use Rattle.sequence_grids.specs.declared.reading.Reading.{Reading}
+use Rattle.sequence_grids.specs.Readings.{outputs_at}
 use Rattle.snapshot_project.specs.declared.hit.Hit.{Hit}
 use Rattle.snapshot_project.specs.declared.aim.Aim.{Aim}
 use Rattle.snapshot_project.specs.Aims.{sees, sees_all, goes}

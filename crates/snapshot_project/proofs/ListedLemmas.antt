@@ -11,8 +11,8 @@ use Rattle.mine_model.proofs.ElementLemmas.{get-some, get-held}
 use Rattle.mine_model.proofs.FrequencyLemmas.{Counts-none}
 use Rattle.mine_model.proofs.ListLemmas.{of_both, Contains-none}
 use Rattle.mine_model.proofs.RankedLemmas.{ranked-push}
-use Rattle.fst_simulate.specs.Problems.{IsWhole, items_of}
-use Rattle.fst_simulate.specs.Grids.{GridList, HoldsNeeded, Completes, Ends}
+use Rattle.mining_job.specs.Problems.{IsWhole, items_of}
+use Rattle.sequence_grids.specs.Grids.{GridList, HoldsNeeded, Completes, Ends}
 use Rattle.snapshot_project.specs.declared.snapshot.Snapshot.{Snapshot}
 use Rattle.snapshot_project.specs.declared.hit.Hit.{Hit}
 use Rattle.snapshot_project.specs.Aims.{sees, goes}

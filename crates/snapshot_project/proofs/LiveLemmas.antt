@@ -6,11 +6,11 @@ use Rattle.std.proofs.lemmas.Option.{get_or_from_slice_get, slice_get_within, sa
 use Rattle.state_bits.specs.Members.{Has}
 use Rattle.mine_model.specs.declared.item.Item.{Item}
 use Rattle.mine_model.specs.Ranks.{HasRank}
-use Rattle.fst_simulate.specs.declared.bound.Bound.{Bound}
-use Rattle.fst_simulate.specs.Problems.{Problem, IsWhole}
-use Rattle.fst_simulate.specs.Grids.{IsAllowed, HoldsNeeded, Reads}
-use Rattle.fst_simulate.proofs.KindLemmas.{nil-not-cons}
-use Rattle.fst_simulate.proofs.GridLemmas.{item_there}
+use Rattle.mining_job.specs.declared.bound.Bound.{Bound}
+use Rattle.mining_job.specs.Problems.{Problem, IsWhole}
+use Rattle.sequence_grids.specs.Grids.{IsAllowed, HoldsNeeded, Reads}
+use Rattle.sequence_grids.proofs.KindLemmas.{nil-not-cons}
+use Rattle.sequence_grids.proofs.GridLemmas.{item_there}
 use Rattle.snapshot_project.specs.Runs.{IsStep, IsRun}
 use Rattle.snapshot_project.specs.Snapshots.{CompletesBehind, IsSnapshotAt, HasSnapshot}
 use Rattle.snapshot_project.specs.Live.{IsLiveAt, IsLive, GoesOn, WritesNext}

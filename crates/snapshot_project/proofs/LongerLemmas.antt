@@ -4,8 +4,8 @@ use Rattle.std.specs.List.{Contains, slice_get, slice_index, slice_range}
 use Rattle.std.proofs.lemmas.Option.{slice_get_within, same_Some}
 use Rattle.mine_model.specs.declared.item.Item.{Item}
 use Rattle.mine_model.proofs.ElementLemmas.{get-some, get-held}
-use Rattle.fst_simulate.specs.Problems.{items_of}
-use Rattle.fst_simulate.specs.Grids.{GridList, items_at}
+use Rattle.mining_job.specs.Problems.{items_of}
+use Rattle.sequence_grids.specs.Grids.{GridList, items_at}
 use Rattle.snapshot_project.specs.declared.hit.Hit.{Hit}
 use Rattle.snapshot_project.specs.declared.next_rank.NextRank.{NextRank}
 use Rattle.snapshot_project.specs.declared.snapshot.Snapshot.{Snapshot}

@@ -8,15 +8,15 @@ use Rattle.std.proofs.lemmas.List.Elements.{Contains-append_left, Contains-appen
 use Rattle.std.proofs.lemmas.Option.{same_Some}
 use Rattle.mine_model.specs.declared.item.Item.{Item}
 use Rattle.mine_model.specs.Ranks.{Ranking, HasRank}
-use Rattle.mine_model.specs.SearchTree.{HoldsRank}
+use Rattle.mine_model.specs.Pivots.{HoldsRank}
 use Rattle.mine_model.proofs.ListLemmas.{Contains-cases, Contains-first, Contains-other, Contains-none}
 use Rattle.mine_model.proofs.RankedLemmas.{item_rank}
 use Rattle.mine_model.proofs.ApartLemmas.{item_eq, item_eq-Decides}
-use Rattle.fst_simulate.specs.declared.bound.Bound.{Bound}
-use Rattle.fst_simulate.specs.Problems.{Problem, IsWhole}
-use Rattle.fst_simulate.specs.Grids.{IsNeeded, HoldsNeeded, Completes}
-use Rattle.fst_simulate.specs.Kinds.{IsNeededRank}
-use Rattle.fst_simulate.proofs.GridLemmas.{both_ways}
+use Rattle.mining_job.specs.declared.bound.Bound.{Bound}
+use Rattle.mining_job.specs.Problems.{Problem, IsWhole}
+use Rattle.sequence_grids.specs.Grids.{IsNeeded, HoldsNeeded, Completes}
+use Rattle.sequence_grids.specs.Kinds.{IsNeededRank}
+use Rattle.sequence_grids.proofs.GridLemmas.{both_ways}
 use Rattle.snapshot_project.specs.Snapshots.{CompletesBehind}
 use Rattle.snapshot_project.specs.Live.{HoldsNeededWith, CompletesWith}
 

@@ -1,7 +1,7 @@
 -- From weights by rank to the ranks that can follow.
 use Rattle.std.proofs.Common.{ℕ, ◌≤◌, ◌≡◌, ◌∙◌, false, List, [], ◌∷◌, ◌++◌, subst}
 use Rattle.mine_model.proofs.AliveLemmas.{WeighAtLeast-counted}
-use Rattle.fst_simulate.specs.Grids.{GridList}
+use Rattle.sequence_grids.specs.Grids.{GridList}
 use Rattle.snapshot_project.specs.declared.counting.Sum.{Sum}
 use Rattle.snapshot_project.specs.declared.next_rank.NextRank.{NextRank}
 use Rattle.snapshot_project.specs.Extensions.{GrowsBehind, CanFollow, IsSupportOf, NothingFollows, AreNextRanks, sequences_of}

@@ -6,9 +6,9 @@ use Rattle.mine_model.specs.declared.item.Item.{Item}
 use Rattle.mine_model.specs.Ranks.{Ranking, HasRank}
 use Rattle.mine_model.proofs.ListLemmas.{Contains-first}
 use Rattle.fst_compile.specs.Transducer.{Leads}
-use Rattle.fst_simulate.specs.declared.bound.Bound.{Bound}
-use Rattle.fst_simulate.specs.Problems.{Problem, IsWhole}
-use Rattle.fst_simulate.specs.Grids.{HoldsNeeded, Completes, Reads, WritesRank}
+use Rattle.mining_job.specs.declared.bound.Bound.{Bound}
+use Rattle.mining_job.specs.Problems.{Problem, IsWhole}
+use Rattle.sequence_grids.specs.Grids.{HoldsNeeded, Completes, Reads, WritesRank}
 use Rattle.snapshot_project.specs.Aims.{goes}
 use Rattle.snapshot_project.specs.Runs.{IsRun}
 use Rattle.snapshot_project.specs.Snapshots.{CompletesBehind, HasSnapshot, WritesOn}

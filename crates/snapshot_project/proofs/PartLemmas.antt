@@ -6,11 +6,11 @@ use Rattle.std.proofs.lemmas.Option.{slice_get-get_or}
 use Rattle.mine_model.specs.Limits.{most_sequences}
 use Rattle.mine_model.proofs.ElementLemmas.{get-held}
 use Rattle.mine_model.proofs.ListLemmas.{AllByRecursion-contained}
-use Rattle.fst_simulate.specs.declared.bound.Bound.{Bound}
-use Rattle.fst_simulate.specs.declared.successors.Successors.{Successors}
-use Rattle.fst_simulate.specs.Problems.{Problem, IsWhole}
-use Rattle.fst_simulate.specs.Grids.{GridList}
-use Rattle.fst_simulate.specs.Successors.{AreSuccessorsOf}
+use Rattle.mining_job.specs.declared.bound.Bound.{Bound}
+use Rattle.sequence_grids.specs.declared.successors.Successors.{Successors}
+use Rattle.mining_job.specs.Problems.{Problem, IsWhole}
+use Rattle.sequence_grids.specs.Grids.{GridList}
+use Rattle.sequence_grids.specs.Successors.{AreSuccessorsOf}
 use Rattle.snapshot_project.specs.Snapshots.{bound_of}
 use Rattle.snapshot_project.specs.Parts.{IsKept}
 

@@ -6,8 +6,8 @@ use Rattle.std.proofs.lemmas.List.{get_or-take, get_or-drop, length-take-le, len
 use Rattle.std.proofs.lemmas.Option.{get_or_from_slice_get, slice_get_within, slice_get-get_or, same_Some}
 use Rattle.mine_model.specs.declared.item.Item.{Item}
 use Rattle.mine_model.proofs.ElementLemmas.{get-some, get-held}
-use Rattle.fst_simulate.specs.Problems.{items_of}
-use Rattle.fst_simulate.specs.Grids.{GridList, HoldsNeeded, items_at}
+use Rattle.mining_job.specs.Problems.{items_of}
+use Rattle.sequence_grids.specs.Grids.{GridList, HoldsNeeded, items_at}
 use Rattle.snapshot_project.specs.declared.snapshot.Snapshot.{Snapshot}
 use Rattle.snapshot_project.specs.declared.grouping.Group.{Group}
 use Rattle.snapshot_project.specs.Snapshots.{IsPart, HasSnapshot, WritesOn}

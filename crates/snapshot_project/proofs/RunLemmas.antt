@@ -5,10 +5,10 @@ use Rattle.state_bits.specs.Members.{Has}
 use Rattle.mine_model.specs.declared.item.Item.{Item}
 use Rattle.mine_model.specs.Numbered.{leaf_of}
 use Rattle.fst_compile.specs.Transducer.{IsPath, Leads}
-use Rattle.fst_simulate.specs.Problems.{Problem, IsWhole}
-use Rattle.fst_simulate.specs.Grids.{Reads}
-use Rattle.fst_simulate.proofs.KindLemmas.{nil-not-cons}
-use Rattle.fst_simulate.proofs.PathLemmas.{reads-edge, writes-cases, target-of}
+use Rattle.mining_job.specs.Problems.{Problem, IsWhole}
+use Rattle.sequence_grids.specs.Grids.{Reads}
+use Rattle.sequence_grids.proofs.KindLemmas.{nil-not-cons}
+use Rattle.sequence_grids.proofs.PathLemmas.{reads-edge, writes-cases, target-of}
 use Rattle.snapshot_project.specs.Runs.{IsStep, Runs, IsRun}
 
 module _ (problem : Problem) where

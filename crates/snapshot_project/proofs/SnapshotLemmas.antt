@@ -8,13 +8,13 @@ use Rattle.mine_model.specs.declared.item.Item.{Item}
 use Rattle.mine_model.specs.Numbered.{tree_of}
 use Rattle.mine_model.specs.Generation.{IsPatternOf}
 use Rattle.mine_model.specs.Growth.{HasPatternBehind}
-use Rattle.mine_model.specs.SearchTree.{IsWithin}
+use Rattle.mine_model.specs.Pivots.{IsWithin}
 use Rattle.mine_model.proofs.ListLemmas.{back_of_both, of_both}
 use Rattle.fst_compile.specs.Transducer.{IsPath}
-use Rattle.fst_simulate.specs.declared.bound.Bound.{Bound}
-use Rattle.fst_simulate.specs.Problems.{Problem, IsWhole, data_of}
-use Rattle.fst_simulate.specs.Grids.{IsAllowed, HoldsNeeded, Completes, Ends}
-use Rattle.fst_simulate.proofs.KindLemmas.{nil-not-cons}
+use Rattle.mining_job.specs.declared.bound.Bound.{Bound}
+use Rattle.mining_job.specs.Problems.{Problem, IsWhole, data_of}
+use Rattle.sequence_grids.specs.Grids.{IsAllowed, HoldsNeeded, Completes, Ends}
+use Rattle.sequence_grids.proofs.KindLemmas.{nil-not-cons}
 use Rattle.snapshot_project.specs.Runs.{Runs, IsRun}
 use Rattle.snapshot_project.specs.Snapshots.{IsReached, CompletesBehind, IsSnapshotAt, HasSnapshot, WritesOn}
 use Rattle.snapshot_project.proofs.RunLemmas.{step-state, step-run, path-runs, runs-path, runs-join, runs-cut_behind}

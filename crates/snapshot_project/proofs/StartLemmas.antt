@@ -2,8 +2,8 @@
 use Rattle.std.proofs.Common.{◌≡◌, ℕ, ◌+◌, ◌≤◌, inl, inr, false, Some, List, [], ◌∷◌, ◌++◌, length, sym, ap, ◌∙◌, subst, arith}
 use Rattle.std.specs.List.{Contains, slice_get}
 use Rattle.mine_model.proofs.ListLemmas.{Contains-none, Contains-cases, Contains-first}
-use Rattle.fst_simulate.specs.Problems.{items_of}
-use Rattle.fst_simulate.specs.Grids.{GridList, Completes}
+use Rattle.mining_job.specs.Problems.{items_of}
+use Rattle.sequence_grids.specs.Grids.{GridList, Completes}
 use Rattle.snapshot_project.specs.declared.snapshot.Snapshot.{Snapshot}
 use Rattle.snapshot_project.specs.Snapshots.{IsPart, SnapshotList, AreSnapshots}
 use Rattle.snapshot_project.proofs.FoundLemmas.{AreFoundBefore, found-more, found-all}

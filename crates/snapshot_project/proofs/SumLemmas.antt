@@ -9,8 +9,8 @@ use Rattle.mine_model.specs.Database.{sequence_at}
 use Rattle.mine_model.specs.Support.{Counts}
 use Rattle.mine_model.proofs.ElementLemmas.{get-some}
 use Rattle.mine_model.proofs.FrequencyLemmas.{Counts-append}
-use Rattle.fst_simulate.specs.Problems.{items_of}
-use Rattle.fst_simulate.specs.Grids.{GridList}
+use Rattle.mining_job.specs.Problems.{items_of}
+use Rattle.sequence_grids.specs.Grids.{GridList}
 use Rattle.snapshot_project.specs.Extensions.{sequences_of}
 use Rattle.snapshot_project.specs.Live.{sequences_before}
 

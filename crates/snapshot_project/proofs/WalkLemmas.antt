@@ -8,11 +8,11 @@ use Rattle.mine_model.proofs.ListLemmas.{Contains-none}
 use Rattle.state_bits.specs.Members.{Has}
 use Rattle.mine_model.specs.declared.item.Item.{Item}
 use Rattle.mine_model.specs.Ranks.{Ranking}
-use Rattle.fst_simulate.specs.declared.bound.Bound.{Bound}
-use Rattle.fst_simulate.specs.Problems.{Problem, IsWhole}
-use Rattle.fst_simulate.specs.Grids.{HoldsNeeded, Completes, Reads, WritesRank}
-use Rattle.fst_simulate.specs.Kinds.{IsNeededRank}
-use Rattle.fst_simulate.specs.Successors.{LeadsFrom}
+use Rattle.mining_job.specs.declared.bound.Bound.{Bound}
+use Rattle.mining_job.specs.Problems.{Problem, IsWhole}
+use Rattle.sequence_grids.specs.Grids.{HoldsNeeded, Completes, Reads, WritesRank}
+use Rattle.sequence_grids.specs.Kinds.{IsNeededRank}
+use Rattle.sequence_grids.specs.Successors.{LeadsFrom}
 use Rattle.snapshot_project.specs.declared.snapshot.Snapshot.{Snapshot}
 use Rattle.snapshot_project.specs.declared.hit.Hit.{Hit}
 use Rattle.snapshot_project.specs.Snapshots.{HasSnapshot, WritesOn}

@@ -7,10 +7,10 @@ use Rattle.state_bits.specs.Members.{Has}
 use Rattle.fst_compile.proofs.RowLemmas.{Has-none}
 use Rattle.mine_model.specs.declared.item.Item.{Item}
 use Rattle.mine_model.proofs.ElementLemmas.{get-held}
-use Rattle.fst_simulate.specs.declared.bound.Bound.{Bound}
-use Rattle.fst_simulate.specs.Problems.{Problem, IsWhole}
-use Rattle.fst_simulate.specs.Grids.{Completes, Reads}
-use Rattle.fst_simulate.specs.Successors.{LeadsFrom}
+use Rattle.mining_job.specs.declared.bound.Bound.{Bound}
+use Rattle.mining_job.specs.Problems.{Problem, IsWhole}
+use Rattle.sequence_grids.specs.Grids.{Completes, Reads}
+use Rattle.sequence_grids.specs.Successors.{LeadsFrom}
 use Rattle.snapshot_project.specs.declared.snapshot.Snapshot.{Snapshot}
 use Rattle.snapshot_project.specs.declared.hit.Hit.{Hit}
 use Rattle.snapshot_project.specs.Aims.{goes}

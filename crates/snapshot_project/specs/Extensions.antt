@@ -7,9 +7,9 @@ use Rattle.mine_model.specs.Generation.{IsPatternOf}
 use Rattle.mine_model.specs.Support.{Sequence, Counts}
 use Rattle.mine_model.specs.Growth.{WeighAtLeast, HasPatternBehind}
 use Rattle.mine_model.specs.Ranks.{AreRanked}
-use Rattle.mine_model.specs.SearchTree.{IsWithin}
-use Rattle.fst_simulate.specs.Problems.{data_of, items_of}
-use Rattle.fst_simulate.specs.Grids.{GridList}
+use Rattle.mine_model.specs.Pivots.{IsWithin}
+use Rattle.mining_job.specs.Problems.{data_of, items_of}
+use Rattle.sequence_grids.specs.Grids.{GridList}
 use Rattle.snapshot_project.specs.declared.next_rank.NextRank.{NextRank}
 
 -- the sequences of the part, with their weights

@@ -1,6 +1,6 @@
 -- The snapshots of one sequence after another, and how far a list of them was gone over.
 use Rattle.std.specs.Prelude.{◌≡◌, ◌≢◌, ℕ, ◌≤◌, ◌<◌, Some, List, length, slice_get}
-use Rattle.fst_simulate.specs.Grids.{GridList}
+use Rattle.sequence_grids.specs.Grids.{GridList}
 use Rattle.snapshot_project.specs.declared.snapshot.Snapshot.{Snapshot}
 use Rattle.snapshot_project.specs.declared.grouping.Group.{Group}
 

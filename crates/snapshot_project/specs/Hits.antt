@@ -2,12 +2,12 @@
 use Rattle.std.specs.Prelude.{◌≡◌, ◌≢◌, ℕ, ◌+◌, ◌^◌, ◌≤◌, ◌<◌, Bool, true, false, ◌⊎◌, ◌↔◌, IsTrue, ◌&&◌, ◌||◌, Option, Some, List, length, drop, AllPairs, Contains}
 use Rattle.state_bits.specs.Members.{Has, HasBit}
 use Rattle.mine_model.specs.declared.item.Item.{Item}
-use Rattle.fst_simulate.specs.declared.bound.Bound.{Bound}
-use Rattle.fst_simulate.specs.declared.reading.Reading.{Reading}
-use Rattle.fst_simulate.specs.Problems.{Problem}
-use Rattle.fst_simulate.specs.Grids.{Completes, Ends, WritesRank}
-use Rattle.fst_simulate.specs.Readings.{HasOutputs, outputs_at}
-use Rattle.fst_simulate.specs.Successors.{LeadsFrom}
+use Rattle.mining_job.specs.declared.bound.Bound.{Bound}
+use Rattle.sequence_grids.specs.declared.reading.Reading.{Reading}
+use Rattle.mining_job.specs.Problems.{Problem}
+use Rattle.sequence_grids.specs.Grids.{Completes, Ends, WritesRank}
+use Rattle.sequence_grids.specs.Readings.{HasOutputs, outputs_at}
+use Rattle.sequence_grids.specs.Successors.{LeadsFrom}
 use Rattle.snapshot_project.specs.declared.hit.Hit.{Hit}
 use Rattle.snapshot_project.specs.declared.aim.Aim.{Aim}
 use Rattle.snapshot_project.specs.Aims.{sees, sees_all, goes}

@@ -4,10 +4,10 @@ use Rattle.mine_model.specs.declared.item.Item.{Item}
 use Rattle.mine_model.specs.Database.{sequence_at}
 use Rattle.mine_model.specs.Support.{Sequence}
 use Rattle.fst_compile.specs.Transducer.{Leads}
-use Rattle.fst_simulate.specs.declared.bound.Bound.{Bound}
-use Rattle.fst_simulate.specs.Problems.{Problem}
-use Rattle.fst_simulate.specs.Grids.{GridList, HoldsNeeded, Completes, Ends, Reads, WritesRank}
-use Rattle.fst_simulate.specs.Kinds.{IsNeededRank}
+use Rattle.mining_job.specs.declared.bound.Bound.{Bound}
+use Rattle.mining_job.specs.Problems.{Problem}
+use Rattle.sequence_grids.specs.Grids.{GridList, HoldsNeeded, Completes, Ends, Reads, WritesRank}
+use Rattle.sequence_grids.specs.Kinds.{IsNeededRank}
 use Rattle.snapshot_project.specs.declared.snapshot.Snapshot.{Snapshot}
 use Rattle.snapshot_project.specs.Runs.{IsRun}
 use Rattle.snapshot_project.specs.Snapshots.{CompletesBehind, IsSnapshotAt, IsSnapshotOf, IsOpen, ComesBefore}

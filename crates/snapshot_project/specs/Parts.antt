@@ -1,11 +1,11 @@
 -- What a part keeps beside its grids.
 use Rattle.std.specs.Prelude.{◌≡◌, ◌≤◌, length}
 use Rattle.mine_model.specs.Limits.{most_sequences}
-use Rattle.fst_simulate.specs.declared.bound.Bound.{Bound}
-use Rattle.fst_simulate.specs.declared.successors.Successors.{Successors}
-use Rattle.fst_simulate.specs.Problems.{Problem}
-use Rattle.fst_simulate.specs.Grids.{GridList}
-use Rattle.fst_simulate.specs.Successors.{AreSuccessorsOf}
+use Rattle.mining_job.specs.declared.bound.Bound.{Bound}
+use Rattle.sequence_grids.specs.declared.successors.Successors.{Successors}
+use Rattle.mining_job.specs.Problems.{Problem}
+use Rattle.sequence_grids.specs.Grids.{GridList}
+use Rattle.sequence_grids.specs.Successors.{AreSuccessorsOf}
 use Rattle.snapshot_project.specs.Snapshots.{IsPart}
 
 -- the grids are a part of the job, under the bound that is kept

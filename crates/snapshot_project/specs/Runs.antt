@@ -5,7 +5,7 @@ use Rattle.mine_model.specs.Numbered.{leaf_of}
 use Rattle.mine_model.specs.Generation.{Matches, WritesAt}
 use Rattle.fst_compile.specs.declared.edge.Edge.{Edge}
 use Rattle.fst_compile.specs.Transducer.{edges_from}
-use Rattle.fst_simulate.specs.Problems.{Problem}
+use Rattle.mining_job.specs.Problems.{Problem}
 
 -- an edge leads from one state to the other, reads t and writes the output
 abbrev pub IsStep : Problem → ℕ → Item → List Item → ℕ → Type 0

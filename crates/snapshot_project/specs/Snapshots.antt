@@ -4,9 +4,9 @@ use Rattle.std.specs.List.{AllByRecursion}
 use Rattle.mine_model.specs.declared.item.Item.{Item}
 use Rattle.mine_model.specs.Ranks.{AreRanked}
 use Rattle.fst_compile.specs.Transducer.{IsPath}
-use Rattle.fst_simulate.specs.declared.bound.Bound.{Bound}
-use Rattle.fst_simulate.specs.Problems.{Problem, IsWhole, items_of}
-use Rattle.fst_simulate.specs.Grids.{GridList, Completes, IsAllowed, HoldsNeeded}
+use Rattle.mining_job.specs.declared.bound.Bound.{Bound}
+use Rattle.mining_job.specs.Problems.{Problem, IsWhole, items_of}
+use Rattle.sequence_grids.specs.Grids.{GridList, Completes, IsAllowed, HoldsNeeded}
 use Rattle.snapshot_project.specs.declared.snapshot.Snapshot.{Snapshot}
 use Rattle.snapshot_project.specs.Runs.{IsRun, IsStep}
 use Rattle.snapshot_project.specs.Extensions.{IsSupportOf}

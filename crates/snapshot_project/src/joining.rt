@@ -2,7 +2,7 @@
 
 ghost use Rattle.std.specs.Prelude.{◌≡◌, ℕ, ◌-◌, ◌*◌, ◌≤◌, ◌<◌, ◌⊎◌, ◌↔◌, length, Some, IfSome, IfNone, slice_get};
 ghost use Rattle.state_bits.specs.Members.{Has};
-ghost use Rattle.fst_simulate.specs.Grids.{Completes, items_at, rest_at};
+ghost use Rattle.sequence_grids.specs.Grids.{Completes, items_at, rest_at};
 ghost use Rattle.snapshot_project.specs.declared.snapshot.Snapshot.{Snapshot as Taken};
 ghost use Rattle.snapshot_project.specs.Joins.{Joins, StandAt};
 

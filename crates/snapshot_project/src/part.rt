@@ -2,12 +2,13 @@ ghost use Rattle.std.specs.Prelude.{◌≡◌, ◌+◌, ◌≤◌, ◌<◌, leng
 ghost use Rattle.std.specs.List.{AllByRecursion};
 ghost use Rattle.mine_model.specs.Limits.{most_length, most_sequences, most_weight};
 ghost use Rattle.mine_model.specs.Database.{sequence_at};
-ghost use Rattle.fst_simulate.specs.Grids.{items_at};
-ghost use Rattle.fst_simulate.specs.Successors.{AreSuccessorsOf};
+ghost use Rattle.sequence_grids.specs.Grids.{items_at};
+ghost use Rattle.sequence_grids.specs.Successors.{AreSuccessorsOf};
 ghost use Rattle.snapshot_project.specs.Snapshots.{IsPart, bound_of};
 
-use fst_simulate::{Bound, Grids, Job, Successors, successors_of};
 use mine_model::NoMemory;
+use mining_job::{Bound, Job};
+use sequence_grids::{Grids, Successors, successors_of};
 use std::alloc::Global;
 use std::marker::Model;
 
@@ -20,7 +21,7 @@ pub struct Part<'a> {
 }
 
 impl<'a> Model for Part<'a> {
-    ghost use Rattle.fst_simulate.specs.Grids.{GridList};
+    ghost use Rattle.sequence_grids.specs.Grids.{GridList};
 
     ghost Value = { GridList };
 

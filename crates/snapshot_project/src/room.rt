@@ -2,8 +2,8 @@ ghost use Rattle.std.specs.Prelude.{◌≡◌, ◌≤◌, length, IfOk};
 
 use super::counting::Sum;
 use super::hit::Hit;
-use fst_simulate::Job;
 use mine_model::NoMemory;
+use mining_job::Job;
 use std::alloc::Global;
 use std::marker::Model;
 

@@ -4,9 +4,9 @@ ghost use Rattle.std.specs.Prelude.{[], ◌≡◌, ◌≢◌, ℕ, ◌+◌, ◌*
 ghost use Rattle.state_bits.specs.Members.{Has, HasBit};
 ghost use Rattle.mine_model.specs.Limits.{most_length};
 ghost use Rattle.mine_model.specs.declared.item.Item.{Item};
-ghost use Rattle.fst_simulate.specs.Grids.{Completes, Reads, items_at, rest_at};
-ghost use Rattle.fst_simulate.specs.Readings.{HasOutputs, outputs_at};
-ghost use Rattle.fst_simulate.specs.Successors.{AreSuccessors, LeadsFrom};
+ghost use Rattle.sequence_grids.specs.Grids.{Completes, Reads, items_at, rest_at};
+ghost use Rattle.sequence_grids.specs.Readings.{HasOutputs, outputs_at};
+ghost use Rattle.sequence_grids.specs.Successors.{AreSuccessors, LeadsFrom};
 ghost use Rattle.snapshot_project.specs.declared.aim.Aim.{Aim as Aimed};
 ghost use Rattle.snapshot_project.specs.declared.hit.Hit.{Hit as Found};
 ghost use Rattle.snapshot_project.specs.Aims.{goes, sees_all};
@@ -17,8 +17,8 @@ use super::aim::Aim;
 use super::part::Part;
 use super::span::Span;
 use fst_compile::State;
-use fst_simulate::{Reading, neighbours};
 use mine_model::NoMemory;
+use sequence_grids::{Reading, neighbours};
 use state_bits::StateSet;
 
 /// Goes over the item at a position of a grid from the live states: those that are live behind it, and,

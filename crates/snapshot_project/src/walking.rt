@@ -3,8 +3,8 @@
 
 ghost use Rattle.std.specs.Prelude.{◌≡◌, ℕ, ◌≤◌, ◌<◌, ◌⊎◌, ◌∷◌, ◌++◌, List, length, Some, IfSome, IfNone, OnOk, slice_get, slice_index};
 ghost use Rattle.mine_model.specs.declared.item.Item.{Item};
-ghost use Rattle.fst_simulate.specs.Grids.{items_at};
-ghost use Rattle.fst_simulate.specs.Successors.{AreSuccessors};
+ghost use Rattle.sequence_grids.specs.Grids.{items_at};
+ghost use Rattle.sequence_grids.specs.Successors.{AreSuccessors};
 ghost use Rattle.snapshot_project.specs.declared.snapshot.Snapshot.{Snapshot as Taken};
 ghost use Rattle.snapshot_project.specs.Hits.{AreInOrder, AreRanksWithin, AreHits};
 ghost use Rattle.snapshot_project.specs.Spans.{hits_in, hits_of};
@@ -18,8 +18,8 @@ use super::part::Part;
 use super::snapshot::Snapshot;
 use super::span::Span;
 use super::stepping::step;
-use fst_simulate::Successors;
 use mine_model::NoMemory;
+use sequence_grids::Successors;
 use state_bits::StateSet;
 
 /// Finds what may be written behind the prefix of these snapshots, all of one sequence, the one of the grid,

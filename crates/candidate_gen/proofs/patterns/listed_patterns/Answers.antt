@@ -1,6 +1,6 @@
 use Rattle.std.proofs.Common.{subst}
 use Rattle.candidate_gen.specs.Candidates.{AreCandidateRanks}
-use Rattle.fst_simulate.specs.Problems.{Problem}
+use Rattle.mining_job.specs.Problems.{Problem}
 use Rattle.candidate_gen.proofs.CandidateLemmas.{patterns-all}
 use Rattle.candidate_gen.proofs.patterns.listed_patterns.Goals as goal
 

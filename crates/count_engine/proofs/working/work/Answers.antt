@@ -1,6 +1,6 @@
 use Rattle.std.proofs.Common.{◌≡◌, ◌∷◌, [], ℕ, map, refl, sym, subst, ◌∙◌, arith}
 use Rattle.mine_model.specs.Counted.{HasPairs, IsTold}
-use Rattle.fst_simulate.specs.Problems.{Problem, data_of}
+use Rattle.mining_job.specs.Problems.{Problem, data_of}
 use Rattle.count_shards.specs.Blocks.{sequences_in}
 use Rattle.count_shards.specs.Shard.{entry_of}
 use Rattle.count_engine.specs.Shares.{share_of, HasBlockPairs}

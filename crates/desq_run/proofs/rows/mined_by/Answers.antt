@@ -1,5 +1,5 @@
 use Rattle.mine_model.specs.declared.mined.Mined.{Mined}
-use Rattle.fst_simulate.specs.Problems.{data_of}
+use Rattle.mining_job.specs.Problems.{data_of}
 use Rattle.search_engine.specs.Partition.{IsWorkFor}
 use Rattle.desq_run.specs.PartitionWork.{IsPartitionWork, IsNamedBefore}
 use Rattle.desq_run.proofs.PartitionRankLemmas.{problem-work}

@@ -1,7 +1,7 @@
 use Rattle.std.proofs.Common.{◌≡◌, ◌≤◌, map, length, sym, ◌∙◌, subst, All}
 use Rattle.std.specs.Arc.{arc_value}
-use Rattle.mine_model.specs.SearchTree.{IsRowOf, AreKids}
-use Rattle.fst_simulate.specs.Problems.{Problem, data_of}
+use Rattle.search_tree.specs.SearchTree.{IsRowOf, AreKids}
+use Rattle.mining_job.specs.Problems.{Problem, data_of}
 use Rattle.dfs_growth.specs.Nodes.{Prefix, label_at, prefix_at}
 use Rattle.dfs_growth.specs.Projections.{IsProjection}
 use Rattle.dfs_growth.proofs.NodeLemmas.{problem-of, prefix-at}

@@ -2,9 +2,9 @@ use Rattle.std.proofs.Common.{◌≡◌, ◌≢◌, Some, map, slice_get, sym, a
 use Rattle.std.proofs.lemmas.Simd.{map-map}
 use Rattle.std.proofs.lemmas.Result.{IfOk-weaker}
 use Rattle.std.specs.Arc.{arc_value}
-use Rattle.mine_model.specs.SearchTree.{AreKids}
+use Rattle.search_tree.specs.SearchTree.{AreKids}
 use Rattle.mine_model.proofs.ElementLemmas.{get-held}
-use Rattle.fst_simulate.specs.Problems.{data_of}
+use Rattle.mining_job.specs.Problems.{data_of}
 use Rattle.snapshot_project.specs.declared.next_rank.NextRank.{NextRank}
 use Rattle.snapshot_project.specs.Extensions.{AreNextRanks}
 use Rattle.dfs_growth.specs.Nodes.{Prefix, label_at, prefix_at, longer_by}

@@ -1,6 +1,6 @@
 use Rattle.std.proofs.Common.{sym, ap, ◌∙◌, subst}
-use Rattle.fst_simulate.specs.Problems.{Problem}
-use Rattle.fst_simulate.specs.Parts.{IsComplete}
+use Rattle.mining_job.specs.Problems.{Problem}
+use Rattle.mining_job.specs.Parts.{IsComplete}
 use Rattle.dfs_growth.specs.Nodes.{Prefix, label_at, prefix_at}
 use Rattle.dfs_growth.specs.Projections.{IsStateOf, IsProjection}
 use Rattle.dfs_growth.proofs.NodeLemmas.{problem-at, label-at, root-projection}

@@ -1,8 +1,8 @@
 use Rattle.std.proofs.Common.{◌≡◌, ◌≤◌, ◌<◌, ◌++◌, List, length, sum_by, append_assoc, ap, sym, ◌∙◌, arith}
 use Rattle.std.proofs.lemmas.List.Elements.{All-push}
 use Rattle.mine_model.specs.Database.{sequence_at}
-use Rattle.fst_simulate.specs.declared.part_seed.PartSeed.{PartSeed}
-use Rattle.fst_simulate.specs.Parts.{IsComplete}
+use Rattle.mining_job.specs.declared.part_seed.PartSeed.{PartSeed}
+use Rattle.mining_job.specs.Parts.{IsComplete}
 use Rattle.dfs_growth.specs.Nodes.{Prefix}
 use Rattle.dfs_growth.proofs.RootLemmas.{roots-push, roots-pass, next-has, seed-within}
 use Rattle.dfs_growth.proofs.seeds.roots.Goals as goal

@@ -1,9 +1,9 @@
 use Rattle.std.proofs.Common.{◌≡◌, ◌++◌, map, length, All}
 use Rattle.std.specs.Vec.Iter.{into_iter_items, into_iter_len}
-use Rattle.mine_model.specs.SearchTree.{AreRootsOf}
-use Rattle.fst_simulate.specs.declared.part_seed.PartSeed.{PartSeed}
-use Rattle.fst_simulate.specs.Problems.{data_of}
-use Rattle.fst_simulate.specs.Parts.{pivot_of}
+use Rattle.search_tree.specs.SearchTree.{AreRootsOf}
+use Rattle.mining_job.specs.declared.part_seed.PartSeed.{PartSeed}
+use Rattle.mining_job.specs.Problems.{data_of}
+use Rattle.mining_job.specs.Parts.{pivot_of}
 use Rattle.dfs_growth.specs.Nodes.{Prefix, label_at}
 use Rattle.dfs_growth.proofs.seeds.roots.Given as goal
 

@@ -1,8 +1,8 @@
 use Rattle.std.proofs.Common.{◌≡◌, ◌↔◌, ℕ, ◌<◌, false, ◌∙◌, subst, arith}
 use Rattle.std.specs.List.{Contains}
 use Rattle.std.proofs.lemmas.Bool.{iff_false}
-use Rattle.fst_simulate.specs.Problems.{items_of}
-use Rattle.fst_simulate.specs.Grids.{Completes}
+use Rattle.mining_job.specs.Problems.{items_of}
+use Rattle.sequence_grids.specs.Grids.{Completes}
 use Rattle.dfs_growth.proofs.RootLemmas.{exact-push, exact-pass, rising-push}
 use Rattle.dfs_growth.proofs.seeds.with_patterns.Goals.{then-branch+in_ok-push, else-branch}
 use Rattle.dfs_growth.proofs.seeds.with_patterns.Goals as goal

@@ -1,7 +1,7 @@
 use Rattle.std.proofs.Common.{◌≡◌, ◌↔◌, ℕ, ◌<◌, false}
 use Rattle.std.specs.List.{AllPairs, Contains}
-use Rattle.fst_simulate.specs.Problems.{items_of}
-use Rattle.fst_simulate.specs.Grids.{Completes}
+use Rattle.mining_job.specs.Problems.{items_of}
+use Rattle.sequence_grids.specs.Grids.{Completes}
 use Rattle.dfs_growth.proofs.seeds.with_patterns.Given as goal
 
 abbrev pub invariant-loop-number : goal.invariant-loop-number

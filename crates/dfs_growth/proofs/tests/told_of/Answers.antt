@@ -1,6 +1,6 @@
 use Rattle.std.proofs.Common.{[], All, arith}
 use Rattle.std.proofs.lemmas.List.Elements.{All-push}
-use Rattle.fst_simulate.specs.Parts.{IsComplete}
+use Rattle.mining_job.specs.Parts.{IsComplete}
 use Rattle.dfs_growth.proofs.tests.told_of.Goals as goal
 
 pub roots-requires : goal.roots-requires

@@ -1,7 +1,7 @@
 use Rattle.std.proofs.Common.{◌≡◌, ap, subst, Err, IfSome, List, ℕ}
 use Rattle.mine_model.specs.declared.fault.Fault.{Fault}
 use Rattle.mine_model.specs.Text.{lines_of}
-use Rattle.mine_model.specs.Faults.{fault_of_hierarchy}
+use Rattle.item_hierarchy.specs.Faults.{fault_of_hierarchy}
 use Rattle.mine_model.specs.Names.{GrowBy}
 use Rattle.mine_model.specs.Refusal.{names_of}
 use Rattle.item_hierarchy.specs.Refusing.{IsReadRefusal}

@@ -1,8 +1,8 @@
 use Rattle.std.proofs.Common.{◌≡◌, ap, sym, ◌∙◌, subst, Err, IfSome}
-use Rattle.mine_model.specs.declared.hierarchy_fault.HierarchyFault.{HierarchyFault}
-use Rattle.mine_model.specs.declared.hierarchy_fault.HierarchyFault.TheVariants.{BadByte, NameTooLong}
+use Rattle.item_hierarchy.specs.declared.hierarchy_fault.HierarchyFault.{HierarchyFault}
+use Rattle.item_hierarchy.specs.declared.hierarchy_fault.HierarchyFault.TheVariants.{BadByte, NameTooLong}
 use Rattle.mine_model.specs.Text.{lines_of}
-use Rattle.mine_model.specs.Faults.{fault_of_hierarchy}
+use Rattle.item_hierarchy.specs.Faults.{fault_of_hierarchy}
 use Rattle.item_hierarchy.specs.Refusing.{IsReadRefusal}
 use Rattle.item_hierarchy.proofs.TakingLemmas.{whole_taken, whole_accepted, stopped_bad, stopped_long, refused_line, kept_all, kept_refused}
 use Rattle.text_ports.proofs.Told.{of_told}

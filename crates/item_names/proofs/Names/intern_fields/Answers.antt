@@ -1,6 +1,6 @@
 use Rattle.std.proofs.Common.{◌≡◌, ℕ, List, ◌++◌, inl, inr, refl, ap, subst, take, Err}
 use Rattle.std.proofs.lemmas.List.Elements.{Contains-append_left, Contains-append_right, Contains-append_cases}
-use Rattle.mine_model.specs.declared.names_fault.NamesFault.TheVariants.{TooMany}
+use Rattle.item_names.specs.declared.names_fault.NamesFault.TheVariants.{TooMany}
 use Rattle.mine_model.specs.Limits.{most_items}
 use Rattle.mine_model.specs.Names.{AreDistinct}
 use Rattle.mine_model.proofs.NameLemmas.{GrowBy-none, GrowBy-more, more_names}

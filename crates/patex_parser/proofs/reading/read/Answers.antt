@@ -1,5 +1,5 @@
 use Rattle.std.proofs.Common.{◌≡◌, Some, None, get_or, inl, inr, refl, sym, ap, subst, ◌∙◌}
-use Rattle.mine_model.specs.Machine.{next}
+use Rattle.patex_grammar.specs.Machine.{next}
 use Rattle.patex_parser.specs.View.{state_of}
 use Rattle.patex_parser.specs.Reading.{mark_of_kind, IsBehind}
 use Rattle.patex_parser.proofs.FirstReads.{no_token, whole-walk}

@@ -3,7 +3,7 @@ use Rattle.std.specs.List.{Contains}
 use Rattle.std.proofs.lemmas.List.{take_rest, drop_all}
 use Rattle.mine_model.proofs.ListLemmas.{Contains-none}
 use Rattle.fst_compile.specs.Transducer.{Transducer}
-use Rattle.fst_simulate.specs.Grids.{items_at, rest_at}
+use Rattle.sequence_grids.specs.Grids.{items_at, rest_at}
 use Rattle.pivot_partition.specs.Tops.{IsRowOf, row_at}
 use Rattle.pivot_partition.proofs.NumberLemmas.{row-next, row-later}
 use Rattle.pivot_partition.proofs.MarkLemmas.{marked-inside}

@@ -1,5 +1,5 @@
 use Rattle.std.proofs.Common.{◌≡◌, length}
-use Rattle.fst_simulate.specs.Grids.{items_at}
+use Rattle.sequence_grids.specs.Grids.{items_at}
 use Rattle.pivot_partition.specs.Marks.{AreMarked}
 use Rattle.pivot_partition.specs.Tops.{row_at}
 use Rattle.pivot_partition.proofs.FrontLemmas.{AreFoundSoFar}

@@ -1,5 +1,5 @@
 use Rattle.std.proofs.Common.{◌∙◌, sym, subst}
-use Rattle.fst_simulate.specs.Grids.{items_at}
+use Rattle.sequence_grids.specs.Grids.{items_at}
 use Rattle.pivot_partition.specs.Tops.{IsTableFrom}
 use Rattle.pivot_partition.proofs.finding.find_in.Goals as goal
 

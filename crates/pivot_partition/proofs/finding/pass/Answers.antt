@@ -1,6 +1,6 @@
 use Rattle.std.proofs.Common.{◌≡◌, ◌≢◌, ◌∙◌, ◌<◌, ◌≤◌, inl, inr, length, refl, sym, subst, arith, length-set, get_or-set_same, get_or-set_other}
 use Rattle.std.specs.List.{All, Contains, slice_index}
-use Rattle.fst_simulate.specs.Readings.{outputs_at}
+use Rattle.sequence_grids.specs.Readings.{outputs_at}
 use Rattle.pivot_partition.specs.Tops.{GoesUpTo}
 use Rattle.pivot_partition.proofs.RowLemmas.{written-none, written-more}
 use Rattle.pivot_partition.proofs.FrontLemmas.{written-with}

@@ -1,6 +1,6 @@
 use Rattle.std.proofs.Common.{◌≡◌, ℕ, ◌<◌, ◌≤◌, ◌⊎◌, ◌↔◌, length}
 use Rattle.std.specs.List.{slice_index, Contains}
-use Rattle.fst_simulate.specs.Readings.{outputs_at}
+use Rattle.sequence_grids.specs.Readings.{outputs_at}
 use Rattle.pivot_partition.specs.Tops.{no_rank, GoesUpTo}
 use Rattle.pivot_partition.specs.Marks.{AreMarked}
 use Rattle.pivot_partition.proofs.RowLemmas.{IsWrittenSoFar}

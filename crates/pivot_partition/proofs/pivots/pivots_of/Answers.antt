@@ -1,7 +1,7 @@
 use Rattle.std.proofs.Common.{◌<◌, ◌↔◌, ℕ, length, eqb, sym, subst}
 use Rattle.std.specs.List.{Contains}
 use Rattle.std.proofs.lemmas.List.Filters.{dedup_is}
-use Rattle.fst_simulate.specs.Problems.{Problem, items_of}
+use Rattle.mining_job.specs.Problems.{Problem, items_of}
 use Rattle.pivot_partition.specs.Pivots.{IsPivotOf}
 use Rattle.pivot_partition.proofs.MergeLemmas.{sorted-once}
 use Rattle.pivot_partition.proofs.pivots.pivots_of.Goals as goal

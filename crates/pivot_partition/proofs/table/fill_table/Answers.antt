@@ -1,7 +1,7 @@
 use Rattle.std.proofs.Common.{◌≡◌, ◌∙◌, ◌+◌, ◌-◌, ◌<◌, length, drop, take, refl, sym, ap, subst, arith, length-drop}
 use Rattle.std.proofs.lemmas.List.{take_rest}
 use Rattle.fst_compile.specs.Transducer.{Transducer}
-use Rattle.fst_simulate.specs.Grids.{items_at}
+use Rattle.sequence_grids.specs.Grids.{items_at}
 use Rattle.pivot_partition.specs.Tops.{IsTableFrom, row_at}
 use Rattle.pivot_partition.proofs.TopLemmas.{end-row}
 use Rattle.pivot_partition.proofs.TableLemmas.{table-end}

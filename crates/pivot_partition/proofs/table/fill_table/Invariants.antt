@@ -1,5 +1,5 @@
 use Rattle.std.proofs.Common.{◌≡◌, length}
-use Rattle.fst_simulate.specs.Grids.{items_at}
+use Rattle.sequence_grids.specs.Grids.{items_at}
 use Rattle.pivot_partition.specs.Tops.{IsTableFrom}
 use Rattle.pivot_partition.proofs.table.fill_table.Given as goal
 

@@ -1,7 +1,7 @@
 use Rattle.std.proofs.Common.{ℕ, List}
-use Rattle.mine_model.specs.Cover.{Covers, IsInTree}
-use Rattle.mine_model.proofs.OnceLemmas.{cover_once, cover_members}
-use Rattle.mine_model.proofs.DepthLemmas.{in_tree}
+use Rattle.search_tree.specs.Cover.{Covers, IsInTree}
+use Rattle.search_tree.proofs.TreeLemmas.{cover_once, cover_members}
+use Rattle.search_tree.proofs.DepthLemmas.{in_tree}
 use Rattle.pool_schedule.specs.State.{State, start}
 use Rattle.pool_schedule.specs.Steps.{IsQuiet, Runs}
 use Rattle.pool_schedule.specs.declared.event.Event.{Event}

@@ -1,6 +1,6 @@
 use Rattle.std.proofs.Common.{[], ◌∷◌}
-use Rattle.mine_model.specs.Cover.{down_to}
-use Rattle.mine_model.proofs.GrowthLemmas.{kids_of}
+use Rattle.search_tree.specs.Cover.{down_to}
+use Rattle.search_tree.proofs.GrowthLemmas.{kids_of}
 use Rattle.pool_schedule.specs.Trial.{large_ranks}
 use Rattle.pool_schedule.proofs.tests.posts_each_once.Given as goal
 

@@ -2,10 +2,10 @@ use denote.Param.Send.{sendable}
 use Rattle.std.proofs.Common.{◌≡◌, ℕ, List, length, map, sym, ap, ◌∙◌, subst, arith}
 use Rattle.std.proofs.lemmas.List.{length-map}
 use Rattle.std.specs.List.{filter_map}
-use Rattle.mine_model.specs.Cover.{Covers}
-use Rattle.mine_model.specs.SearchTree.{IsSearchTree}
+use Rattle.search_tree.specs.Cover.{Covers}
+use Rattle.search_tree.specs.SearchTree.{IsSearchTree}
 use Rattle.turn_lock.specs.History.{Made}
-use Rattle.fst_simulate.specs.Problems.{Problem, data_of}
+use Rattle.mining_job.specs.Problems.{Problem, data_of}
 use Rattle.dfs_growth.specs.Nodes.{label_at}
 use Rattle.result_board.specs.Board.{labels_of}
 use Rattle.search_engine.specs.Searches.{tree_of}

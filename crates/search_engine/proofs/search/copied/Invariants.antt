@@ -1,7 +1,7 @@
 use Rattle.std.proofs.Common.{◌≡◌, map, take, All}
-use Rattle.fst_simulate.specs.declared.part_seed.PartSeed.{PartSeed}
-use Rattle.fst_simulate.specs.Problems.{Problem}
-use Rattle.fst_simulate.specs.Parts.{pivot_of, IsComplete}
+use Rattle.mining_job.specs.declared.part_seed.PartSeed.{PartSeed}
+use Rattle.mining_job.specs.Problems.{Problem}
+use Rattle.mining_job.specs.Parts.{pivot_of, IsComplete}
 use Rattle.search_engine.proofs.search.copied.Given as goal
 
 abbrev pub invariant-loop-seed : goal.invariant-loop-seed

@@ -1,6 +1,6 @@
 use Rattle.std.proofs.Common.{suc}
-use Rattle.mine_model.specs.Cover.{down_to}
-use Rattle.mine_model.proofs.SearchTreeLemmas.{longest}
+use Rattle.search_tree.specs.Cover.{down_to}
+use Rattle.search_tree.proofs.SearchTreeLemmas.{longest}
 use Rattle.search_engine.specs.Searches.{tree_of}
 use Rattle.search_engine.proofs.tests.posted.Given as goal
 

@@ -1,6 +1,6 @@
 use Rattle.std.proofs.Common.{◌≡◌, ap, subst, Err, IfSome, List, ℕ}
 use Rattle.mine_model.specs.declared.fault.Fault.{Fault}
-use Rattle.mine_model.specs.Faults.{fault_of_sequences}
+use Rattle.sequence_reader.specs.Faults.{fault_of_sequences}
 use Rattle.mine_model.specs.Names.{GrowBy}
 use Rattle.mine_model.specs.Refusal.{sequences_of, items_of, IsSequencesRefusal}
 use Rattle.text_ports.proofs.Told.{of_told}

@@ -1,8 +1,8 @@
 use Rattle.std.proofs.Common.{◌≡◌, ap, sym, ◌∙◌, subst, Err, IfSome}
-use Rattle.mine_model.specs.declared.sequence_fault.SequenceFault.{SequenceFault}
-use Rattle.mine_model.specs.declared.sequence_fault.SequenceFault.TheVariants.{BadByte, NameTooLong}
+use Rattle.sequence_reader.specs.declared.sequence_fault.SequenceFault.{SequenceFault}
+use Rattle.sequence_reader.specs.declared.sequence_fault.SequenceFault.TheVariants.{BadByte, NameTooLong}
 use Rattle.mine_model.specs.Text.{lines_of}
-use Rattle.mine_model.specs.Faults.{fault_of_sequences}
+use Rattle.sequence_reader.specs.Faults.{fault_of_sequences}
 use Rattle.mine_model.specs.Refusal.{IsSequencesRefusal}
 use Rattle.sequence_reader.proofs.TakingLemmas.{whole_taken, whole_accepted, stopped_bad, stopped_long, refused_line, kept_all, kept_refused}
 use Rattle.text_ports.proofs.Told.{of_told}

@@ -3,7 +3,7 @@ use Rattle.std.specs.List.{slice_index, slice_range}
 use Rattle.std.proofs.lemmas.Option.{slice_get_within}
 use Rattle.mine_model.specs.Limits.{most_weight}
 use Rattle.mine_model.specs.Database.{sequence_at}
-use Rattle.fst_simulate.specs.Grids.{items_at}
+use Rattle.sequence_grids.specs.Grids.{items_at}
 use Rattle.snapshot_project.specs.declared.hit.Hit.{Hit}
 use Rattle.snapshot_project.specs.Snapshots.{SnapshotList, AreSnapshots}
 use Rattle.snapshot_project.specs.Hits.{AreInOrder, HasEnd}

@@ -3,7 +3,7 @@ use Rattle.std.specs.List.{slice_index, slice_range}
 use Rattle.std.proofs.lemmas.Option.{slice_get_within, get_or_from_slice_get}
 use Rattle.std.proofs.lemmas.List.Elements.{Contains-get_or}
 use Rattle.mine_model.specs.Limits.{most_sequences}
-use Rattle.fst_simulate.specs.Grids.{items_at}
+use Rattle.sequence_grids.specs.Grids.{items_at}
 use Rattle.snapshot_project.specs.declared.hit.Hit.{Hit}
 use Rattle.snapshot_project.specs.declared.next_rank.NextRank.{NextRank}
 use Rattle.snapshot_project.specs.Extensions.{IsSupportOf}

@@ -2,7 +2,7 @@ use Rattle.std.proofs.Common.{◌≡◌, ◌↔◌, ℕ, ◌<◌, Bool, IsTrue, 
 use Rattle.std.specs.List.{Contains, slice_range}
 use Rattle.std.proofs.lemmas.List.Elements.{Contains-get_or}
 use Rattle.std.proofs.lemmas.Option.{slice_get_within}
-use Rattle.fst_simulate.specs.Grids.{HoldsNeeded, items_at}
+use Rattle.sequence_grids.specs.Grids.{HoldsNeeded, items_at}
 use Rattle.snapshot_project.specs.declared.snapshot.Snapshot.{Snapshot}
 use Rattle.snapshot_project.specs.declared.aim.Aim.{Aim}
 use Rattle.snapshot_project.specs.declared.hit.Hit.{Hit}

@@ -1,7 +1,7 @@
 use Rattle.std.proofs.Common.{◌≡◌, ◌<◌, ◌≤◌, ◌∷◌, [], ◌++◌, ◌+◌, Some, false, List, ℕ, length, get_or, sym, subst, ap, ◌∙◌, arith}
 use Rattle.std.specs.List.{slice_get}
 use Rattle.std.proofs.lemmas.Option.{slice_get-get_or}
-use Rattle.fst_simulate.specs.Grids.{GridList, Completes, items_at}
+use Rattle.sequence_grids.specs.Grids.{GridList, Completes, items_at}
 use Rattle.snapshot_project.specs.Snapshots.{SnapshotList}
 use Rattle.snapshot_project.proofs.FoundLemmas.{AreFoundBefore}
 use Rattle.snapshot_project.proofs.StartLemmas.{IsStart, start-more, start-pass, start-all}

@@ -2,11 +2,11 @@ use Rattle.std.proofs.Common.{◌≡◌, ◌↔◌, ◌+◌, ◌<◌, ◌≤◌,
 use Rattle.std.specs.List.{slice_get}
 use Rattle.mine_model.specs.declared.item.Item.{Item}
 use Rattle.state_bits.specs.Members.{Has}
-use Rattle.fst_simulate.specs.Grids.{items_at, rest_at}
-use Rattle.fst_simulate.specs.Readings.{IsReading}
-use Rattle.fst_simulate.specs.Successors.{LeadsFrom}
-use Rattle.fst_simulate.proofs.GridLemmas.{item_there}
-use Rattle.fst_simulate.proofs.SuccessorLemmas.{leads-from, leads-within}
+use Rattle.sequence_grids.specs.Grids.{items_at, rest_at}
+use Rattle.sequence_grids.specs.Readings.{IsReading}
+use Rattle.sequence_grids.specs.Successors.{LeadsFrom}
+use Rattle.sequence_grids.proofs.GridLemmas.{item_there}
+use Rattle.sequence_grids.proofs.SuccessorLemmas.{leads-from, leads-within}
 use Rattle.snapshot_project.specs.declared.hit.Hit.{Hit}
 use Rattle.snapshot_project.specs.Aims.{goes}
 use Rattle.snapshot_project.specs.Hits.{AreWritable, IsHitOf, IsWritten}

@@ -4,7 +4,7 @@ use Rattle.std.proofs.lemmas.List.Kept.{AllPairs-from_increasing}
 use Rattle.std.proofs.lemmas.List.Elements.{All-contains}
 use Rattle.state_bits.specs.Members.{Has, HasBit}
 use Rattle.snapshot_project.specs.Aims.{sees_all}
-use Rattle.fst_simulate.specs.Readings.{outputs_at}
+use Rattle.sequence_grids.specs.Readings.{outputs_at}
 use Rattle.snapshot_project.specs.Hits.{AreWritable, Passes, hit_of}
 use Rattle.snapshot_project.specs.Spans.{hits_of}
 use Rattle.snapshot_project.proofs.HitLemmas.{IsWriter, one-state, state-written, written-none, next-writer, written-more, written-all, written-order}

@@ -1,6 +1,6 @@
 use Rattle.std.proofs.Common.{◌≡◌, ◌∙◌, List, ap, sym, subst, length}
 use Rattle.mine_model.specs.declared.item.Item.{Item}
-use Rattle.fst_simulate.specs.Grids.{items_at}
+use Rattle.sequence_grids.specs.Grids.{items_at}
 use Rattle.snapshot_project.specs.declared.aim.Aim.{Aim}
 use Rattle.snapshot_project.specs.declared.hit.Hit.{Hit}
 use Rattle.snapshot_project.specs.Hits.{AreInOrder, AreRanksWithin, AreHits}

@@ -3,9 +3,9 @@ use Rattle.state_bits.specs.Members.{Has}
 use Rattle.mine_model.specs.Limits.{most_length}
 use Rattle.fst_compile.proofs.RowLemmas.{Has-none}
 use Rattle.mine_model.proofs.ListLemmas.{Contains-none}
-use Rattle.fst_simulate.specs.Grids.{Completes, Reads, items_at, rest_at}
-use Rattle.fst_simulate.specs.Successors.{LeadsFrom}
-use Rattle.fst_simulate.proofs.GridLemmas.{item_there}
+use Rattle.sequence_grids.specs.Grids.{Completes, Reads, items_at, rest_at}
+use Rattle.sequence_grids.specs.Successors.{LeadsFrom}
+use Rattle.sequence_grids.proofs.GridLemmas.{item_there}
 use Rattle.snapshot_project.specs.Aims.{goes}
 use Rattle.snapshot_project.specs.Spans.{hits_of}
 use Rattle.snapshot_project.proofs.WayLemmas.{next-forward, useful-next, order-later, way-first, way-more, way-all}

@@ -2,7 +2,7 @@ use Rattle.std.proofs.Common.{◌≡◌, ℕ, ◌-◌, ◌≤◌, List, length, 
 use Rattle.std.specs.List.{slice_get}
 use Rattle.state_bits.specs.Members.{Has}
 use Rattle.mine_model.specs.declared.item.Item.{Item}
-use Rattle.fst_simulate.specs.Grids.{Completes, items_at, rest_at}
+use Rattle.sequence_grids.specs.Grids.{Completes, items_at, rest_at}
 use Rattle.snapshot_project.specs.declared.snapshot.Snapshot.{Snapshot}
 use Rattle.snapshot_project.specs.Aims.{goes}
 use Rattle.snapshot_project.specs.Hits.{AreInOrder, AreRanksWithin}

@@ -1,5 +1,5 @@
 use Rattle.std.proofs.Common.{◌≡◌, [], ◌∷◌, ◌++◌, ap, sym, subst}
-use Rattle.fst_simulate.specs.Problems.{Problem}
+use Rattle.mining_job.specs.Problems.{Problem}
 use Rattle.pattern_counts.specs.Tally.{AddsAll}
 use Rattle.count_shards.specs.Blocks.{tally_of, AreCountsOf}
 use Rattle.count_shards.specs.Shard.{ShardSums}

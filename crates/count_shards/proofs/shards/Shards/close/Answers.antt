@@ -1,5 +1,5 @@
 use Rattle.std.proofs.Common.{◌≡◌, ◌<◌, ◌+◌, ◌∷◌, [], ◌++◌, ℕ, Some, slice_get, get_or, length, length-append, ap, sym, subst, ◌∙◌, arith}
-use Rattle.fst_simulate.specs.Problems.{Problem}
+use Rattle.mining_job.specs.Problems.{Problem}
 use Rattle.count_shards.specs.Blocks.{home_count}
 use Rattle.count_shards.specs.Rows.{Appends, IsRowOf, AreRowsFrom}
 use Rattle.count_shards.specs.Shards.{column}

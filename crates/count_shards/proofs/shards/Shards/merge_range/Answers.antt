@@ -1,6 +1,6 @@
 use Rattle.std.proofs.Common.{◌≡◌, ◌<◌, ℕ, Some, slice_get, get_or, length, ap, sym, refl, subst, ◌∙◌, arith}
 use Rattle.std.proofs.lemmas.Option.{slice_get-get_or}
-use Rattle.fst_simulate.specs.Problems.{Problem}
+use Rattle.mining_job.specs.Problems.{Problem}
 use Rattle.count_shards.specs.Blocks.{AreCountsOf}
 use Rattle.count_shards.specs.Shards.{Lock, ShardPass}
 use Rattle.count_shards.specs.Merging.{HasMerged}

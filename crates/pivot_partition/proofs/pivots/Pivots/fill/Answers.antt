@@ -2,8 +2,8 @@ use Rattle.std.proofs.Common.{◌≡◌, ◌∙◌, ◌<◌, ◌≤◌, ℕ, ◌
 use Rattle.std.specs.List.{Contains}
 use Rattle.std.proofs.lemmas.Bool.{iff_false}
 use Rattle.mine_model.proofs.ListLemmas.{written_back}
-use Rattle.fst_simulate.specs.Problems.{Problem, items_of}
-use Rattle.fst_simulate.specs.Grids.{GridList, items_at, rest_at, Completes}
+use Rattle.mining_job.specs.Problems.{Problem, items_of}
+use Rattle.sequence_grids.specs.Grids.{GridList, items_at, rest_at, Completes}
 use Rattle.pivot_partition.specs.Pivots.{IsPivotOf}
 use Rattle.mine_model.specs.Database.{sequence_at}
 use Rattle.pivot_partition.specs.Kept.{AreKept}

@@ -1,7 +1,7 @@
 use Rattle.std.proofs.Common.{◌≡◌, length, ap, sym, subst, arith}
 use Rattle.std.specs.List.{filter_map}
-use Rattle.fst_simulate.specs.Problems.{data_of}
-use Rattle.mine_model.specs.SearchTree.{IsSearchTree}
+use Rattle.mining_job.specs.Problems.{data_of}
+use Rattle.search_tree.specs.SearchTree.{IsSearchTree}
 use Rattle.result_board.specs.Entries.{history_of}
 use Rattle.result_board.specs.Board.{BoardRows, labels_of}
 use Rattle.result_board.proofs.BoardLemmas.{history-length, rows-tree}

@@ -1,8 +1,8 @@
 use Rattle.std.proofs.Common.{map, All, sym, ap, ◌∙◌, subst}
-use Rattle.mine_model.specs.SearchTree.{AreRootsOf}
-use Rattle.fst_simulate.specs.declared.part_seed.PartSeed.{PartSeed}
-use Rattle.fst_simulate.specs.Parts.{pivot_of, IsComplete}
-use Rattle.fst_simulate.specs.Problems.{data_of}
+use Rattle.search_tree.specs.SearchTree.{AreRootsOf}
+use Rattle.mining_job.specs.declared.part_seed.PartSeed.{PartSeed}
+use Rattle.mining_job.specs.Parts.{pivot_of, IsComplete}
+use Rattle.mining_job.specs.Problems.{data_of}
 use Rattle.dfs_growth.specs.Nodes.{label_at}
 use Rattle.dfs_growth.specs.Tree.{roots_by}
 use Rattle.search_engine.specs.Searches.{Search}

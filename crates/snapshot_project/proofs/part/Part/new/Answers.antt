@@ -1,8 +1,8 @@
 use Rattle.std.proofs.Common.{◌≡◌, ◌≤◌, length, sym, subst, ap, ◌∙◌, arith}
 use Rattle.mine_model.specs.Limits.{most_sequences}
 use Rattle.fst_compile.specs.Transducer.{Transducer}
-use Rattle.fst_simulate.specs.declared.bound.Bound.{Bound}
-use Rattle.fst_simulate.specs.Successors.{AreSuccessorsOf}
+use Rattle.mining_job.specs.declared.bound.Bound.{Bound}
+use Rattle.sequence_grids.specs.Successors.{AreSuccessorsOf}
 use Rattle.snapshot_project.specs.Snapshots.{bound_of}
 use Rattle.snapshot_project.proofs.PartLemmas.{bound-few, kept-new}
 use Rattle.std.specs.Prelude.{IfSome, ℕ}

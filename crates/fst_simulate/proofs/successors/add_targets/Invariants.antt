@@ -1,5 +1,0 @@
-use Rattle.fst_simulate.proofs.SuccessorLemmas.{AreAdded}
-use Rattle.fst_simulate.proofs.successors.add_targets.Given as goal
-
-abbrev pub invariant-loop-edge : goal.invariant-loop-edge
-invariant-loop-edge g l = AreAdded l.edge-items l.initial.targets l.targets l.edge-index

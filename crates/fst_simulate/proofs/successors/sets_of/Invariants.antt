@@ -1,5 +1,0 @@
-use Rattle.fst_simulate.proofs.SuccessorLemmas.{AreFirst}
-use Rattle.fst_simulate.proofs.successors.sets_of.Given as goal
-
-abbrev pub invariant-loop-state : goal.invariant-loop-state
-invariant-loop-state g l = AreFirst l.fst l.sets.items l.state

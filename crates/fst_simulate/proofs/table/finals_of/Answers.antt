@@ -1,5 +1,0 @@
-use Rattle.fst_simulate.proofs.SetLemmas.{IsTakenSoFar-none}
-use Rattle.fst_simulate.proofs.table.finals_of.Goals as goal
-
-pub loop-q-init : goal.loop-q-init
-loop-q-init g c = rw c.new-finals.ensures (IsTakenSoFar-none c.args.fst.now.finals)

@@ -1,5 +1,0 @@
-use Rattle.fst_simulate.proofs.SetLemmas.{IsTakenSoFar}
-use Rattle.fst_simulate.proofs.table.finals_of.Given as goal
-
-abbrev pub invariant-loop-q : goal.invariant-loop-q
-invariant-loop-q g l = IsTakenSoFar l.finals l.fst.finals l.q

@@ -1,5 +1,0 @@
-use Rattle.fst_simulate.proofs.SetLemmas.{ArePredecessorsSoFar}
-use Rattle.fst_simulate.proofs.table.predecessors_of.Given as goal
-
-abbrev pub invariant-loop-q : goal.invariant-loop-q
-invariant-loop-q g l = ArePredecessorsSoFar l.fst l.predecessors.items l.q

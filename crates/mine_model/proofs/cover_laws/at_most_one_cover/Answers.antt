@@ -1,5 +1,0 @@
-use Rattle.mine_model.proofs.CoverLemmas as cover
-use Rattle.mine_model.proofs.cover_laws.at_most_one_cover.Goals as goal
-
-pub returns : goal.returns
-returns c roots kids longer first second p q = cover.at_most_one_cover roots kids longer first second p q

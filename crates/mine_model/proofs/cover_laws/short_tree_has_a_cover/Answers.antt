@@ -1,5 +1,0 @@
-use Rattle.mine_model.proofs.DepthLemmas.{short_tree}
-use Rattle.mine_model.proofs.cover_laws.short_tree_has_a_cover.Goals as goal
-
-pub returns : goal.returns
-returns c roots kids longer most short = short_tree roots kids longer most short

@@ -1,0 +1,7 @@
+pub mod CoverLemmas
+pub mod TreeLemmas
+pub mod DepthLemmas
+pub mod GrowthLemmas
+pub mod ShiftLemmas
+pub mod SearchTreeLemmas
+pub mod SearchAnswerLemmas

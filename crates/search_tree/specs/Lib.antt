@@ -1,0 +1,3 @@
+-- the words of the promise
+pub mod SearchTree
+pub mod Cover

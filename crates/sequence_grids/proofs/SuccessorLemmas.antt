@@ -1,0 +1,164 @@
+-- Where edges lead from the states of a set.
+use Rattle.std.proofs.Common.{◌≡◌, ◌↔◌, ℕ, suc, ◌+◌, ◌*◌, ◌<◌, ◌≤◌, ◌⊎◌, inl, inr, List, [], ◌∷◌, ◌++◌, length, take, get_or, refl, sym, ap, ◌∙◌, subst, arith, append_assoc}
+use Rattle.std.specs.List.{Contains}
+use Rattle.std.proofs.Math.Seq.{get_or-append_seam}
+use Rattle.std.proofs.lemmas.Bool.{cases_eq}
+use Rattle.std.proofs.lemmas.List.{append-nil, take_more, take_all, get_or_append_left, length-append}
+use Rattle.std.proofs.lemmas.List.Elements.{Contains-append_left, Contains-append_right, Contains-append_cases}
+use Rattle.state_bits.specs.Members.{Has}
+use Rattle.mine_model.proofs.ListLemmas.{Contains-cases, Contains-first, Contains-none}
+use Rattle.fst_compile.specs.declared.edge.Edge.{Edge}
+use Rattle.fst_compile.specs.Transducer.{Transducer, Leads, Enters, edges_from}
+use Rattle.fst_compile.proofs.RowLemmas.{Has-none}
+use Rattle.sequence_grids.specs.Successors.{AreSuccessors, AreNeighbours, LeadsFrom}
+
+-- the states to which the first edges of a state lead were added
+abbrev pub AreAdded : List Edge → ℕ → ℕ → ℕ → Type 0
+AreAdded edges before after count =
+    (to : ℕ) → Has after to ↔ (Has before to ⊎ ((edge : Edge) × Contains (take count edges) edge × (edge.to.0 ≡ to)))
+
+module _ (edges : List Edge) (before : ℕ) where
+  pub added-none : AreAdded edges before before 0
+  added-none to = (
+    inl,
+    (λ h. elim h [ inl had ↦ had | inr (edge, inside, same) ↦ absurd (Contains-none edge inside) ]),
+  )
+
+  pub added-more : (after now index : ℕ) (d : Edge) → AreAdded edges before after index → index < length edges
+      → ((to : ℕ) → Has now to ↔ (Has after to ⊎ (to ≡ (get_or edges index d).to.0))) → AreAdded edges before now (index + 1)
+  added-more after now index d so_far inside add to = (
+    (λ has. elim ((add to).0 has) [
+      | inl had ↦ elim ((so_far to).0 had) [
+        | inl old ↦ inl old
+        | inr (edge, held, same) ↦ inr (edge, subst (λ l. Contains l edge) (sym (take_more edges index d inside)) (Contains-append_left (take index edges) (get_or edges index d ∷ []) edge held), same)
+      ]
+      | inr same ↦ inr (
+        get_or edges index d,
+        subst (λ l. Contains l (get_or edges index d)) (sym (take_more edges index d inside))
+            (Contains-append_right (take index edges) (get_or edges index d ∷ []) (get_or edges index d) (Contains-first (get_or edges index d) [])),
+        sym same,
+      )
+    ]),
+    (λ h. elim h [
+      | inl old ↦ (add to).1 (inl ((so_far to).1 (inl old)))
+      | inr (edge, held, same) ↦
+          elim (Contains-append_cases (take index edges) (get_or edges index d ∷ []) edge (subst (λ l. Contains l edge) (take_more edges index d inside) held)) [
+            | inl early ↦ (add to).1 (inl ((so_far to).1 (inr (edge, early, same))))
+            | inr last ↦ elim (Contains-cases (get_or edges index d) [] edge last) [
+              | inl is ↦ (add to).1 (inr (sym same ∙ ap (λ (e : Edge). e.to.0) is))
+              | inr none ↦ absurd (Contains-none edge none)
+            ]
+          ]
+    ]),
+  )
+
+  pub added-all : (after index : ℕ) → AreAdded edges before after index → length edges ≤ index
+      → (to : ℕ) → Has after to ↔ (Has before to ⊎ ((edge : Edge) × Contains edges edge × (edge.to.0 ≡ to)))
+  added-all after index so_far over = subst (λ (l : List Edge). (to : ℕ) → Has after to ↔ (Has before to ⊎ ((edge : Edge) × Contains l edge × (edge.to.0 ≡ to)))) (take_all index edges over) so_far
+
+-- ---- the rows of the first so many states of a set
+
+pub record AreNeighboursSoFar (rows : List ℕ) (all found : ℕ) (done left : List ℕ) : Type 0 where
+  pub exact : (q : ℕ) → Has found q ↔ ((k : ℕ) × Has (get_or rows k 0) q × Contains done k)
+  pub members : (k : ℕ) → Contains (done ++ left) k ↔ Has all k
+
+pub AreNeighboursSoFar-none : (rows : List ℕ) (members : ℕ) (left : List ℕ) → ((k : ℕ) → Contains left k ↔ Has members k) → AreNeighboursSoFar rows members 0 [] left
+AreNeighboursSoFar-none rows members left are = record {
+  exact = λ q. ((λ has. absurd (Has-none q has)), (λ h. let (k, before, in_none) = h in absurd (Contains-none k in_none)));
+  members = are;
+}
+
+pub AreNeighboursSoFar-more : (rows : List ℕ) (members found after : ℕ) (done left later : List ℕ) (state row : ℕ) → AreNeighboursSoFar rows members found done left
+    → left ≡ state ∷ later → row ≡ get_or rows state 0 → ((q : ℕ) → Has after q ↔ (Has found q ⊎ Has row q))
+    → AreNeighboursSoFar rows members after (done ++ state ∷ []) later
+AreNeighboursSoFar-more rows members found after done left later state row so_far next is step =
+    let same : done ++ left ≡ (done ++ state ∷ []) ++ later = rw next (sym (append_assoc done (state ∷ []) later)) in
+    record {
+      exact = λ q. (
+        (λ has. elim ((step q).0 has) [
+          | inl had ↦ let (k, before, inside) = (so_far.exact q).0 had in (k, before, Contains-append_left done (state ∷ []) k inside)
+          | inr new ↦ (state, subst (λ (x : ℕ). Has x q) is new, Contains-append_right done (state ∷ []) state (Contains-first state []))
+        ]),
+        (λ h. let (k, before, inside) = h in elim (Contains-append_cases done (state ∷ []) k inside) [
+          | inl earlier ↦ (step q).1 (inl ((so_far.exact q).1 (k, before, earlier)))
+          | inr last ↦ elim (Contains-cases state [] k last) [
+            | inl this ↦ (step q).1 (inr (subst (λ (x : ℕ). Has x q) (sym is) (subst (λ (x : ℕ). Has (get_or rows x 0) q) this before)))
+            | inr none ↦ absurd (Contains-none k none)
+          ]
+        ]),
+      );
+      members = subst (λ (xs : List ℕ). (k : ℕ) → Contains xs k ↔ Has members k) same so_far.members;
+    }
+
+pub AreNeighboursSoFar-all : (rows : List ℕ) (members found : ℕ) (done left : List ℕ) → AreNeighboursSoFar rows members found done left → left ≡ []
+    → AreNeighbours rows members found
+AreNeighboursSoFar-all rows members found done left so_far none =
+    let same : done ++ left ≡ done = rw none (append-nil done) in
+    let are : (k : ℕ) → Contains done k ↔ Has members k = subst (λ (xs : List ℕ). (k : ℕ) → Contains xs k ↔ Has members k) same so_far.members in
+    λ q. (
+      (λ has. let (k, before, inside) = (so_far.exact q).0 has in (k, before, (are k).0 inside)),
+      (λ h. let (k, before, member) = h in (so_far.exact q).1 (k, before, (are k).1 member)),
+    )
+
+-- the next state of a walk is a member
+pub next_neighbour : {rows : List ℕ} {all found : ℕ} {done left : List ℕ} (state : ℕ) (later : List ℕ) → AreNeighboursSoFar rows all found done left
+    → left ≡ state ∷ later → Has all state
+next_neighbour {done = done} {left = left} state later so_far next =
+    (so_far.members state).0 (Contains-append_right done left state (rw next (Contains-first state later)))
+
+-- an edge that is labelled leads to a state of the transducer other than the start
+pub leads-within : (machine : Transducer) → ((state : ℕ) (edge : Edge) → Contains (edges_from machine state) edge → Enters machine.labels edge)
+    → (states to : ℕ) → LeadsFrom machine states to → (0 < to) × (to ≤ length machine.labels)
+leads-within machine labelled states to (from, has, (edge, inside, same)) =
+    let enters : Enters machine.labels edge = labelled from edge inside in
+    let number : edge.to.0 ≡ suc enters.number = enters.to in
+    let within : enters.number < length machine.labels = enters.within in
+    (omega (arith, number, within, same), omega (arith, number, within, same))
+
+-- the successors of the first so many states
+pub record AreFirst (machine : Transducer) (sets : List ℕ) (count : ℕ) : Type 0 where
+  pub all : length sets ≡ count
+  pub leads : (from to : ℕ) → from < count → Has (get_or sets from 0) to ↔ Leads machine from to
+
+pub first-none : (machine : Transducer) → AreFirst machine [] 0
+first-none machine = record { all = refl; leads = λ from to none. absurd (omega arith) }
+
+pub first-more : (machine : Transducer) (sets : List ℕ) (count empty set : ℕ) → AreFirst machine sets count → empty ≡ 0
+    → ((to : ℕ) → Has set to ↔ (Has empty to ⊎ Leads machine count to)) → AreFirst machine (sets ++ set ∷ []) (count + 1)
+first-more machine sets count empty set so_far none adds = record {
+  all = let all = so_far.all in omega (arith, length-append sets (set ∷ []));
+  leads = λ from to inside. elim (cases_eq from count) [
+    | inl last ↦
+        let all = so_far.all in
+        let at : from ≡ length sets = omega arith in
+        let own : get_or (sets ++ set ∷ []) from 0 ≡ set = ap (λ k. get_or (sets ++ set ∷ []) k 0) at ∙ get_or-append_seam sets set [] 0 in
+        subst (λ (s : ℕ). Has s to ↔ Leads machine from to) (sym own)
+        (subst (λ (k : ℕ). Has set to ↔ Leads machine k to) (sym last) (
+          (λ has. elim ((adds to).0 has) [ inl had ↦ absurd (Has-none to (subst (λ (s : ℕ). Has s to) none had)) | inr leads ↦ leads ]),
+          (λ leads. (adds to).1 (inr leads)),
+        ))
+    | inr early ↦
+        let all = so_far.all in
+        let below : from < count = omega arith in
+        let own : get_or (sets ++ set ∷ []) from 0 ≡ get_or sets from 0 = get_or_append_left sets (set ∷ []) 0 from (omega arith) in
+        subst (λ (s : ℕ). Has s to ↔ Leads machine from to) (sym own) (so_far.leads from to below)
+  ];
+}
+
+pub first-all : (width : ℕ) (machine : Transducer) (sets : List ℕ) (count : ℕ) → AreFirst machine sets count → count ≡ length machine.labels + 1 → length machine.labels < 64 * width
+    → AreSuccessors width machine sets
+first-all width machine sets count so_far whole room = record {
+  all = so_far.all ∙ whole;
+  room = room;
+  leads = λ from to inside. so_far.leads from to (omega (arith, whole, inside));
+}
+
+-- the states that the successors of live states have are those to which edges lead from them
+pub leads-from : (width : ℕ) (machine : Transducer) (sets : List ℕ) (live targets : ℕ) → AreSuccessors width machine sets
+    → ((from : ℕ) → Has live from → from ≤ length machine.labels)
+    → AreNeighbours sets live targets
+    → (to : ℕ) → Has targets to ↔ LeadsFrom machine live to
+leads-from width machine sets live targets are within exact to = (
+  (λ has. let (from, held, alive) = (exact to).0 has in (from, alive, (are.leads from to (within from alive)).0 held)),
+  (λ h. let (from, alive, leads) = h in (exact to).1 (from, (are.leads from to (within from alive)).1 leads, alive)),
+)

@@ -1,0 +1,16 @@
+use Rattle.std.proofs.Common.{map, ℕ, ◌≡◌, ◌∙◌, sym, ap, subst, Some}
+use Rattle.std.specs.List.{slice_get}
+use Rattle.std.proofs.lemmas.Result.{IfOk-weaker}
+use Rattle.sequence_grids.specs.Tables.{triple_sets}
+use Rattle.sequence_grids.proofs.TableLemmas.{inserted, same_triple, triple_eq, slice_get-mapped_by}
+use Rattle.sequence_grids.proofs.table.triple_in.Goals as goal
+
+pub returns-clause-grows : goal.returns-clause-grows
+returns-clause-grows g c = inserted (triple_sets {W = g.row.W}) (triple_eq {W = g.row.W}) c.args.triples.now.keys c.insert_full.new.self.keys c.args.triple.now c.in_ok-index.ensures.keys
+
+pub returns-clause-there : goal.returns-clause-there
+returns-clause-there g c =
+    let (found, place, same) = c.in_ok-index.ensures.stored in
+    let there : slice_get (map (triple_sets {W = g.row.W}) c.insert_full.new.self.keys) c.in_ok-index.index ≡ Some (triple_sets {W = g.row.W} c.args.triple.now) =
+    slice_get-mapped_by (triple_sets {W = g.row.W}) c.insert_full.new.self.keys c.in_ok-index.index found place ∙ ap Some (sym (same_triple {W = g.row.W} c.args.triple.now found same)) in
+    IfOk-weaker c.to_number.result (λ number. number ≡ c.in_ok-index.index) (λ number. slice_get (map (triple_sets {W = g.row.W}) c.insert_full.new.self.keys) number ≡ Some (triple_sets {W = g.row.W} c.args.triple.now)) (λ number is. subst (λ (n : ℕ). slice_get (map (triple_sets {W = g.row.W}) c.insert_full.new.self.keys) n ≡ Some (triple_sets {W = g.row.W} c.args.triple.now)) (sym is) there) c.to_number.ensures

@@ -1,0 +1,113 @@
+-- What items may do under a bound, as it is kept once an item was met.
+use Rattle.std.specs.Prelude.{◌≡◌, ◌≢◌, ℕ, ◌+◌, ◌-◌, ◌≤◌, ◌<◌, ◌⊎◌, ◌↔◌, List, [], ◌++◌, length, slice_index, slice_get, slice_range, Some, None, Option, AllPairs, Contains}
+use Rattle.mine_model.specs.declared.item.Item.{Item}
+use Rattle.state_bits.specs.Members.{Has}
+use Rattle.mining_job.specs.declared.bound.Bound.{Bound}
+use Rattle.sequence_grids.specs.declared.kinds.Kind.{Kind}
+use Rattle.sequence_grids.specs.declared.kinds.Kinds.{Kinds}
+use Rattle.mining_job.specs.Problems.{Problem}
+use Rattle.sequence_grids.specs.Grids.{Reads, WritesRank}
+use Rattle.sequence_grids.specs.Tables.{ClassSets, unknown}
+
+-- the rank is the one that is needed; where none is, any is
+abbrev pub IsNeededRank : Option ℕ → ℕ → Type 0
+IsNeededRank None rank = Unit {0}
+IsNeededRank (Some need) rank = rank ≡ need
+
+-- an edge into the state may read t and write something that is allowed
+abbrev pub Writes : Problem → Bound → Item → ℕ → Type 0
+Writes problem bound t k = (rank : ℕ) × WritesRank problem bound t k rank
+
+-- an edge into the state reads t and writes nothing, or something that is allowed
+abbrev pub Goes : Problem → Bound → Item → ℕ → Type 0
+Goes problem bound t k = Reads problem t k [] ⊎ Writes problem bound t k
+
+-- an edge into the state may read t and write what is needed
+abbrev pub Needs : Problem → Bound → Item → ℕ → Type 0
+Needs problem bound t k = (rank : ℕ) × WritesRank problem bound t k rank × IsNeededRank bound.need rank
+
+-- a state that edges lead into
+abbrev pub IsTarget : Problem → ℕ → Type 0
+IsTarget problem k = (1 ≤ k) × (k ≤ length problem.machine.labels)
+
+-- the class of the item
+pub record IsClassFor (problem : Problem) (bound : Bound) (t : Item) (class : ClassSets) : Type 0 where
+  pub silent : (k : ℕ) → IsTarget problem k → Has class.silent k ↔ Reads problem t k []
+  pub writes : (k : ℕ) → IsTarget problem k → Has class.writes k ↔ Writes problem bound t k
+  pub needs : (k : ℕ) → IsTarget problem k → Has class.needs k ↔ Needs problem bound t k
+
+-- the ranks between the ends of the state before and of this one are those that edges into it may write at t,
+-- each once
+pub record IsCell (problem : Problem) (bound : Bound) (t : Item) (base : ℕ) (ends ranks : List ℕ) (k : ℕ)
+    : Type 0 where
+  pub forward : slice_index ends (base + k - 1) ≤ slice_index ends (base + k)
+  pub within : slice_index ends (base + k) ≤ length ranks
+  pub outputs : (rank : ℕ)
+      → Contains (slice_range ranks (slice_index ends (base + k - 1)) (slice_index ends (base + k))) rank
+      ↔ WritesRank problem bound t k rank
+  pub once : AllPairs (λ one other. one ≢ other)
+      (slice_range ranks (slice_index ends (base + k - 1)) (slice_index ends (base + k)))
+
+-- the same of the states below the count, and nothing stands behind them
+pub record IsRow (problem : Problem) (bound : Bound) (t : Item) (base : ℕ) (ends ranks : List ℕ) (count : ℕ)
+    : Type 0 where
+  pub some : 1 ≤ count
+  pub long : length ends ≡ base + count
+  pub last : slice_index ends (base + count - 1) ≡ length ranks
+  pub cells : (k : ℕ) → 1 ≤ k → k < count → IsCell problem bound t base ends ranks k
+
+-- the lists have the states below the count into which the item leads
+pub record AreEntered (problem : Problem) (bound : Bound) (t : Item) (count : ℕ)
+    (silent writes needs : List ℕ) : Type 0 where
+  pub silent_are : (k : ℕ) → Contains silent k ↔ ((1 ≤ k) × (k < count) × Reads problem t k [])
+  pub writes_are : (k : ℕ) → Contains writes k ↔ ((1 ≤ k) × (k < count) × Writes problem bound t k)
+  pub needs_are : (k : ℕ) → Contains needs k ↔ ((1 ≤ k) × (k < count) × Needs problem bound t k)
+
+-- the ranks between the ends of the state before and of this one
+abbrev pub row_at : List ℕ → List ℕ → ℕ → ℕ → List ℕ
+row_at ends ranks base k = slice_range ranks (slice_index ends (base + k - 1)) (slice_index ends (base + k))
+
+-- from the base on the rows of the states below the count stand where they may be read
+pub record AreRows (ends ranks : List ℕ) (base count : ℕ) : Type 0 where
+  pub room : (k : ℕ) → 1 ≤ k → k < count → base + k < length ends
+  pub forward : (k : ℕ) → 1 ≤ k → k < count → slice_index ends (base + k - 1) ≤ slice_index ends (base + k)
+  pub within : (k : ℕ) → 1 ≤ k → k < count → slice_index ends (base + k) ≤ length ranks
+
+-- the list stays or grows at its end
+abbrev pub Extends : {A : Type 0} → List A → List A → Type 0
+Extends {A} before after = (more : List A) × (after ≡ before ++ more)
+
+-- the kind is that of the item
+pub record IsKind (problem : Problem) (bound : Bound) (classes : List ClassSets) (ends ranks : List ℕ)
+    (t : Item)
+    (kind : Kind) : Type 0 where
+  pub class : (c : ClassSets) × (slice_get classes kind.class ≡ Some c) × IsClassFor problem bound t c
+  pub room : kind.base + length problem.machine.labels < length ends
+  pub cells : (k : ℕ) → IsTarget problem k → IsCell problem bound t kind.base ends ranks k
+
+-- the kind with the number is that of the item
+abbrev pub HasKind : Problem → Bound → List ClassSets → Kinds → Item → ℕ → Type 0
+HasKind problem bound classes kinds t number =
+    (kind : Kind) × (slice_get kinds.kinds.items number ≡ Some kind)
+    × IsKind problem bound classes kinds.ends.items kinds.ranks.items t kind
+
+-- the kinds of the items that have one are right
+pub record AreKinds (problem : Problem) (bound : Bound) (classes : List ClassSets) (kinds : Kinds)
+    : Type 0 where
+  pub all : length kinds.numbers.items ≡ problem.hierarchy.items
+  pub right : (t : Item) → t.0 < length kinds.numbers.items → slice_index kinds.numbers.items t.0 ≢ unknown
+      → HasKind problem bound classes kinds t (slice_index kinds.numbers.items t.0)
+
+-- no kind is lost
+pub record KindsGrow (before after : Kinds) : Type 0 where
+  pub kinds : Extends before.kinds.items after.kinds.items
+  pub ends : Extends before.ends.items after.ends.items
+  pub ranks : Extends before.ranks.items after.ranks.items
+
+-- the outputs of the kind with the number at the state stand where they may be read
+abbrev pub HasCell : Kinds → ℕ → ℕ → Type 0
+HasCell kinds number k =
+    (kind : Kind) × (slice_get kinds.kinds.items number ≡ Some kind)
+    × (kind.base + k < length kinds.ends.items)
+    × (slice_index kinds.ends.items (kind.base + k - 1) ≤ slice_index kinds.ends.items (kind.base + k))
+    × (slice_index kinds.ends.items (kind.base + k) ≤ length kinds.ranks.items)

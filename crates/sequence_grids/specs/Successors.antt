@@ -1,0 +1,28 @@
+-- Where edges lead from each state, as sets of states in one of three widths.
+use Rattle.std.specs.Prelude.{◌≡◌, ℕ, ◌+◌, ◌*◌, ◌<◌, ◌≤◌, ◌↔◌, List, length, slice_index}
+use Rattle.state_bits.specs.Members.{Has}
+use Rattle.fst_compile.specs.Transducer.{Transducer, Leads}
+use Rattle.sequence_grids.specs.declared.successors.Successors.{Successors}
+use Rattle.sequence_grids.specs.declared.successors.Successors.TheVariants.{One, Four, Wide}
+
+-- by the number of a state, the states to which edges lead from it; sets of so many words have room for all
+pub record AreSuccessors (width : ℕ) (machine : Transducer) (sets : List ℕ) : Type 0 where
+  pub all : length sets ≡ length machine.labels + 1
+  pub room : length machine.labels < 64 * width
+  pub leads : (from to : ℕ) → from ≤ length machine.labels
+      → Has (slice_index sets from) to ↔ Leads machine from to
+
+-- the successors are those of the transducer's states
+abbrev pub AreSuccessorsOf : Transducer → Successors → Type 0
+AreSuccessorsOf machine (One sets) = AreSuccessors 1 machine sets.items
+AreSuccessorsOf machine (Four sets) = AreSuccessors 4 machine sets.items
+AreSuccessorsOf machine (Wide sets) = AreSuccessors 17 machine sets.items
+
+-- the states that stand in the rows of these states
+abbrev pub AreNeighbours : List ℕ → ℕ → ℕ → Type 0
+AreNeighbours rows states found =
+    (to : ℕ) → Has found to ↔ ((from : ℕ) × Has (slice_index rows from) to × Has states from)
+
+-- an edge leads from one of the states to this one
+abbrev pub LeadsFrom : Transducer → ℕ → ℕ → Type 0
+LeadsFrom machine states to = (from : ℕ) × Has states from × Leads machine from to

@@ -1,0 +1,17 @@
+-- The fault of a run that a refusal of its sequences is.
+use Rattle.mine_model.specs.declared.fault.Fault.{Fault}
+use Rattle.mine_model.specs.declared.fault.Fault.TheVariants.{BadToken, BadRepeat, Unexpected, Unknown, BadByte, BadWeight, Cycle, ExprTooLong, RepeatLimit, TooDeep, TooManyLeaves, TooLarge, NameTooLong, TooManyItems, TooManyAncestors, TooManySequences, SequenceTooLong, Read, NoMemory}
+use Rattle.mine_model.specs.declared.fault.Which.TheVariants.{Hierarchy, Sequences}
+use Rattle.sequence_reader.specs.declared.sequence_fault.SequenceFault.{SequenceFault}
+use Rattle.sequence_reader.specs.declared.sequence_fault.SequenceFault.TheVariants as sequences
+
+abbrev pub fault_of_sequences : SequenceFault → Fault
+fault_of_sequences sequences.ReadFault = Read Sequences
+fault_of_sequences sequences.TooLarge = TooLarge Sequences
+fault_of_sequences (sequences.BadByte line column) = BadByte Sequences line column
+fault_of_sequences (sequences.NameTooLong line column) = NameTooLong Sequences line column
+fault_of_sequences (sequences.TooManySequences line) = TooManySequences line
+fault_of_sequences (sequences.BadWeight line column) = BadWeight line column
+fault_of_sequences (sequences.TooLong line) = SequenceTooLong line
+fault_of_sequences (sequences.TooManyItems line) = TooManyItems Sequences line
+fault_of_sequences sequences.NoMemory = NoMemory
