@@ -14,6 +14,3 @@ pub use closing::close;
 pub use edges::{EdgeRow, Edges};
 pub use hierarchy_fault::{CloseFault, HierarchyFault};
 pub use reading::read;
-
-#[cfg(test)]
-mod tests;

@@ -127,6 +127,3 @@ impl Names {
         self.texts.count()
     }
 }
-
-#[cfg(test)]
-mod tests;

@@ -20,6 +20,3 @@ pub use parsed::{NameUse, Parsed};
 pub use parser::parse;
 pub use patex_fault::PatexFault;
 pub use resolving::resolve;
-
-#[cfg(test)]
-mod tests;

@@ -9,6 +9,3 @@ mod writing;
 pub use ordering::order;
 pub use write_fault::WriteFault;
 pub use writing::write;
-
-#[cfg(test)]
-mod tests;

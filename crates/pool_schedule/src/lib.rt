@@ -11,8 +11,6 @@ mod laws;
 mod machine;
 mod run;
 mod stepping;
-#[cfg(test)]
-mod tests;
 mod worker;
 
 pub use event::Event;

@@ -11,8 +11,6 @@ mod reading;
 mod successors;
 mod table;
 mod tables;
-#[cfg(test)]
-mod tests;
 
 pub use grid::Grid;
 pub use grids::Grids;

@@ -7,6 +7,3 @@ mod weighing;
 
 pub use reading::read;
 pub use sequence_fault::SequenceFault;
-
-#[cfg(test)]
-mod tests;
