@@ -23,4 +23,4 @@ pub use grids::Grids;
 pub use job::Job;
 pub use part_seed::PartSeed;
 pub use reading::Reading;
-pub use successors::{Successors, neighbours, successors_of};
+pub use successors::{Successors, successors_of};

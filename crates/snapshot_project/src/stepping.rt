@@ -17,9 +17,9 @@ use super::aim::Aim;
 use super::part::Part;
 use super::span::Span;
 use fst_compile::State;
-use fst_simulate::{Reading, neighbours};
+use fst_simulate::Reading;
 use mine_model::NoMemory;
-use state_bits::StateSet;
+use state_bits::{StateSet, neighbours};
 
 /// Goes over the item at a position of a grid from the live states: those that are live behind it, and,
 /// appended, what may be written there.
