@@ -14,7 +14,7 @@ use Rattle.mine_model.proofs.ListLemmas.{Contains-cases, Contains-first, Contain
 use Rattle.fst_compile.specs.declared.edge.Edge.{Edge}
 use Rattle.fst_compile.specs.declared.edge.Label.{Label}
 use Rattle.fst_compile.specs.Transducer.{Enters, edges_from}
-use Rattle.fst_compile.proofs.RowLemmas.{Has-none}
+use Rattle.state_bits.proofs.NeighbourLemmas.{Has-none}
 use Rattle.sequence_grids.specs.Grids.{Reads}
 use Rattle.sequence_grids.proofs.PathLemmas.{label_at_edge, writes-cases}
 use Rattle.candidate_gen.specs.declared.place.Place.{Place}

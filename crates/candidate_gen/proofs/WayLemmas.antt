@@ -5,7 +5,7 @@ use Rattle.std.proofs.lemmas.List.{append-nil, same_from_push}
 use Rattle.std.proofs.lemmas.Bool.{cases_lt}
 use Rattle.state_bits.specs.Members.{Has}
 use Rattle.mine_model.proofs.ListLemmas.{Contains-first, Contains-none, last-cases as snoc-view}
-use Rattle.fst_compile.proofs.RowLemmas.{Has-none}
+use Rattle.state_bits.proofs.NeighbourLemmas.{Has-none}
 use Rattle.candidate_gen.specs.declared.place.Place.{Place}
 use Rattle.candidate_gen.specs.Paths.{Space}
 use Rattle.candidate_gen.specs.Places.{FollowsOf, FollowsLive, IsOf, IsPlace, IsBelow}

@@ -16,8 +16,7 @@ ghost use Rattle.candidate_gen.specs.Walk.{Takes};
 use super::place::Place;
 use super::view::View;
 use mine_model::NoMemory;
-use sequence_grids::neighbours;
-use state_bits::StateSet;
+use state_bits::{StateSet, neighbours};
 
 /// Takes the topmost place away, where it is one of the prefix at the position, and gives its state.
 fn take_place(waiting: &mut Vec<Place>, depth: u32, rank: u32, position: u32) -> Option<u32>

@@ -19,7 +19,7 @@ use Rattle.fst_compile.specs.Transducer.{Transducer, Enters, Leads, IsPositionAu
 use Rattle.fst_compile.proofs.PositionLemmas.{IsIn, First-in, Last-in, Follows-in}
 use Rattle.fst_compile.proofs.UnfoldLemmas.{size-unfold}
 use Rattle.fst_compile.proofs.AutomatonLemmas.{length-labels}
-use Rattle.fst_compile.proofs.RowLemmas.{Has-none}
+use Rattle.state_bits.proofs.NeighbourLemmas.{Has-none}
 
 -- rows of empty sets have no edge
 pub no_edge : (rows : List ℕ) → ((from : ℕ) → get_or rows from 0 ≡ 0) → (from to : ℕ) → HasEdge rows from to → ⊥

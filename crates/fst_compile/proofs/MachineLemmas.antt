@@ -10,7 +10,7 @@ use Rattle.mine_model.specs.Ancestry.{start_of, list_at}
 use Rattle.mine_model.proofs.ListLemmas.{Contains-cases, Contains-first, Contains-none, Contains-by, Contains-from}
 use Rattle.mine_model.proofs.AncestryLemmas.{cut-more, list_at-old, list_at-new}
 use Rattle.fst_compile.specs.Rows.{HasEdge}
-use Rattle.fst_compile.proofs.RowLemmas.{Has-none}
+use Rattle.state_bits.proofs.NeighbourLemmas.{Has-none}
 use Rattle.state_bits.specs.Members.{Has}
 use Rattle.fst_compile.specs.declared.edge.Edge.{Edge}
 use Rattle.fst_compile.specs.declared.edge.Label.{Label}

@@ -5,14 +5,9 @@ use Rattle.std.proofs.Math.ListN.{length-set}
 use Rattle.std.proofs.lemmas.List.{get_or_default}
 use Rattle.std.proofs.lemmas.List.Elements.{Contains-get_or}
 use Rattle.std.proofs.lemmas.Bool.{cases_eq}
-use Rattle.std.proofs.lemmas.Nat.Bits.{bit_at-zero}
 use Rattle.state_bits.specs.Members.{Has}
+use Rattle.state_bits.proofs.NeighbourLemmas.{Has-none}
 use Rattle.fst_compile.specs.Rows.{HasEdge, Adds, IsSetOf}
-
--- the empty set has no member
-pub Has-none : (k : ℕ) → Has 0 k → ⊥
-unfolding Has
-Has-none k has = let none = bit_at-zero k in omega arith
 
 -- the set has the first so many of these states, and no others
 pub record IsSetSoFar (members : ℕ) (states : List ℕ) (index : ℕ) : Type 0 where

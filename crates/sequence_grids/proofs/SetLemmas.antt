@@ -10,7 +10,7 @@ use Rattle.fst_compile.specs.declared.edge.Edge.{Edge}
 use Rattle.fst_compile.specs.Rows.{HasEdge, Adds}
 use Rattle.fst_compile.specs.declared.edge.Label.{Label}
 use Rattle.fst_compile.specs.Transducer.{Transducer, Enters, Leads, edges_from}
-use Rattle.fst_compile.proofs.RowLemmas.{Has-none}
+use Rattle.state_bits.proofs.NeighbourLemmas.{Has-none}
 use Rattle.sequence_grids.specs.Tables.{Precedes, LeadTo}
 
 pub Precedes-none : (sets : List ℕ) → ((k : ℕ) → get_or sets k 0 ≡ 0) → (q k : ℕ) → Precedes sets q k → ⊥

@@ -9,8 +9,9 @@ use Rattle.state_bits.specs.Members.{Has}
 use Rattle.mine_model.proofs.ListLemmas.{Contains-cases, Contains-first, Contains-none}
 use Rattle.fst_compile.specs.declared.edge.Edge.{Edge}
 use Rattle.fst_compile.specs.Transducer.{Transducer, Leads, Enters, edges_from}
-use Rattle.fst_compile.proofs.RowLemmas.{Has-none}
-use Rattle.sequence_grids.specs.Successors.{AreSuccessors, AreNeighbours, LeadsFrom}
+use Rattle.state_bits.proofs.NeighbourLemmas.{Has-none}
+use Rattle.state_bits.specs.Neighbours.{AreNeighbours}
+use Rattle.sequence_grids.specs.Successors.{AreSuccessors, LeadsFrom}
 
 -- the states to which the first edges of a state lead were added
 abbrev pub AreAdded : List Edge → ℕ → ℕ → ℕ → Type 0
@@ -55,56 +56,6 @@ module _ (edges : List Edge) (before : ℕ) where
   pub added-all : (after index : ℕ) → AreAdded edges before after index → length edges ≤ index
       → (to : ℕ) → Has after to ↔ (Has before to ⊎ ((edge : Edge) × Contains edges edge × (edge.to.0 ≡ to)))
   added-all after index so_far over = subst (λ (l : List Edge). (to : ℕ) → Has after to ↔ (Has before to ⊎ ((edge : Edge) × Contains l edge × (edge.to.0 ≡ to)))) (take_all index edges over) so_far
-
--- ---- the rows of the first so many states of a set
-
-pub record AreNeighboursSoFar (rows : List ℕ) (all found : ℕ) (done left : List ℕ) : Type 0 where
-  pub exact : (q : ℕ) → Has found q ↔ ((k : ℕ) × Has (get_or rows k 0) q × Contains done k)
-  pub members : (k : ℕ) → Contains (done ++ left) k ↔ Has all k
-
-pub AreNeighboursSoFar-none : (rows : List ℕ) (members : ℕ) (left : List ℕ) → ((k : ℕ) → Contains left k ↔ Has members k) → AreNeighboursSoFar rows members 0 [] left
-AreNeighboursSoFar-none rows members left are = record {
-  exact = λ q. ((λ has. absurd (Has-none q has)), (λ h. let (k, before, in_none) = h in absurd (Contains-none k in_none)));
-  members = are;
-}
-
-pub AreNeighboursSoFar-more : (rows : List ℕ) (members found after : ℕ) (done left later : List ℕ) (state row : ℕ) → AreNeighboursSoFar rows members found done left
-    → left ≡ state ∷ later → row ≡ get_or rows state 0 → ((q : ℕ) → Has after q ↔ (Has found q ⊎ Has row q))
-    → AreNeighboursSoFar rows members after (done ++ state ∷ []) later
-AreNeighboursSoFar-more rows members found after done left later state row so_far next is step =
-    let same : done ++ left ≡ (done ++ state ∷ []) ++ later = rw next (sym (append_assoc done (state ∷ []) later)) in
-    record {
-      exact = λ q. (
-        (λ has. elim ((step q).0 has) [
-          | inl had ↦ let (k, before, inside) = (so_far.exact q).0 had in (k, before, Contains-append_left done (state ∷ []) k inside)
-          | inr new ↦ (state, subst (λ (x : ℕ). Has x q) is new, Contains-append_right done (state ∷ []) state (Contains-first state []))
-        ]),
-        (λ h. let (k, before, inside) = h in elim (Contains-append_cases done (state ∷ []) k inside) [
-          | inl earlier ↦ (step q).1 (inl ((so_far.exact q).1 (k, before, earlier)))
-          | inr last ↦ elim (Contains-cases state [] k last) [
-            | inl this ↦ (step q).1 (inr (subst (λ (x : ℕ). Has x q) (sym is) (subst (λ (x : ℕ). Has (get_or rows x 0) q) this before)))
-            | inr none ↦ absurd (Contains-none k none)
-          ]
-        ]),
-      );
-      members = subst (λ (xs : List ℕ). (k : ℕ) → Contains xs k ↔ Has members k) same so_far.members;
-    }
-
-pub AreNeighboursSoFar-all : (rows : List ℕ) (members found : ℕ) (done left : List ℕ) → AreNeighboursSoFar rows members found done left → left ≡ []
-    → AreNeighbours rows members found
-AreNeighboursSoFar-all rows members found done left so_far none =
-    let same : done ++ left ≡ done = rw none (append-nil done) in
-    let are : (k : ℕ) → Contains done k ↔ Has members k = subst (λ (xs : List ℕ). (k : ℕ) → Contains xs k ↔ Has members k) same so_far.members in
-    λ q. (
-      (λ has. let (k, before, inside) = (so_far.exact q).0 has in (k, before, (are k).0 inside)),
-      (λ h. let (k, before, member) = h in (so_far.exact q).1 (k, before, (are k).1 member)),
-    )
-
--- the next state of a walk is a member
-pub next_neighbour : {rows : List ℕ} {all found : ℕ} {done left : List ℕ} (state : ℕ) (later : List ℕ) → AreNeighboursSoFar rows all found done left
-    → left ≡ state ∷ later → Has all state
-next_neighbour {done = done} {left = left} state later so_far next =
-    (so_far.members state).0 (Contains-append_right done left state (rw next (Contains-first state later)))
 
 -- an edge that is labelled leads to a state of the transducer other than the start
 pub leads-within : (machine : Transducer) → ((state : ℕ) (edge : Edge) → Contains (edges_from machine state) edge → Enters machine.labels edge)

@@ -12,7 +12,7 @@ use Rattle.mine_model.proofs.ElementLemmas.{get-left}
 use Rattle.std.specs.Int.{bit_at}
 use Rattle.std.proofs.lemmas.Nat.Bits.{bit_at_cat_low, bit_at_cat_high}
 use Rattle.state_bits.specs.Members.{Has, HasBit, words_of}
-use Rattle.fst_compile.proofs.RowLemmas.{Has-none}
+use Rattle.state_bits.proofs.NeighbourLemmas.{Has-none}
 use Rattle.sequence_grids.specs.declared.table.Class.{Class}
 use Rattle.sequence_grids.specs.declared.table.Triple.{Triple}
 use Rattle.sequence_grids.specs.Tables.{ClassSets, TripleSets, TableValue, class_sets, triple_sets, IsClassOf, Grows, IsLast, IsStepAt, AreBelow, AddsTo, IsTable, row, unknown}

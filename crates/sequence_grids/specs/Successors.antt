@@ -18,11 +18,6 @@ AreSuccessorsOf machine (One sets) = AreSuccessors 1 machine sets.items
 AreSuccessorsOf machine (Four sets) = AreSuccessors 4 machine sets.items
 AreSuccessorsOf machine (Wide sets) = AreSuccessors 17 machine sets.items
 
--- the states that stand in the rows of these states
-abbrev pub AreNeighbours : List ℕ → ℕ → ℕ → Type 0
-AreNeighbours rows states found =
-    (to : ℕ) → Has found to ↔ ((from : ℕ) × Has (slice_index rows from) to × Has states from)
-
 -- an edge leads from one of the states to this one
 abbrev pub LeadsFrom : Transducer → ℕ → ℕ → Type 0
 LeadsFrom machine states to = (from : ℕ) × Has states from × Leads machine from to

@@ -15,4 +15,4 @@ mod tables;
 pub use grid::Grid;
 pub use grids::Grids;
 pub use reading::Reading;
-pub use successors::{Successors, neighbours, successors_of};
+pub use successors::{Successors, successors_of};

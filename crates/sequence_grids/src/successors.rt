@@ -3,7 +3,7 @@
 ghost use Rattle.std.specs.Prelude.{◌≡◌, ℕ, ◌*◌, ◌≤◌, ◌<◌, ◌⊎◌, ◌↔◌, length, slice_index, IfOk};
 ghost use Rattle.state_bits.specs.Members.{Has};
 ghost use Rattle.fst_compile.specs.Transducer.{Leads};
-ghost use Rattle.sequence_grids.specs.Successors.{AreSuccessors, AreSuccessorsOf, AreNeighbours};
+ghost use Rattle.sequence_grids.specs.Successors.{AreSuccessors, AreSuccessorsOf};
 
 use fst_compile::{Fst, State};
 use mine_model::NoMemory;
@@ -56,18 +56,4 @@ fn add_targets<const W: usize>(fst: &Fst, state: u32, targets: &mut StateSet<W>)
     for edge in fst.edges(State(state)) {
         targets.add(edge.to.0);
     }
-}
-
-/// The states that stand in the rows of these: with the successors of each state those to which edges lead
-/// from one of them.
-pub fn neighbours<const W: usize>(rows: &[StateSet<W>], states: &StateSet<W>) -> StateSet<W>
-    requires width { W ≤ 17 }
-    requires within { (from : ℕ) → Has states.now from → from < length rows.now }
-    ensures { AreNeighbours rows.now states.now result }
-{
-    let mut found = StateSet::new();
-    for state in states.iter() {
-        found.union_with(&rows[state as usize]);
-    }
-    found
 }

@@ -8,11 +8,10 @@ ghost use Rattle.sequence_grids.specs.Tables.{ClassSets, TripleSets, class_sets,
 ghost use Rattle.sequence_grids.specs.Words.{AreClassWords, AreTripleWords};
 
 use super::number::{NONE, to_number};
-use super::successors::neighbours;
 use fst_compile::{Edge, Fst, State};
 use indexmap::IndexSet;
 use mine_model::NoMemory;
-use state_bits::StateSet;
+use state_bits::{StateSet, neighbours};
 use std::alloc::Global;
 use std::marker::Model;
 

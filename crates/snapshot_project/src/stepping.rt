@@ -18,8 +18,8 @@ use super::part::Part;
 use super::span::Span;
 use fst_compile::State;
 use mine_model::NoMemory;
-use sequence_grids::{Reading, neighbours};
-use state_bits::StateSet;
+use sequence_grids::Reading;
+use state_bits::{StateSet, neighbours};
 
 /// Goes over the item at a position of a grid from the live states: those that are live behind it, and,
 /// appended, what may be written there.

@@ -1,3 +1,4 @@
 pub mod WordLemmas
 pub mod SetLemmas
 pub mod LeftLemmas
+pub mod NeighbourLemmas

@@ -1,7 +1,7 @@
 use Rattle.std.proofs.Common.{ℕ, ◌<◌, ◌≤◌, length, arith, rules}
 use Rattle.state_bits.specs.Members.{Has}
 use Rattle.std.proofs.lemmas.Result.{IfOk-weaker}
-use Rattle.fst_compile.proofs.RowLemmas.{Has-none}
+use Rattle.state_bits.proofs.NeighbourLemmas.{Has-none}
 use Rattle.sequence_grids.proofs.SuccessorLemmas.{leads-from, leads-within}
 use Rattle.candidate_gen.proofs.ItemLemmas.{step-live, step-past, step-idle}
 use Rattle.candidate_gen.proofs.advancing.step.Goals as goal

@@ -1,7 +1,7 @@
 use Rattle.std.proofs.Common.{◌≡◌, ◌↔◌, ◌+◌, ◌*◌, ◌<◌, ◌≤◌, ℕ, Bool, inl, inr, [], length, sym, ap, ◌∙◌, subst, arith, rules}
 use Rattle.state_bits.specs.Members.{Has}
 use Rattle.mine_model.specs.Limits.{most_length}
-use Rattle.fst_compile.proofs.RowLemmas.{Has-none}
+use Rattle.state_bits.proofs.NeighbourLemmas.{Has-none}
 use Rattle.mine_model.proofs.ListLemmas.{Contains-none}
 use Rattle.sequence_grids.specs.Grids.{Completes, Reads, items_at, rest_at}
 use Rattle.sequence_grids.specs.Successors.{LeadsFrom}

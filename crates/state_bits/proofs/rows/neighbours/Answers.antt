@@ -1,7 +1,7 @@
 use Rattle.std.proofs.Common.{◌∙◌, arith}
 use Rattle.std.proofs.lemmas.List.{get_or_default}
-use Rattle.sequence_grids.proofs.SuccessorLemmas.{AreNeighboursSoFar-none, AreNeighboursSoFar-more, next_neighbour}
-use Rattle.sequence_grids.proofs.successors.neighbours.Goals as goal
+use Rattle.state_bits.proofs.NeighbourLemmas.{AreNeighboursSoFar-none, AreNeighboursSoFar-more, next_neighbour}
+use Rattle.state_bits.proofs.rows.neighbours.Goals as goal
 
 pub loop-state-init : goal.loop-state-init
 loop-state-init g c =
