@@ -1,5 +1,5 @@
-//! A mining problem: the sequences with their hierarchy, the transducer of the expression, the ranks and the threshold, and the
-//! parts that a pivot makes of it.
+//! A mining problem: the sequences with their hierarchy, the transducer of the expression, the ranks and the
+//! threshold, and the parts that a pivot makes of it.
 #![tactic(auto)]
 
 mod bound;
