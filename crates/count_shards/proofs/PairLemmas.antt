@@ -53,10 +53,10 @@ candidates_listed problem seq listed whole are =
     let w = patterns_of order listed (λ ranks h. (let (pattern, candidate, ranked) = (are.exact ranks).0 h in (pattern, ranked))) in
     let all : AreCandidates problem seq w.0 = patterns-all problem seq whole listed w.0 are w.1 in
     record {
-      candidates = w.0;
+      things = w.0;
       once = λ i j d before within. not_same order whole.ranks.once (get_or w.0 i d) (get_or w.0 j d) (all.rises i j d before within);
       exact = all.exact;
-      counted = w.2;
+      counted = sym w.2;
     }
 
 -- ---- one sequence after another

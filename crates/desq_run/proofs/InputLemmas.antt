@@ -19,11 +19,11 @@ use Rattle.mine_model.proofs.CountedLemmas.{pairs-forth, search-forth}
 use Rattle.mine_model.proofs.NamedAnswer.{named_data, answer-named}
 use Rattle.command_line.specs.declared.words.Engine.{Engine}
 use Rattle.command_line.specs.declared.words.Engine.TheVariants.{Count, Dfs, Pivot}
-use Rattle.desq_run.specs.PartitionWork.{IsPartitionWork, IsBytewiseBefore, IsNamedBefore}
+use Rattle.mine_model.specs.PartitionWork.{IsPartitionWork, IsBytewiseBefore, IsNamedBefore}
 use Rattle.desq_run.specs.Ends.{Input, data_of, IsWorkOf}
 use Rattle.desq_run.specs.Inputs.{IsHierarchyOf, IsDatabaseOf, AreLinksWithin}
 use Rattle.desq_run.proofs.LinkLemmas.{names-rename}
-use Rattle.desq_run.proofs.PartitionWorkLemmas.{partition-names}
+use Rattle.mine_model.proofs.PartitionWorkLemmas.{partition-names}
 
 each-contained : {X : Type 0} (P : X → Type 0) (xs : List X) → ((x : X) → Contains xs x → P x) → AllByRecursion P xs
 each-contained P [] each = tt

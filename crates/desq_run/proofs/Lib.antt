@@ -1,7 +1,6 @@
 pub mod Told
 pub mod LinkLemmas
 pub mod HierarchyLemmas
-pub mod PartitionWorkLemmas
 pub mod PartitionRankLemmas
 pub mod SourceLemmas
 pub mod InputLemmas

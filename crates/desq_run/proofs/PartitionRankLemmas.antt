@@ -26,8 +26,8 @@ use Rattle.mine_model.proofs.AliveLemmas.{IsAlive-weaker, IsAlive-some}
 use Rattle.search_tree.proofs.SearchAnswerLemmas.{ranked-items, frequent-ranks}
 use Rattle.mining_job.specs.Problems.{Problem, data_of, IsWhole}
 use Rattle.search_engine.specs.Partition.{IsPartitionWork as IsRankedWork}
-use Rattle.desq_run.specs.PartitionWork.{RanksBefore, IsPivotOf, IsPartitionWork, IsBytewiseBefore, IsNamedBefore}
-use Rattle.desq_run.proofs.PartitionWorkLemmas.{IsNumberOf-by}
+use Rattle.mine_model.specs.PartitionWork.{RanksBefore, IsPivotOf, IsPartitionWork, IsBytewiseBefore, IsNamedBefore}
+use Rattle.mine_model.proofs.NumberLemmas.{IsNumberOf-by}
 
 -- a ranked item has its frequency in the list, where that is as long as there are items
 pub order-within : (d : Data Item) (ranking : Ranking) → AreRanks d.links d.sequences d.threshold ranking → 1 ≤ d.threshold

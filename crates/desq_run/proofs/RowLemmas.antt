@@ -18,7 +18,7 @@ use Rattle.patex_parser.specs.Parsing.{named_tree}
 use Rattle.command_line.specs.Words.{Command, file_of}
 use Rattle.mine_model.specs.declared.mined.Work.{Work}
 use Rattle.command_line.specs.declared.words.Engine.{Engine}
-use Rattle.desq_run.specs.PartitionWork.{IsBytewiseBefore, IsNamedBefore}
+use Rattle.mine_model.specs.PartitionWork.{IsBytewiseBefore, IsNamedBefore}
 use Rattle.desq_run.specs.Sources.{SaysTree}
 use Rattle.desq_run.specs.Ends.{bytes_named, data_of, HasSource, IsAnswerTo, IsWorkOf}
 use Rattle.desq_run.specs.Inputs.{IsHierarchyOf, IsDatabaseOf, AreLinksWithin, AreInputs, HasRanges, IsRead, AreRows, AreOrdered, IsMined}

@@ -18,7 +18,7 @@ use Rattle.gap_front.specs.Answers.{IsEmbeddedAnswer}
 use Rattle.command_line.specs.declared.words.Engine.{Engine}
 use Rattle.command_line.specs.declared.words.Engine.TheVariants.{Count, Dfs, Pivot}
 use Rattle.command_line.specs.Words.{Source, read, embed, Command, IsCommand, IsUsage, file_of}
-use Rattle.desq_run.specs.PartitionWork.{IsBytewiseBefore, IsPartitionWork}
+use Rattle.mine_model.specs.PartitionWork.{IsBytewiseBefore, IsPartitionWork}
 use Rattle.desq_run.specs.Sources.{IsSourceRefusal, HasUse, IsUnknownIn, SaysTree}
 
 -- a command, and what its files hold

@@ -20,7 +20,7 @@ use Rattle.command_line.specs.declared.words.Engine.{Engine}
 use Rattle.gap_front.specs.Embedding.{IsRule}
 use Rattle.patex_parser.specs.Parsing.{AreWithin, named_tree}
 use Rattle.command_line.specs.Words.{Source, read, embed, Command, file_of}
-use Rattle.desq_run.specs.PartitionWork.{IsNamedBefore}
+use Rattle.mine_model.specs.PartitionWork.{IsNamedBefore}
 use Rattle.desq_run.specs.Sources.{HasUse, IsUnknownIn, SaysTree}
 use Rattle.desq_run.specs.Ends.{Input, IsInput, bytes_named, IsAccepted, IsAnswerTo, HasSource, IsOfKind, IsWorkOf, IsWork}
 

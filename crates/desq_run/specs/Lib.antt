@@ -1,5 +1,4 @@
 -- the words of the promise
-pub mod PartitionWork
 pub mod Sources
 pub mod Ends
 pub mod Reported

@@ -4,7 +4,7 @@ ghost use Rattle.std.specs.Prelude.{◌≡◌, ℕ, List};
 ghost use Rattle.mine_model.specs.declared.fault.Fault.{Fault};
 ghost use Rattle.mine_model.specs.declared.mined.Work.{Work};
 ghost use Rattle.mine_model.specs.Answer.{Data};
-ghost use Rattle.desq_run.specs.PartitionWork.{IsPartitionWork, IsBytewiseBefore};
+ghost use Rattle.mine_model.specs.PartitionWork.{IsPartitionWork, IsBytewiseBefore};
 ghost use Rattle.desq_run.specs.Ends.{Input, IsFirstRefusal, IsAnswerText};
 
 /// Of an input at most one refusal comes first.

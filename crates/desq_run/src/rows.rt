@@ -14,7 +14,7 @@ ghost use Rattle.mine_model.specs.Refusal.{IsUnknown};
 ghost use Rattle.patex_parser.specs.Parsing.{use_view, AreWithin, named_tree};
 ghost use Rattle.mining_job.specs.Problems.{data_of};
 ghost use Rattle.search_engine.specs.Partition.{IsWorkFor};
-ghost use Rattle.desq_run.specs.PartitionWork.{IsNamedBefore};
+ghost use Rattle.mine_model.specs.PartitionWork.{IsNamedBefore};
 ghost use Rattle.desq_run.specs.Ends.{IsWorkOf};
 ghost use Rattle.desq_run.specs.Inputs.{AreOrdered, AreRows};
 

@@ -129,15 +129,15 @@ module _ {A B : Type 0} (f : A → B) (others : List (Link B)) (d : Data A) (P :
 
   candidates-forth : (items : List A) (n : ℕ) → AllByRecursion P items → HasCandidates d items n → HasCandidates renamed (map f items) n
   candidates-forth items n within has = record {
-    candidates = map (map f) has.candidates;
-    once = once-forth items has.candidates within (λ pattern. (has.exact pattern).0) has.once;
+    things = map (map f) has.things;
+    once = once-forth items has.things within (λ pattern. (has.exact pattern).0) has.once;
     exact = λ pattern. (
-      λ inside. let (own, held, same) = Contains-from (map f) has.candidates pattern inside in
+      λ inside. let (own, held, same) = Contains-from (map f) has.things pattern inside in
           subst (CandidateNamed (map f items)) (sym same) (candidate-forth items own within ((has.exact own).0 held)),
       λ is. let (own, same, is_own) = candidate-back items pattern within is in
-          subst (Contains (map (map f) has.candidates)) (sym same) (Contains-by (map f) has.candidates own ((has.exact own).1 is_own)),
+          subst (Contains (map (map f) has.things)) (sym same) (Contains-by (map f) has.things own ((has.exact own).1 is_own)),
     );
-    counted = length-map has.candidates (map f) ∙ has.counted;
+    counted = has.counted ∙ sym (length-map has.things (map f));
   }
 
   -- so many pairs there are under the other names too
@@ -232,18 +232,20 @@ module _ {A B : Type 0} (f : A → B) (others : List (Link B)) (d : Data A) (P :
   pub search-forth : 1 ≤ d.threshold → (work : Work) → IsSearchWork d work
       → IsSearchWork (record { links = others; sequences = map (sequence_by f) d.sequences; expression = tree_by f d.expression; threshold = d.threshold }) work
   search-forth some work is = record {
-    prefixes = map (map f) is.prefixes;
-    once = prefixes-once is.prefixes (λ prefix inside. within-own prefix ((is.alive prefix).0 inside)) is.once;
-    alive = λ prefix. (
-      λ inside. let (own, held, same) = Contains-from (map f) is.prefixes prefix inside in
-          subst (λ l. WeighAtLeast (BehindNamed l) (map (sequence_by f) d.sequences) d.threshold) (sym same)
-          (weigh-forth own d.sequences d.threshold all ((is.alive own).0 held)),
-      λ weigh. let (own, same, inside) = weigh-own prefix d.threshold some weigh in
-          subst (Contains (map (map f) is.prefixes)) (sym same)
-          (Contains-by (map f) is.prefixes own ((is.alive own).1 (weigh-back own inside d.sequences d.threshold all
-          (subst (λ l. WeighAtLeast (BehindNamed l) (map (sequence_by f) d.sequences) d.threshold) same weigh)))),
-    );
-    nodes = is.nodes ∙ sym (length-map is.prefixes (map f));
+    nodes = record {
+      things = map (map f) is.nodes.things;
+      once = prefixes-once is.nodes.things (λ prefix inside. within-own prefix ((is.nodes.exact prefix).0 inside)) is.nodes.once;
+      exact = λ prefix. (
+        λ inside. let (own, held, same) = Contains-from (map f) is.nodes.things prefix inside in
+            subst (λ l. WeighAtLeast (BehindNamed l) (map (sequence_by f) d.sequences) d.threshold) (sym same)
+            (weigh-forth own d.sequences d.threshold all ((is.nodes.exact own).0 held)),
+        λ weigh. let (own, same, inside) = weigh-own prefix d.threshold some weigh in
+            subst (Contains (map (map f) is.nodes.things)) (sym same)
+            (Contains-by (map f) is.nodes.things own ((is.nodes.exact own).1 (weigh-back own inside d.sequences d.threshold all
+            (subst (λ l. WeighAtLeast (BehindNamed l) (map (sequence_by f) d.sequences) d.threshold) same weigh)))),
+      );
+      counted = is.nodes.counted ∙ sym (length-map is.nodes.things (map f));
+    };
     parts = elim is.parts [
       | inl one ↦ inl (one.0, weigh-forth [] d.sequences d.threshold all one.1)
       | inr none ↦ inr (none.0, λ weigh. none.1 (weigh-back [] tt d.sequences d.threshold all weigh))

@@ -11,6 +11,7 @@ pub mod NumberingLemmas
 pub mod NamedAnswer
 pub mod WalkLemmas
 pub mod ElementLemmas
+pub mod NumberLemmas
 pub mod CountedLemmas
 pub mod WorkLemmas
 pub mod OnceLemmas
@@ -24,3 +25,4 @@ pub mod TestedLists
 pub mod ApartLemmas
 pub mod SumLemmas
 pub mod AliveLemmas
+pub mod PartitionWorkLemmas

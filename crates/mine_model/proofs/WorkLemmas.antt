@@ -5,26 +5,16 @@ use Rattle.std.proofs.lemmas.List.Elements.{Contains-get_or}
 use Rattle.mine_model.specs.declared.mined.Work.{Work}
 use Rattle.mine_model.specs.Support.{Sequence}
 use Rattle.mine_model.specs.Answer.{Data}
-use Rattle.mine_model.specs.Counted.{HasCandidates, HasPairs, told_of, IsCountingWork}
-use Rattle.mine_model.specs.Growth.{IsSearchWork}
-use Rattle.mine_model.proofs.NameLemmas.{distinct_fit}
+use Rattle.mine_model.specs.Candidates.{IsCandidate}
+use Rattle.mine_model.specs.Counted.{HasPairs, told_of, IsCountingWork}
+use Rattle.mine_model.specs.Growth.{IsAlive, AreFrequentItems, IsSearchWork}
+use Rattle.mine_model.proofs.NumberLemmas.{IsNumberOf-unique}
 
 module _ {A : Type 0} (d : Data A) where
-  -- all candidates that the one counts are counted by the other
-  candidates-le : (items : List A) (m n : ℕ) → HasCandidates d items m → HasCandidates d items n → m ≤ n
-  candidates-le items m n first second =
-      let within : All (λ pattern. Contains second.candidates pattern) first.candidates =
-      λ k e below. (second.exact (get_or first.candidates k e)).1 ((first.exact (get_or first.candidates k e)).0 (Contains-get_or first.candidates k e below)) in
-      let fit : length first.candidates ≤ length second.candidates = distinct_fit first.candidates second.candidates first.once within in
-      omega (arith, fit, first.counted, second.counted)
-
-  pub HasCandidates-unique : (items : List A) (m n : ℕ) → HasCandidates d items m → HasCandidates d items n → m ≡ n
-  HasCandidates-unique items m n first second = omega (arith, candidates-le items m n first second, candidates-le items n m second first)
-
   pub HasPairs-unique : (sequences : List (Sequence A)) (m n : ℕ) → HasPairs d sequences m → HasPairs d sequences n → m ≡ n
   HasPairs-unique [] m n first second = first ∙ sym second
   HasPairs-unique (sequence ∷ sequences) m n (here, rest, sum, has, more) (here', rest', sum', has', more') =
-      omega (arith, sum, sum', HasCandidates-unique sequence.items here here' has has', HasPairs-unique sequences rest rest' more more')
+      omega (arith, sum, sum', IsNumberOf-unique (IsCandidate d sequence.items) here here' has has', HasPairs-unique sequences rest rest' more more')
 
 works-same : (first second : Work) → first.nodes ≡ second.nodes → first.parts ≡ second.parts → first.candidates ≡ second.candidates → first ≡ second
 works-same first second nodes parts candidates =
@@ -39,15 +29,10 @@ IsCountingWork-unique d first second one other =
     works-same first second (one.nodes ∙ sym other.nodes) (one.parts ∙ sym other.parts)
     (told ∙ ap told_of (HasPairs-unique d d.sequences m n pairs pairs') ∙ sym told')
 
-prefixes-le : (d : Data (List ℕ)) (first second : Work) (one : IsSearchWork d first) (other : IsSearchWork d second) → length one.prefixes ≤ length other.prefixes
-prefixes-le d first second one other =
-    distinct_fit one.prefixes other.prefixes one.once
-    (λ k e below. (other.alive (get_or one.prefixes k e)).1 ((one.alive (get_or one.prefixes k e)).0 (Contains-get_or one.prefixes k e below)))
-
 pub IsSearchWork-unique : (d : Data (List ℕ)) (first second : Work) → IsSearchWork d first → IsSearchWork d second → first ≡ second
 IsSearchWork-unique d first second one other =
     works-same first second
-    (omega (arith, one.nodes, other.nodes, prefixes-le d first second one other, prefixes-le d second first other one))
+    (IsNumberOf-unique (IsAlive d (AreFrequentItems d)) first.nodes second.nodes one.nodes other.nodes)
     (elim one.parts [
       | inl some ↦ elim other.parts [ inl more ↦ some.0 ∙ sym more.0 | inr none ↦ absurd (none.1 some.1) ]
       | inr none ↦ elim other.parts [ inl some ↦ absurd (none.1 some.1) | inr more ↦ none.0 ∙ sym more.0 ]

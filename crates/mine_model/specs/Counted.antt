@@ -1,18 +1,16 @@
 -- The counted work of a run: the pairs of a sequence and one of its candidates. The candidates are those of
 -- the DESQ article.
-use Rattle.std.specs.Prelude.{◌≡◌, ◌≢◌, ℕ, ◌+◌, ◌↔◌, min, List, [], ◌∷◌, length, AllPairs, Contains}
+use Rattle.std.specs.Prelude.{◌≡◌, ℕ, ◌+◌, min, List, [], ◌∷◌}
 use Rattle.mine_model.specs.declared.mined.Work.{Work}
 use Rattle.mine_model.specs.Limits.{most_told_pairs}
 use Rattle.mine_model.specs.Support.{Sequence}
 use Rattle.mine_model.specs.Answer.{Data}
 use Rattle.mine_model.specs.Candidates.{IsCandidate}
+use Rattle.mine_model.specs.Numbers.{IsNumberOf}
 
 -- the items have so many candidates: patterns of frequent items that the expression generates from them
-pub record HasCandidates {A : Type 0} (d : Data A) (items : List A) (count : ℕ) : Type 0 where
-  pub candidates : List (List A)
-  pub once : AllPairs (λ first second. first ≢ second) candidates
-  pub exact : (pattern : List A) → Contains candidates pattern ↔ IsCandidate d items pattern
-  pub counted : length candidates ≡ count
+abbrev pub HasCandidates : {A : Type 0} → Data A → List A → ℕ → Type 0
+HasCandidates d items count = IsNumberOf (IsCandidate d items) count
 
 -- n is the number of pairs of one of these sequences and one of its candidates
 abbrev pub HasPairs : {A : Type 0} → Data A → List (Sequence A) → ℕ → Type 0

@@ -1,11 +1,12 @@
 -- Growth by prefixes. From the DESQ article; that a prefix may grow though it is no pattern is its own point.
-use Rattle.std.specs.Prelude.{◌≡◌, ◌≢◌, ℕ, ◌-◌, ◌⊎◌, ◌↔◌, List, [], ◌∷◌, ◌++◌, length, AllPairs, Contains}
+use Rattle.std.specs.Prelude.{◌≡◌, ℕ, ◌-◌, ◌⊎◌, List, [], ◌∷◌, ◌++◌}
 use Rattle.std.specs.List.{AllByRecursion}
 use Rattle.mine_model.specs.declared.mined.Work.{Work}
 use Rattle.mine_model.specs.Generation.{IsPatternOf}
 use Rattle.mine_model.specs.Support.{Sequence}
 use Rattle.mine_model.specs.Answer.{Data}
 use Rattle.mine_model.specs.Candidates.{IsFrequentItem}
+use Rattle.mine_model.specs.Numbers.{IsNumberOf}
 
 -- the sequences that have the property weigh n or more together; no other sequence has to be known not to
 -- have it
@@ -30,10 +31,7 @@ AreFrequentItems d items = AllByRecursion (IsFrequentItem d.links d.sequences d.
 -- the work of a search by prefixes: its nodes are the alive prefixes, and it has one root where there is a
 -- node
 pub record IsSearchWork {A : Type 0} (d : Data A) (work : Work) : Type 0 where
-  pub prefixes : List (List A)
-  pub once : AllPairs (λ first second. first ≢ second) prefixes
-  pub alive : (prefix : List A) → Contains prefixes prefix ↔ IsAlive d (AreFrequentItems d) prefix
-  pub nodes : work.nodes ≡ length prefixes
+  pub nodes : IsNumberOf (IsAlive d (AreFrequentItems d)) work.nodes
   pub parts : ((work.parts ≡ 1) × IsAlive d (AreFrequentItems d) [])
       ⊎ ((work.parts ≡ 0) × (IsAlive d (AreFrequentItems d) [] → ⊥))
   pub candidates : work.candidates ≡ 0

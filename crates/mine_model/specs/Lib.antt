@@ -11,8 +11,10 @@ pub mod Support
 pub mod Answer
 pub mod AnswerText
 pub mod Candidates
+pub mod Numbers
 pub mod Counted
 pub mod Growth
+pub mod PartitionWork
 pub mod First
 pub mod Refusal
 pub mod Status

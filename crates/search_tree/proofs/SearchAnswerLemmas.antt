@@ -150,26 +150,28 @@ module _ (d : Data Item) (ranking : Ranking) (are : AreRanks d.links d.sequences
     -- ITS NODES are the alive prefixes
     pub search-work : 1 ≤ d.threshold → IsSearchWork d (record { nodes = length labels; parts = length tree.roots; candidates = 0 })
     search-work least = record {
-      prefixes = map (prefix_of ranking.order) labels;
-      once = apart_within (prefix_of ranking.order) labels
-          (λ first second here there same.
-          let (ranks, is_first, alive) = node_of first here in
-          let (others, is_second, alive2) = node_of second there in
-          let items : alive.prefix ≡ alive2.prefix = sym (prefix_is first ranks is_first alive.prefix alive.ranked) ∙ same ∙ prefix_is second others is_second alive2.prefix alive2.ranked in
-          let one : ranks ≡ others = same_ranks ranking.order are.once alive2.prefix ranks others (subst (λ p. AreRanked ranking.order p ranks) items alive.ranked) alive2.ranked in
-          is_first ∙ ap (label_of 0) one ∙ sym is_second)
-          apart;
-      alive = λ prefix. (
-        (λ held.
-            let (label, inside, same) = Contains-from (prefix_of ranking.order) labels prefix held in
-            let (ranks, is_label, alive) = node_of label inside in
-            subst (IsAlive d (AreFrequentItems d)) (sym (same ∙ prefix_is label ranks is_label alive.prefix alive.ranked)) (label-prefix ranks alive)),
-        (λ alive.
-            let (ranks, ranked) = alive-ranks least prefix alive in
-            subst (Contains (map (prefix_of ranking.order) labels)) (prefix_is (label_of 0 ranks) ranks refl prefix ranked)
-            (Contains-by (prefix_of ranking.order) labels (label_of 0 ranks) (of_node ranks (prefix-label prefix ranks ranked alive)))),
-      );
-      nodes = sym (length-map labels (prefix_of ranking.order));
+      nodes = record {
+        things = map (prefix_of ranking.order) labels;
+        once = apart_within (prefix_of ranking.order) labels
+            (λ first second here there same.
+            let (ranks, is_first, alive) = node_of first here in
+            let (others, is_second, alive2) = node_of second there in
+            let items : alive.prefix ≡ alive2.prefix = sym (prefix_is first ranks is_first alive.prefix alive.ranked) ∙ same ∙ prefix_is second others is_second alive2.prefix alive2.ranked in
+            let one : ranks ≡ others = same_ranks ranking.order are.once alive2.prefix ranks others (subst (λ p. AreRanked ranking.order p ranks) items alive.ranked) alive2.ranked in
+            is_first ∙ ap (label_of 0) one ∙ sym is_second)
+            apart;
+        exact = λ prefix. (
+          (λ held.
+              let (label, inside, same) = Contains-from (prefix_of ranking.order) labels prefix held in
+              let (ranks, is_label, alive) = node_of label inside in
+              subst (IsAlive d (AreFrequentItems d)) (sym (same ∙ prefix_is label ranks is_label alive.prefix alive.ranked)) (label-prefix ranks alive)),
+          (λ alive.
+              let (ranks, ranked) = alive-ranks least prefix alive in
+              subst (Contains (map (prefix_of ranking.order) labels)) (prefix_is (label_of 0 ranks) ranks refl prefix ranked)
+              (Contains-by (prefix_of ranking.order) labels (label_of 0 ranks) (of_node ranks (prefix-label prefix ranks ranked alive)))),
+        );
+        counted = sym (length-map labels (prefix_of ranking.order));
+      };
       parts = roots_are tree.roots is.roots;
       candidates = refl;
     }

@@ -1,7 +1,7 @@
 use Rattle.mine_model.specs.declared.mined.Mined.{Mined}
 use Rattle.mining_job.specs.Problems.{data_of}
 use Rattle.search_engine.specs.Partition.{IsWorkFor}
-use Rattle.desq_run.specs.PartitionWork.{IsPartitionWork, IsNamedBefore}
+use Rattle.mine_model.specs.PartitionWork.{IsPartitionWork, IsNamedBefore}
 use Rattle.desq_run.proofs.PartitionRankLemmas.{problem-work}
 use Rattle.desq_run.proofs.RowLemmas.{if_ok}
 use Rattle.std.proofs.Common.{true}

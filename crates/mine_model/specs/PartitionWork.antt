@@ -1,5 +1,5 @@
 -- The work of a search by pivots. From the article on pivots; the order of items of one frequency is own.
-use Rattle.std.specs.Prelude.{◌≡◌, ◌≢◌, ℕ, ◌<◌, ◌⊎◌, ◌↔◌, List, [], length, AllPairs, Contains}
+use Rattle.std.specs.Prelude.{◌≡◌, ℕ, ◌<◌, ◌⊎◌, List, [], Contains}
 use Rattle.std.specs.List.{AllByRecursion}
 use Rattle.std.specs.Ordering.{nat_cmp}
 use Rattle.std.specs.Cmp.Lexicographic.{slice_cmp}
@@ -8,15 +8,9 @@ use Rattle.mine_model.specs.declared.item.Item.{Item}
 use Rattle.mine_model.specs.declared.mined.Work.{Work}
 use Rattle.mine_model.specs.Support.{HasFrequency}
 use Rattle.mine_model.specs.Answer.{Data}
+use Rattle.mine_model.specs.Numbers.{IsNumberOf}
 use Rattle.mine_model.specs.Growth.{IsAlive, AreFrequentItems}
 use Rattle.mine_model.specs.Names.{name_of}
-
--- n is the number of things that have the property: a list holds exactly these, each once
-pub record IsNumberOf {X : Type 0} (Has : X → Type 0) (n : ℕ) : Type 0 where
-  pub things : List X
-  pub once : AllPairs (λ first second. first ≢ second) things
-  pub exact : (x : X) → Contains things x ↔ Has x
-  pub counted : n ≡ length things
 
 -- v ranks before w: its frequency is greater, or it is the same and the ties say so
 pub record RanksBefore {A : Type 0} (Ties : A → A → Type 0) (d : Data A) (v w : A) : Type 0 where
