@@ -72,21 +72,42 @@ abbrev pub IsUnexpected : List ℕ → List Placed → ℕ → Type 0
 IsUnexpected text tokens column = IsFirstToken IsWrongAfter tokens column
     ⊎ (Begins tokens × ((tree : Tree Use) → Reads expression tokens tree → ⊥) × (column ≡ length text + 1))
 
+-- The kinds of refusals of an expression
+
+abbrev pub IsTooLong : List ℕ → Fault → Type 0
+IsTooLong text fault = (most_expression_bytes < length text) × (fault ≡ ExprTooLong)
+
+abbrev pub HasBadToken : List ℕ → Fault → Type 0
+HasBadToken text fault = (column : ℕ) × IsBadToken text column × (fault ≡ BadToken column)
+
+-- the tokens of the text have the property at a column, which a fault of this kind names
+abbrev pub IsOfTokens : List ℕ → (List Placed → ℕ → Type 0) → (ℕ → Fault) → Fault → Type 0
+IsOfTokens text Has kind fault =
+    (tokens : List Placed) × (column : ℕ) × AreTokens text tokens × Has tokens column × (fault ≡ kind column)
+
+abbrev pub HasBadRepeat : List ℕ → Fault → Type 0
+HasBadRepeat text = IsOfTokens text (IsFirstToken (λ before placed. IsBadRepeat placed.token)) BadRepeat
+
+abbrev pub HasRepeatOverLimit : List ℕ → Fault → Type 0
+HasRepeatOverLimit text =
+    IsOfTokens text (IsFirstToken (λ before placed. IsBeyondLimit placed.token)) RepeatLimit
+
+abbrev pub HasUnexpected : List ℕ → Fault → Type 0
+HasUnexpected text = IsOfTokens text (IsUnexpected text) Unexpected
+
+abbrev pub IsTooDeep : List ℕ → Fault → Type 0
+IsTooDeep text = IsOfTokens text (IsFirstToken IsTooDeepAfter) TooDeep
+
+abbrev pub HasTooManyLeaves : List ℕ → Fault → Type 0
+HasTooManyLeaves text fault = (tokens : List Placed) × (tree : Tree Use) × AreTokens text tokens
+    × Reads expression tokens tree × (most_leaves < unfolded_leaves tree)
+    × (fault ≡ TooManyLeaves (min (unfolded_leaves tree) most_told_leaves))
+
 -- The first refusal of an expression. The kind decides, and within a kind the place.
 abbrev pub IsExpressionRefusal : List ℕ → Fault → Type 0
-IsExpressionRefusal text = FirstOf (λ fault. (most_expression_bytes < length text)
-    × (fault ≡ ExprTooLong)) (FirstOf (λ fault. (column : ℕ) × IsBadToken text column
-    × (fault ≡ BadToken column)) (FirstOf (λ fault. (tokens : List Placed) × (column : ℕ)
-    × AreTokens text tokens × IsFirstToken (λ before placed. IsBadRepeat placed.token) tokens column
-    × (fault ≡ BadRepeat column)) (FirstOf (λ fault. (tokens : List Placed) × (column : ℕ)
-    × AreTokens text tokens × IsFirstToken (λ before placed. IsBeyondLimit placed.token) tokens column
-    × (fault ≡ RepeatLimit column)) (FirstOf (λ fault. (tokens : List Placed) × (column : ℕ)
-    × AreTokens text tokens × IsUnexpected text tokens column
-    × (fault ≡ Unexpected column)) (FirstOf (λ fault. (tokens : List Placed) × (column : ℕ)
-    × AreTokens text tokens × IsFirstToken IsTooDeepAfter tokens column × (fault ≡ TooDeep column)) (λ fault.
-    (tokens : List Placed) × (tree : Tree Use) × AreTokens text tokens × Reads expression tokens tree
-    × (most_leaves < unfolded_leaves tree)
-    × (fault ≡ TooManyLeaves (min (unfolded_leaves tree) most_told_leaves))))))))
+IsExpressionRefusal text = FirstOf (IsTooLong text) (FirstOf (HasBadToken text)
+    (FirstOf (HasBadRepeat text) (FirstOf (HasRepeatOverLimit text) (FirstOf (HasUnexpected text)
+    (FirstOf (IsTooDeep text) (HasTooManyLeaves text))))))
 
 -- A name of the expression that stands in neither file: the first use of one.
 abbrev pub IsUnknown : List (List ℕ) → List Use → Fault → Type 0

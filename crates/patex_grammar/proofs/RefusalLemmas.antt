@@ -9,7 +9,7 @@ use Rattle.mine_model.specs.Expression.{Tree, unfolded_leaves}
 use Rattle.mine_model.specs.Tokens.{Placed, AreTokens, IsBadToken}
 use Rattle.mine_model.specs.Grammar.{Use, expression, Reads, Begins, ReadsAs}
 use Rattle.mine_model.specs.First.{FirstAmong}
-use Rattle.mine_model.specs.Refusal.{IsTextRefusal, IsFirstToken, IsBadRepeat, IsBeyondLimit, IsWrongAfter, IsUnexpected, IsTooDeepAfter, IsExpressionRefusal}
+use Rattle.mine_model.specs.Refusal.{IsTextRefusal, IsFirstToken, IsBadRepeat, IsBeyondLimit, IsWrongAfter, IsUnexpected, IsTooDeepAfter, IsTooLong, HasBadToken, IsOfTokens, HasBadRepeat, HasRepeatOverLimit, HasUnexpected, IsTooDeep, HasTooManyLeaves, IsExpressionRefusal}
 use Rattle.mine_model.proofs.FirstLemmas.{AtMostOne, FirstOf-unique, FirstAmong-unique}
 use Rattle.patex_grammar.proofs.TokenLemmas.{AreTokens-unique, IsBadToken-unique}
 use Rattle.patex_grammar.proofs.PrefixLemmas.{begins-cut}
@@ -45,31 +45,24 @@ IsUnexpected-unique text tokens j k (inr p) (inl q) = absurd (begun-none-wrong t
 IsUnexpected-unique text tokens j k (inr p) (inr q) = p.2 ∙ sym q.2
 
 -- a refusal at a column of the tokens, of which there is at most one
-abbrev pub OfTokens : List ℕ → (List Placed → ℕ → Type 0) → (ℕ → Fault) → Fault → Type 0
-OfTokens text Has kind fault = (tokens : List Placed) × (column : ℕ) × AreTokens text tokens × Has tokens column × (fault ≡ kind column)
-
-of-tokens : (text : List ℕ) (Has : List Placed → ℕ → Type 0) (kind : ℕ → Fault) → ((tokens : List Placed) → AtMostOne (Has tokens)) → AtMostOne (OfTokens text Has kind)
+of-tokens : (text : List ℕ) (Has : List Placed → ℕ → Type 0) (kind : ℕ → Fault) → ((tokens : List Placed) → AtMostOne (Has tokens)) → AtMostOne (IsOfTokens text Has kind)
 of-tokens text Has kind one f g (tokens, j, are, has, is) (others, k, are', has', is') =
     let same : others ≡ tokens = AreTokens-unique text others tokens are' are in
     is ∙ ap kind (one tokens j k has (subst (λ x. Has x k) same has')) ∙ sym is'
 
-too-many : (text : List ℕ) → AtMostOne (λ (fault : Fault). (tokens : List Placed) × (tree : Tree Use) × AreTokens text tokens × Reads expression tokens tree
-    × (most_leaves < unfolded_leaves tree) × (fault ≡ TooManyLeaves (min (unfolded_leaves tree) most_told_leaves)))
+too-many : (text : List ℕ) → AtMostOne (HasTooManyLeaves text)
 too-many text f g (tokens, t, are, reads, more, is) (others, u, are', reads', more', is') =
     let same : t ≡ u = ReadsAs-unique text t u (tokens, are, reads) (others, are', reads') in
     is ∙ ap (λ (x : Tree Use). TooManyLeaves (min (unfolded_leaves x) most_told_leaves)) same ∙ sym is'
 
 pub IsExpressionRefusal-unique : (text : List ℕ) → AtMostOne (IsExpressionRefusal text)
 IsExpressionRefusal-unique text =
-    FirstOf-unique (λ fault. (most_expression_bytes < length text) × (fault ≡ ExprTooLong)) _ (λ f g p q. p.1 ∙ sym q.1)
-    (FirstOf-unique (λ fault. (column : ℕ) × IsBadToken text column × (fault ≡ BadToken column)) _
-    (λ f g p q. p.2 ∙ ap BadToken (IsBadToken-unique text p.0 q.0 p.1 q.1) ∙ sym q.2)
-    (FirstOf-unique (OfTokens text (IsFirstToken (λ before placed. IsBadRepeat placed.token)) BadRepeat) _
+    FirstOf-unique (IsTooLong text) _ (λ f g p q. p.1 ∙ sym q.1)
+    (FirstOf-unique (HasBadToken text) _ (λ f g p q. p.2 ∙ ap BadToken (IsBadToken-unique text p.0 q.0 p.1 q.1) ∙ sym q.2)
+    (FirstOf-unique (HasBadRepeat text) _
     (of-tokens text (IsFirstToken (λ before placed. IsBadRepeat placed.token)) BadRepeat (IsFirstToken-unique (λ before placed. IsBadRepeat placed.token)))
-    (FirstOf-unique (OfTokens text (IsFirstToken (λ before placed. IsBeyondLimit placed.token)) RepeatLimit) _
+    (FirstOf-unique (HasRepeatOverLimit text) _
     (of-tokens text (IsFirstToken (λ before placed. IsBeyondLimit placed.token)) RepeatLimit (IsFirstToken-unique (λ before placed. IsBeyondLimit placed.token)))
-    (FirstOf-unique (OfTokens text (IsUnexpected text) Unexpected) _
-    (of-tokens text (IsUnexpected text) Unexpected (IsUnexpected-unique text))
-    (FirstOf-unique (OfTokens text (IsFirstToken IsTooDeepAfter) TooDeep) _
-    (of-tokens text (IsFirstToken IsTooDeepAfter) TooDeep (IsFirstToken-unique IsTooDeepAfter))
+    (FirstOf-unique (HasUnexpected text) _ (of-tokens text (IsUnexpected text) Unexpected (IsUnexpected-unique text))
+    (FirstOf-unique (IsTooDeep text) _ (of-tokens text (IsFirstToken IsTooDeepAfter) TooDeep (IsFirstToken-unique IsTooDeepAfter))
     (too-many text))))))

@@ -12,12 +12,12 @@ use Rattle.mine_model.specs.Expression.{Tree, tree_by, named_in, unfolded_leaves
 use Rattle.mine_model.specs.Tokens.{Placed, AreTokens, IsBadToken}
 use Rattle.mine_model.specs.Grammar.{Use, expression, Reads, Begins}
 use Rattle.mine_model.specs.First.{FirstAmong}
-use Rattle.mine_model.specs.Refusal.{IsFirstToken, IsBadRepeat, IsBeyondLimit, IsWrongAfter, IsUnexpected, IsTooDeepAfter, IsExpressionRefusal}
+use Rattle.mine_model.specs.Refusal.{IsFirstToken, IsBadRepeat, IsBeyondLimit, IsWrongAfter, IsUnexpected, IsTooDeepAfter, IsExpressionRefusal, IsTooLong, HasBadToken, IsOfTokens, HasBadRepeat, HasRepeatOverLimit, HasUnexpected, IsTooDeep, HasTooManyLeaves}
 use Rattle.patex_grammar.specs.Machine.{State, state, next, initial}
 use Rattle.patex_grammar.specs.Holding.{Reaches}
 use Rattle.patex_grammar.proofs.TokenLemmas.{AreTokens-unique, AreTokens-no_bad}
 use Rattle.patex_grammar.proofs.PrefixLemmas.{answered-reads, reaches-begins, begins-cut, wrong-mark, open-bracket, no-operand, reaches-cut, reads-answered}
-use Rattle.patex_grammar.proofs.RefusalLemmas.{begun-none-wrong, OfTokens}
+use Rattle.patex_grammar.proofs.RefusalLemmas.{begun-none-wrong}
 use Rattle.patex_grammar.proofs.Unambiguous.{unambiguous}
 use Rattle.patex_parser.specs.declared.token.Kind.{Kind}
 use Rattle.patex_parser.specs.declared.token.Kind.TheVariants.{Mark as AMark, BadRepeat, BeyondLimit}
@@ -205,28 +205,6 @@ not-deep f placed reads tree pairs is none column first =
 
 -- which refusal comes first
 
-abbrev LongText : List ℕ → Fault → Type 0
-LongText text f = (most_expression_bytes < length text) × (f ≡ fault.ExprTooLong)
-
-abbrev BadTokens : List ℕ → Fault → Type 0
-BadTokens text f = (column : ℕ) × IsBadToken text column × (f ≡ fault.BadToken column)
-
-abbrev BadRepeats : List ℕ → Fault → Type 0
-BadRepeats text = OfTokens text (IsFirstToken (λ before placed. IsBadRepeat placed.token)) fault.BadRepeat
-
-abbrev BeyondLimits : List ℕ → Fault → Type 0
-BeyondLimits text = OfTokens text (IsFirstToken (λ before placed. IsBeyondLimit placed.token)) fault.RepeatLimit
-
-abbrev Unexpecteds : List ℕ → Fault → Type 0
-Unexpecteds text = OfTokens text (IsUnexpected text) fault.Unexpected
-
-abbrev Deeps : List ℕ → Fault → Type 0
-Deeps text = OfTokens text (IsFirstToken IsTooDeepAfter) fault.TooDeep
-
-abbrev ManyLeaves : List ℕ → Fault → Type 0
-ManyLeaves text f = (tokens : List Placed) × (tree : Tree Use) × AreTokens text tokens × Reads expression tokens tree
-    × (most_leaves < unfolded_leaves tree) × (f ≡ fault.TooManyLeaves (min (unfolded_leaves tree) most_told_leaves))
-
 abbrev None-of : (Fault → Type 0) → Type 0
 None-of Kind = (f : Fault) → Kind f → ⊥
 
@@ -238,29 +216,29 @@ module _ (text : List ℕ) where
   pub at-length : most_expression_bytes < length text → IsExpressionRefusal text fault.ExprTooLong
   at-length long = inl (long, refl)
 
-  at-token : None-of (LongText text) → (f : Fault) → BadTokens text f → IsExpressionRefusal text f
+  at-token : None-of (IsTooLong text) → (f : Fault) → HasBadToken text f → IsExpressionRefusal text f
   at-token none1 f has = inr (none1, inl has)
 
-  at-repeat : None-of (LongText text) → None-of (BadTokens text) → (f : Fault) → BadRepeats text f → IsExpressionRefusal text f
+  at-repeat : None-of (IsTooLong text) → None-of (HasBadToken text) → (f : Fault) → HasBadRepeat text f → IsExpressionRefusal text f
   at-repeat none1 none2 f has = inr (none1, inr (none2, inl has))
 
-  at-limit : None-of (LongText text) → None-of (BadTokens text) → None-of (BadRepeats text) → (f : Fault) → BeyondLimits text f → IsExpressionRefusal text f
+  at-limit : None-of (IsTooLong text) → None-of (HasBadToken text) → None-of (HasBadRepeat text) → (f : Fault) → HasRepeatOverLimit text f → IsExpressionRefusal text f
   at-limit none1 none2 none3 f has = inr (none1, inr (none2, inr (none3, inl has)))
 
-  at-unexpected : None-of (LongText text) → None-of (BadTokens text) → None-of (BadRepeats text) → None-of (BeyondLimits text) → (f : Fault) → Unexpecteds text f
+  at-unexpected : None-of (IsTooLong text) → None-of (HasBadToken text) → None-of (HasBadRepeat text) → None-of (HasRepeatOverLimit text) → (f : Fault) → HasUnexpected text f
       → IsExpressionRefusal text f
   at-unexpected none1 none2 none3 none4 f has = inr (none1, inr (none2, inr (none3, inr (none4, inl has))))
 
-  at-deep : None-of (LongText text) → None-of (BadTokens text) → None-of (BadRepeats text) → None-of (BeyondLimits text) → None-of (Unexpecteds text)
-      → (f : Fault) → Deeps text f → IsExpressionRefusal text f
+  at-deep : None-of (IsTooLong text) → None-of (HasBadToken text) → None-of (HasBadRepeat text) → None-of (HasRepeatOverLimit text) → None-of (HasUnexpected text)
+      → (f : Fault) → IsTooDeep text f → IsExpressionRefusal text f
   at-deep none1 none2 none3 none4 none5 f has = inr (none1, inr (none2, inr (none3, inr (none4, inr (none5, inl has)))))
 
-  at-leaves : None-of (LongText text) → None-of (BadTokens text) → None-of (BadRepeats text) → None-of (BeyondLimits text) → None-of (Unexpecteds text)
-      → None-of (Deeps text) → (f : Fault) → ManyLeaves text f → IsExpressionRefusal text f
+  at-leaves : None-of (IsTooLong text) → None-of (HasBadToken text) → None-of (HasBadRepeat text) → None-of (HasRepeatOverLimit text) → None-of (HasUnexpected text)
+      → None-of (IsTooDeep text) → (f : Fault) → HasTooManyLeaves text f → IsExpressionRefusal text f
   at-leaves none1 none2 none3 none4 none5 none6 f has = inr (none1, inr (none2, inr (none3, inr (none4, inr (none5, inr (none6, has))))))
 
-  nowhere : None-of (LongText text) → None-of (BadTokens text) → None-of (BadRepeats text) → None-of (BeyondLimits text) → None-of (Unexpecteds text)
-      → None-of (Deeps text) → None-of (ManyLeaves text) → NoRefusal text
+  nowhere : None-of (IsTooLong text) → None-of (HasBadToken text) → None-of (HasBadRepeat text) → None-of (HasRepeatOverLimit text) → None-of (HasUnexpected text)
+      → None-of (IsTooDeep text) → None-of (HasTooManyLeaves text) → NoRefusal text
   nowhere none1 none2 none3 none4 none5 none6 none7 f (inl has) = none1 f has
   nowhere none1 none2 none3 none4 none5 none6 none7 f (inr (_, inl has)) = none2 f has
   nowhere none1 none2 none3 none4 none5 none6 none7 f (inr (_, inr (_, inl has))) = none3 f has
@@ -276,21 +254,21 @@ module _ (text : List ℕ) where
 
   module _ (short : length text ≤ most_expression_bytes) (placed : List Placed) (are : AreTokens text placed)
       (f : Item → Use) (reads : List ReadToken) (pairs : Pairwise (Means f) placed reads) where
-    none-long : None-of (LongText text)
+    none-long : None-of (IsTooLong text)
     none-long f' long = omega (arith, long.0)
 
-    none-token : None-of (BadTokens text)
+    none-token : None-of (HasBadToken text)
     none-token f' (column, bad, is) = AreTokens-no_bad text placed column are bad
 
-    none-of-tokens : (Has : List Placed → ℕ → Type 0) (kind : ℕ → Fault) → ((column : ℕ) → Has placed column → ⊥) → None-of (OfTokens text Has kind)
+    none-of-tokens : (Has : List Placed → ℕ → Type 0) (kind : ℕ → Fault) → ((column : ℕ) → Has placed column → ⊥) → None-of (IsOfTokens text Has kind)
     none-of-tokens Has kind none f' (tokens, column, are', has, is) =
         none column (subst (λ xs. Has xs column) (AreTokens-unique text tokens placed are' are) has)
 
-    none-repeat : NoneHas (IsOf BadRepeat) [] reads → None-of (BadRepeats text)
+    none-repeat : NoneHas (IsOf BadRepeat) [] reads → None-of (HasBadRepeat text)
     none-repeat none = none-of-tokens (IsFirstToken (λ before p. IsBadRepeat p.token)) fault.BadRepeat
         λ column first. none-first (IsOf BadRepeat) [] reads column none (bad-back f placed reads pairs column first)
 
-    none-limit : NoneHas (IsOf BeyondLimit) [] reads → None-of (BeyondLimits text)
+    none-limit : NoneHas (IsOf BeyondLimit) [] reads → None-of (HasRepeatOverLimit text)
     none-limit none = none-of-tokens (IsFirstToken (λ before p. IsBeyondLimit p.token)) fault.RepeatLimit
         λ column first. none-first (IsOf BeyondLimit) [] reads column none (beyond-back f placed reads pairs column first)
 
@@ -306,10 +284,10 @@ module _ (text : List ℕ) where
       marks : Pairwise (MeansMark f) placed reads
       marks = all-marked f placed reads pairs marked
 
-      none-repeats : None-of (BadRepeats text)
+      none-repeats : None-of (HasBadRepeat text)
       none-repeats = none-repeat (marked-none-bad [] reads marked)
 
-      none-limits : None-of (BeyondLimits text)
+      none-limits : None-of (HasRepeatOverLimit text)
       none-limits = none-limit (marked-none-beyond [] reads marked)
 
       unexpected : (column : ℕ) → IsUnexpected text placed column → IsExpressionRefusal text (fault.Unexpected column)
@@ -327,7 +305,7 @@ module _ (text : List ℕ) where
         is-read : Reads expression placed (tree_by f tree)
         is-read = whole-reads f placed reads tree marks whole
 
-        none-unexpected : None-of (Unexpecteds text)
+        none-unexpected : None-of (HasUnexpected text)
         none-unexpected = none-of-tokens (IsUnexpected text) fault.Unexpected (not-unexpected text placed (tree_by f tree) is-read)
 
         pub deep-refused : (e : PatexFault) → IsDepthFault reads e → IsRefused (IsExpressionRefusal text) e
@@ -337,7 +315,7 @@ module _ (text : List ℕ) where
             (placed, column, are, deep-first f placed reads (tree_by f tree) marks is-read column first, refl)))
 
         module _ (flat : IsNotTooDeep reads) where
-          none-deep : None-of (Deeps text)
+          none-deep : None-of (IsTooDeep text)
           none-deep = none-of-tokens (IsFirstToken IsTooDeepAfter) fault.TooDeep (not-deep f placed reads (tree_by f tree) marks is-read flat)
 
           pub leaves-refused : (e : PatexFault) → IsLeavesFault tree e → IsRefused (IsExpressionRefusal text) e
@@ -350,7 +328,7 @@ module _ (text : List ℕ) where
           pub none-refused : unfolded_leaves tree ≤ most_leaves → NoRefusal text
           none-refused few = nowhere none-long none-token none-repeats none-limits none-unexpected none-deep none-leaves
             where
-              none-leaves : None-of (ManyLeaves text)
+              none-leaves : None-of (HasTooManyLeaves text)
               none-leaves f' (tokens, other, are', is, more, told) =
                   let same : other ≡ tree_by f tree = unambiguous expression placed other (tree_by f tree)
                   (subst (λ xs. Reads expression xs other) (AreTokens-unique text tokens placed are' are) is) is-read in
