@@ -2,9 +2,6 @@
 
 ghost use Rattle.std.specs.Prelude.{◌≡◌, ℕ, List};
 ghost use Rattle.mine_model.specs.declared.fault.Fault.{Fault};
-ghost use Rattle.mine_model.specs.declared.mined.Work.{Work};
-ghost use Rattle.mine_model.specs.Answer.{Data};
-ghost use Rattle.mine_model.specs.PartitionWork.{IsPartitionWork, IsBytewiseBefore};
 ghost use Rattle.desq_run.specs.Ends.{Input, IsFirstRefusal, IsAnswerText};
 
 /// Of an input at most one refusal comes first.
@@ -17,11 +14,4 @@ pub fn at_most_one_first_refusal()
 pub fn at_most_one_text()
     ensures { (input : Input) (first second : List ℕ)
         → IsAnswerText input first → IsAnswerText input second → first ≡ second }
-{}
-
-/// At most one work is that of a search by pivots on the data of a run.
-pub fn at_most_one_partition_work()
-    ensures { (data_of_run : Data (List ℕ)) (first second : Work)
-        → IsPartitionWork IsBytewiseBefore data_of_run first
-        → IsPartitionWork IsBytewiseBefore data_of_run second → first ≡ second }
 {}

@@ -21,8 +21,10 @@ use Rattle.mine_model.proofs.RankedLemmas.{ranked-none, ranked-first, ranked-spl
 use Rattle.fst_compile.specs.declared.edge.Edge.{Edge}
 use Rattle.fst_compile.specs.Transducer.{edges_from, IsPath}
 use Rattle.mining_job.specs.Problems.{Problem, IsWhole, data_of}
-use Rattle.dfs_growth.specs.Tree.{matches, may_write, all_ranks, written_by, outputs_by, outputs_from, begin_with, is_some_rank, are_within, grows, generates}
-use Rattle.dfs_growth.proofs.TestLemmas.{matches-Decides, may_write-Decides, any-forth, any-back, range-forth, range-back, begin_with-Decides, within-Decides, within-ranks}
+use Rattle.mine_model.specs.Decided.{matches, may_write}
+use Rattle.mine_model.proofs.DecidedLemmas.{matches-Decides, may_write-Decides}
+use Rattle.dfs_growth.specs.Tree.{all_ranks, written_by, outputs_by, outputs_from, begin_with, is_some_rank, are_within, grows, generates}
+use Rattle.dfs_growth.proofs.TestLemmas.{any-forth, any-back, range-forth, range-back, begin_with-Decides, within-Decides, within-ranks}
 
 -- the item with a rank up to the number of ranks has it
 pub item-ranked : (order : List Item) (rank : ℕ) → 1 ≤ rank → rank ≤ length order → HasRank order (item_of_rank order rank) rank

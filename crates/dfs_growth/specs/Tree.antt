@@ -6,8 +6,7 @@ use Rattle.std.specs.Int.{bit_at}
 use Rattle.std.specs.Str.{bytes_eq}
 use Rattle.mine_model.specs.declared.item.Item.{Item}
 use Rattle.mine_model.specs.declared.row.Row.{Row}
-use Rattle.mine_model.specs.Hierarchy.{Link}
-use Rattle.mine_model.specs.Expression.{Leaf, under, exact, climb, forced, any_climb, not_under, not_exact}
+use Rattle.mine_model.specs.Decided.{matches, may_write}
 use Rattle.mine_model.specs.Numbered.{leaf_of}
 use Rattle.mine_model.specs.Support.{Sequence}
 use Rattle.mine_model.specs.Pivots.{item_of_rank, label_of}
@@ -15,30 +14,6 @@ use Rattle.search_tree.specs.SearchTree.{SearchTree}
 use Rattle.fst_compile.specs.declared.edge.Edge.{Edge}
 use Rattle.fst_compile.specs.Transducer.{edges_from}
 use Rattle.mining_job.specs.Problems.{Problem}
-
--- tests of what is said of items
-
--- w is t or stands above t: over one more link, a walk takes that link once or never
-unfoldable pub is_above : List (Link Item) → Item → Item → Bool
-is_above [] w t = t.0 == w.0
-is_above (link ∷ links) w t =
-    is_above links w t || (is_above links link.child t && is_above links w link.parent)
-
-unfoldable pub matches : List (Link Item) → Leaf Item → Item → Bool
-matches links (under w) t = is_above links w t
-matches links (exact w) t = t.0 == w.0
-matches links (climb w) t = is_above links w t
-matches links (forced w) t = is_above links w t
-matches links (not_under w) t = not (is_above links w t)
-matches links (not_exact w) t = not (t.0 == w.0)
-matches links _ t = true
-
-unfoldable pub may_write : List (Link Item) → Leaf Item → Item → Item → Bool
-may_write links (exact w) t v = v.0 == w.0
-may_write links (climb w) t v = is_above links v t && is_above links w v
-may_write links (forced w) t v = v.0 == w.0
-may_write links any_climb t v = is_above links v t
-may_write links _ t v = v.0 == t.0
 
 -- the ranks of what paths write
 

@@ -23,6 +23,7 @@ pub mod AboveLemmas
 pub mod FrequencyLemmas
 pub mod TestedLists
 pub mod ApartLemmas
+pub mod DecidedLemmas
 pub mod SumLemmas
 pub mod AliveLemmas
 pub mod PartitionWorkLemmas

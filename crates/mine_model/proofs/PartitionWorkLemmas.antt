@@ -1,7 +1,7 @@
 -- The work of a search by pivots: there is at most one, and that by items is that by names.
-use Rattle.std.proofs.Common.{◌≡◌, ◌⊎◌, ◌↔◌, ℕ, ◌-◌, ◌≤◌, inl, inr, false, List, [], ◌∷◌, ◌++◌, map, refl, sym, ap, ◌∙◌, subst, get_or, arith}
+use Rattle.std.proofs.Common.{◌≡◌, ◌⊎◌, ◌↔◌, ℕ, ◌-◌, ◌≤◌, inl, inr, false, List, [], ◌∷◌, ◌++◌, map, refl, sym, ap, ◌∙◌, subst}
 use Rattle.std.specs.List.{AllByRecursion, Contains}
-use Rattle.std.proofs.lemmas.List.{map-append, length-map}
+use Rattle.std.proofs.lemmas.List.{map-append}
 use Rattle.mine_model.specs.declared.mined.Work.{Work}
 use Rattle.mine_model.specs.Hierarchy.{Link, IsAncestor}
 use Rattle.mine_model.specs.Expression.{tree_by, named_in}
@@ -11,14 +11,11 @@ use Rattle.mine_model.specs.Answer.{Data}
 use Rattle.mine_model.specs.Candidates.{IsFrequentItem}
 use Rattle.mine_model.specs.Names.{sequence_by}
 use Rattle.mine_model.specs.Growth.{WeighAtLeast, HasPatternBehind, IsAlive}
-use Rattle.mine_model.proofs.ListLemmas.{Contains-by, Contains-from, AllByRecursion-contained, front_of_both, apart_within}
+use Rattle.mine_model.proofs.ListLemmas.{Contains-by, Contains-from, AllByRecursion-contained, front_of_both}
 use Rattle.mine_model.proofs.NumberingLemmas.{Renames, pattern-forth, pattern-back, one_to_one-lists, generated-in}
 use Rattle.mine_model.proofs.NumberLemmas.{IsNumberOf-by, IsNumberOf-unique}
 use Rattle.mine_model.proofs.AliveLemmas.{IsAlive-some}
 use Rattle.mine_model.specs.PartitionWork.{RanksBefore, IsPivotOf, IsPartitionWork}
-use Rattle.mine_model.specs.Numbers.{IsNumberOf}
-use Rattle.std.proofs.lemmas.List.Elements.{Contains-get_or}
-use Rattle.mine_model.proofs.NameLemmas.{distinct_fit}
 
 -- a search by pivots has one work
 pub IsPartitionWork-unique : {A : Type 0} (Ties : A → A → Type 0) (d : Data A) (first second : Work)

@@ -20,6 +20,7 @@ pub mod Refusal
 pub mod Status
 -- what crates share
 pub mod Numbered
+pub mod Decided
 pub mod Names
 pub mod Ancestry
 pub mod Labels

@@ -5,11 +5,7 @@ ghost use Rattle.mine_model.specs.Answer.{Data, NamedRow, IsAnswer};
 ghost use Rattle.mine_model.specs.Counted.{IsCountingWork};
 ghost use Rattle.mine_model.specs.Support.{HasSupport};
 ghost use Rattle.mine_model.specs.Growth.{IsSearchWork};
-ghost use Rattle.mine_model.specs.Expression.{Tree};
-ghost use Rattle.mine_model.specs.Tokens.{Placed, AreTokens};
-ghost use Rattle.mine_model.specs.Grammar.{Part, Use, Reads, ReadsAs};
-ghost use Rattle.mine_model.specs.Refusal.{IsExpressionRefusal};
-ghost use Rattle.mine_model.specs.declared.fault.Fault.{Fault};
+ghost use Rattle.mine_model.specs.PartitionWork.{IsPartitionWork, IsBytewiseBefore};
 ghost use Rattle.mine_model.specs.declared.mined.Work.{Work};
 
 /// There is at most one answer.
@@ -35,4 +31,11 @@ pub fn at_most_one_work()
 pub fn at_most_one_search_work()
     ensures { (data_of_run : Data (List ℕ)) (first second : Work)
         → IsSearchWork data_of_run first → IsSearchWork data_of_run second → first ≡ second }
+{}
+
+/// At most one work is that of a search by pivots on the data of a run.
+pub fn at_most_one_partition_work()
+    ensures { (data_of_run : Data (List ℕ)) (first second : Work)
+        → IsPartitionWork IsBytewiseBefore data_of_run first
+        → IsPartitionWork IsBytewiseBefore data_of_run second → first ≡ second }
 {}

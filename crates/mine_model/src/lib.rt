@@ -26,7 +26,8 @@ pub use gate::{Gate, OpenGate};
 pub use hierarchy::Hierarchy;
 pub use item::{Item, Name, Pattern};
 pub use laws::{
-    at_most_one_answer, at_most_one_search_work, at_most_one_support, at_most_one_work,
+    at_most_one_answer, at_most_one_partition_work, at_most_one_search_work, at_most_one_support,
+    at_most_one_work,
 };
 pub use memory::NoMemory;
 pub use mined::{Mined, Work};

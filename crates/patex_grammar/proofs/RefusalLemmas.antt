@@ -1,15 +1,13 @@
 -- At most one refusal of an expression comes first.
-use Rattle.std.proofs.Common.{◌≡◌, ℕ, ◌<◌, inl, inr, List, [], ◌∷◌, ◌++◌, sym, ap, ◌∙◌, subst, append_assoc, min, length}
+use Rattle.std.proofs.Common.{◌≡◌, ℕ, inl, inr, List, [], ◌∷◌, ◌++◌, sym, ap, ◌∙◌, subst, append_assoc, min}
 use Rattle.mine_model.specs.declared.fault.Fault.{Fault}
-use Rattle.mine_model.specs.declared.fault.Which.{Which}
-use Rattle.mine_model.specs.declared.fault.Fault.TheVariants.{BadToken, BadRepeat, Unexpected, ExprTooLong, RepeatLimit, TooDeep, TooManyLeaves}
-use Rattle.mine_model.specs.Limits.{most_expression_bytes, most_leaves, most_told_leaves}
-use Rattle.mine_model.specs.Text.{bad_byte, long_name, IsSoundLine}
+use Rattle.mine_model.specs.declared.fault.Fault.TheVariants.{BadToken, BadRepeat, Unexpected, RepeatLimit, TooDeep, TooManyLeaves}
+use Rattle.mine_model.specs.Limits.{most_told_leaves}
 use Rattle.mine_model.specs.Expression.{Tree, unfolded_leaves}
-use Rattle.mine_model.specs.Tokens.{Placed, AreTokens, IsBadToken}
+use Rattle.mine_model.specs.Tokens.{Placed}
 use Rattle.mine_model.specs.Grammar.{Use, expression, Reads, Begins, ReadsAs}
 use Rattle.mine_model.specs.First.{FirstAmong}
-use Rattle.mine_model.specs.Refusal.{IsTextRefusal, IsFirstToken, IsBadRepeat, IsBeyondLimit, IsWrongAfter, IsUnexpected, IsTooDeepAfter, IsTooLong, HasBadToken, IsOfTokens, HasBadRepeat, HasRepeatOverLimit, HasUnexpected, IsTooDeep, HasTooManyLeaves, IsExpressionRefusal}
+use Rattle.mine_model.specs.Refusal.{IsFirstToken, IsBadRepeat, IsBeyondLimit, IsWrongAfter, IsUnexpected, IsTooDeepAfter, IsTooLong, HasBadToken, IsOfTokens, HasBadRepeat, HasRepeatOverLimit, HasUnexpected, IsTooDeep, HasTooManyLeaves, IsExpressionRefusal}
 use Rattle.mine_model.proofs.FirstLemmas.{AtMostOne, FirstOf-unique, FirstAmong-unique}
 use Rattle.patex_grammar.proofs.TokenLemmas.{AreTokens-unique, IsBadToken-unique}
 use Rattle.patex_grammar.proofs.PrefixLemmas.{begins-cut}

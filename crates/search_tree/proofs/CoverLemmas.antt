@@ -5,7 +5,7 @@ use Rattle.std.proofs.lemmas.Bool.{lt-ltb, le-ltb, cond-true, cond-false, cases_
 use Rattle.std.proofs.lemmas.List.{append-nil}
 use Rattle.std.proofs.lemmas.List.Sums.{sum_by-cons, sum_by-append}
 use Rattle.mine_model.specs.Labels.{SameLabels}
-use Rattle.mine_model.proofs.ListLemmas.{Contains-cases, Contains-first, Contains-other, Contains-none}
+use Rattle.mine_model.proofs.ListLemmas.{Contains-cases, Contains-none}
 use Rattle.mine_model.proofs.SumLemmas.{sum_by-flat_map, sum_by-same, sum_by-most, sum_by-none}
 use Rattle.search_tree.specs.Cover.{GrowByOne, Covers, Balanced}
 

@@ -1,18 +1,11 @@
 -- A cover holds the labels of the tree, each once.
-use Rattle.std.proofs.Common.{◌≡◌, ℕ, zero, suc, ◌+◌, ◌<◌, ◌≤◌, ◌⊎◌, ◌↔◌, ◌≢◌, inl, inr, cond, List, [], ◌∷◌, length, get_or, refl, sym, ap, subst, arith, sum_by, flat_map, Contains}
-use Rattle.std.specs.Str.{bytes_eq}
-use Rattle.std.proofs.lemmas.Slice.Eq.{bytes_eq-Decides}
-use Rattle.std.proofs.lemmas.Bool.{cond-true, cond-false, cases_Bool, cases_lt}
-use Rattle.std.proofs.lemmas.List.Sums.{sum_by-cons, sum_by-append}
-use Rattle.std.specs.List.{AllPairs}
-use Rattle.std.proofs.lemmas.List.Elements.{Contains-get_or}
-use Rattle.std.proofs.lemmas.List.Kept.{AllPairs-cons}
-use Rattle.mine_model.proofs.ListLemmas.{Contains-cases, Contains-first, Contains-other, Contains-none, AllPairs-head, AllPairs-tail}
+use Rattle.std.proofs.Common.{◌≡◌, ℕ, zero, suc, ◌+◌, ◌<◌, ◌≤◌, ◌↔◌, inl, inr, List, [], length, ap, arith, sum_by, flat_map, Contains}
+use Rattle.std.proofs.lemmas.List.Sums.{sum_by-append}
 use Rattle.search_tree.specs.Cover.{GrowByOne, Covers, down_to, level, IsTree, AreApart}
-use Rattle.mine_model.specs.Labels.{times, IsOnce}
+use Rattle.mine_model.specs.Labels.{IsOnce}
 use Rattle.search_tree.proofs.CoverLemmas.{kids_weight, kids-weight, flat-weight}
 use Rattle.mine_model.proofs.SumLemmas.{sum_by-most}
-use Rattle.mine_model.proofs.OnceLemmas.{one, times-one, one-same, one-cases, one-most, one-held, one-found, some-part, part-most}
+use Rattle.mine_model.proofs.OnceLemmas.{one, times-one, one-same, one-held, one-found, some-part, part-most}
 
 cover-weight : (roots : List (List ℕ)) (kids : List ℕ → List (List ℕ)) (labels : List (List ℕ)) → Covers roots kids labels → (weight : List ℕ → ℕ)
     → sum_by weight labels ≡ sum_by weight roots + sum_by (kids_weight kids weight) labels

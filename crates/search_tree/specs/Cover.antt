@@ -1,5 +1,5 @@
 -- A tree of labels by its roots and the kids of each label, and the lists that hold it.
-use Rattle.std.specs.Prelude.{◌≡◌, ℕ, zero, suc, ◌≤◌, ◌⊎◌, ◌↔◌, List, ◌++◌, [], length, Contains}
+use Rattle.std.specs.Prelude.{◌≡◌, ℕ, zero, suc, ◌⊎◌, ◌↔◌, List, ◌++◌, [], length, Contains}
 use Rattle.std.specs.List.{flat_map}
 use Rattle.mine_model.specs.Labels.{SameLabels, IsOnce}
 

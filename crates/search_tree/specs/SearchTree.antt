@@ -1,12 +1,10 @@
 -- The tree that a search by prefixes walks. Bounds and pivots are from the article on pivots; labels are own.
-use Rattle.std.specs.Prelude.{◌≡◌, ℕ, zero, suc, ◌-◌, ◌≤◌, ◌<◌, ◌⊎◌, ◌↔◌, Option, Some, None, IfSome, List, [], ◌∷◌, ◌++◌, map, length, AllPairs, Contains}
-use Rattle.std.specs.List.{AllByRecursion, slice_index_or}
+use Rattle.std.specs.Prelude.{◌≡◌, ℕ, ◌<◌, ◌⊎◌, ◌↔◌, Option, Some, None, List, [], ◌∷◌, ◌++◌, map, AllPairs, Contains}
 use Rattle.mine_model.specs.declared.item.Item.{Item}
 use Rattle.mine_model.specs.declared.row.Row.{Row}
 use Rattle.mine_model.specs.Answer.{Data, IsFrequent}
-use Rattle.mine_model.specs.Growth.{IsAlive}
 use Rattle.mine_model.specs.Pivots.{IsWithinPivot, label_of, IsAliveLabel}
-use Rattle.mine_model.specs.Ranks.{HasRank, AreRanked}
+use Rattle.mine_model.specs.Ranks.{AreRanked}
 
 -- the kids of a label: the alive labels that are longer by one rank, by rising rank
 pub record AreKids (d : Data Item) (order : List Item) (pivot : ℕ) (ranks : List ℕ)
