@@ -3,7 +3,7 @@ ghost use Rattle.std.specs.Prelude.{◌≡◌, ◌≢◌, ◌≤◌, ◌↔◌, 
 ghost use Rattle.pool_schedule.specs.Worker.{HasNothing};
 
 use crate::event::Event;
-use crate::grow::Grow;
+use search_tree::Grow;
 use crate::labels::Labels;
 use crate::worker::{Stage, Worker};
 use mine_model::{NoMemory, Row};

@@ -4,7 +4,7 @@ ghost use Rattle.std.specs.List.{filter_map};
 ghost use Rattle.search_tree.specs.Cover.{Covers};
 ghost use Rattle.pool_schedule.specs.Schedule.{first_choice, later_choices, ArePosted};
 
-use crate::grow::Grow;
+use search_tree::Grow;
 use crate::machine::{Machine, Posted};
 use crate::stepping::step;
 use mine_model::NoMemory;

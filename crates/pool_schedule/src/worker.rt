@@ -1,7 +1,7 @@
 //! One worker of the machine.
 ghost use Rattle.std.specs.Prelude.{◌≡◌, ◌<◌, ◌↔◌, None, [], All, IsTrue, OnOk, length};
 
-use crate::grow::Grow;
+use search_tree::Grow;
 use mine_model::{NoMemory, Row};
 use search_tree::Label;
 use std::alloc::Global;
