@@ -1,0 +1,3 @@
+pub mod CellLemmas
+pub mod ActionLemmas
+pub mod MemoLemmas

@@ -1,0 +1,7 @@
+-- the words of the promise
+pub mod Moves
+pub mod Steps
+pub mod Memos
+-- what the proofs keep
+pub mod Cells
+pub mod Kept
