@@ -1,5 +1,5 @@
 -- The actions that a loop over states writes.
-use Rattle.std.proofs.Common.{◌≡◌, ℕ, zero, suc, ◌+◌, ◌-◌, ◌*◌, ◌<◌, ◌≤◌, ◌⊎◌, ◌↔◌, inl, inr, Bool, true, false, eqb, IsTrue, List, [], ◌∷◌, ◌++◌, map, take, drop, length, get_or, arith, refl, sym, ap, ◌∙◌, subst, append_assoc, eq-eqb}
+use Rattle.std.proofs.Common.{◌≡◌, ℕ, zero, suc, ◌-◌, ◌<◌, ◌≤◌, ◌↔◌, inl, inr, Bool, true, false, eqb, IsTrue, List, [], ◌∷◌, ◌++◌, map, drop, length, get_or, arith, refl, sym, subst, append_assoc, eq-eqb}
 use Rattle.std.specs.List.{Contains, AllPairs, slice_range}
 use Rattle.std.specs.List.Sorted.{IsStrictlyIncreasing}
 use Rattle.std.specs.Int.{bit_at}
@@ -8,7 +8,7 @@ use Rattle.std.proofs.lemmas.List.{append-nil, length-map, map-append, length-ap
 use Rattle.std.proofs.Math.Seq.{drop-append_seam}
 use Rattle.std.proofs.lemmas.List.Elements.{Contains-append_right}
 use Rattle.std.proofs.lemmas.List.Kept.{AllPairs-from_increasing}
-use Rattle.mine_model.proofs.ListLemmas.{Contains-by, Contains-from, Contains-first}
+use Rattle.mine_model.proofs.ListLemmas.{Contains-by, Contains-from}
 use Rattle.state_bits.specs.Members.{Has}
 use Rattle.walk_memo.specs.declared.action.Action.{Action}
 use Rattle.walk_memo.specs.Moves.{MoveSets}

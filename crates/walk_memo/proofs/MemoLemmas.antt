@@ -1,25 +1,26 @@
 -- Memos while they grow.
-use Rattle.std.proofs.Common.{◌≡◌, ◌≢◌, ℕ, ◌+◌, ◌<◌, ◌≤◌, ◌⊎◌, ◌↔◌, inl, inr, Bool, true, false, Some, None, List, [], ◌∷◌, ◌++◌, map, length, get_or, slice_get, arith, refl, sym, ap, ◌∙◌, subst, take, ◌&&◌}
+use Rattle.std.proofs.Common.{◌≡◌, ℕ, zero, suc, ◌+◌, ◌*◌, ◌<◌, ◌≤◌, ◌⊎◌, ◌↔◌, inl, inr, Bool, true, false, Some, List, [], ◌∷◌, ◌++◌, map, length, slice_get, arith, refl, sym, ap, ◌∙◌, subst, ◌&&◌}
 use Rattle.std.specs.Bool.{◌==◌}
-use Rattle.std.specs.List.{Contains, list_any, slice_range, slice_index}
+use Rattle.std.specs.List.{list_any, slice_range}
 use Rattle.std.proofs.lemmas.List.{append-nil, map-append, length-append}
 use Rattle.std.proofs.lemmas.Bool.{cases_Bool, and_parts, eqb-true}
-use Rattle.std.proofs.lemmas.Option.{slice_get-map, slice_get_within, slice_get_read, same_Some}
+use Rattle.std.proofs.lemmas.Option.{slice_get-map, slice_get_within, same_Some}
 use Rattle.indexmap.specs.IndexSet.{insert_key}
 use Rattle.mine_model.proofs.ListLemmas.{Contains-cases, Contains-none}
 use Rattle.mine_model.proofs.ElementLemmas.{get-left, get_snoc}
 use Rattle.state_bits.specs.Members.{Has}
-use Rattle.state_bits.specs.Neighbours.{AreNeighbours, IsNeighbour}
+use Rattle.state_bits.specs.Neighbours.{AreNeighbours}
+use Rattle.state_bits.proofs.NeighbourLemmas.{Has-none}
 use Rattle.walk_memo.specs.declared.action.Action.{Action}
 use Rattle.walk_memo.specs.declared.cells.Cells.{Cells}
 use Rattle.walk_memo.specs.declared.movement.Move.{Move}
 use Rattle.walk_memo.specs.declared.step.Step.{Step}
 use Rattle.walk_memo.specs.Moves.{MoveSets, move_sets, AddsTo}
 use Rattle.walk_memo.specs.Cells.{HasCell}
-use Rattle.walk_memo.specs.Steps.{IsAfter, AreActions, AreWritten, IsMarked}
-use Rattle.walk_memo.specs.Memos.{MemoValue, IsStep, IsJoined, Keeps, Follows, HasRoom}
+use Rattle.walk_memo.specs.Steps.{IsAfter, AreWritten}
+use Rattle.walk_memo.specs.Memos.{MemoValue, IsStep, IsJoined, Keeps, most_sets}
 use Rattle.walk_memo.specs.Kept.{IsMemo, IsStepAt, IsJoinAt, AreSets, AreRows}
-use Rattle.walk_memo.proofs.ActionLemmas.{range-kept, range-last}
+use Rattle.walk_memo.proofs.ActionLemmas.{range-kept}
 
 -- ---- what an insertion into a set adds
 
@@ -140,3 +141,110 @@ Keeps-sets rows moves sets after actions grown = record { sets = grown; actions 
 pub Keeps-actions : (rows : List ℕ) (moves : List MoveSets) (sets : List ℕ) (actions after : List Action) → (more : List Action) × (after ≡ actions ++ more)
     → Keeps (record { rows = rows; moves = moves; sets = sets; actions = actions }) (record { rows = rows; moves = moves; sets = sets; actions = after })
 Keeps-actions rows moves sets actions after grown = record { sets = ([], sym (append-nil sets)); actions = grown }
+
+-- ---- what is new is kept
+
+module _ (width : ℕ) (memo : MemoValue) (steps : Cells Step) (joins : Cells ℕ) (most : ℕ) (is : IsMemo width memo steps joins most) where
+  pub IsMemo-keep_step : (after : Cells Step) (number of : ℕ) (step : Step) → after.columns ≡ steps.columns → IsStepAt memo number of step
+      → ((r k : ℕ) (v : Step) → k < steps.columns → HasCell after r k v → (((r ≡ number) × (k ≡ of) × (v ≡ step)) ⊎ HasCell steps r k v))
+      → IsMemo width memo after joins most
+  IsMemo-keep_step after number of step columns right cells = record {
+    rows_are = is.rows_are;
+    sets_are = is.sets_are;
+    move_columns = columns ∙ is.move_columns;
+    state_columns = is.state_columns;
+    steps_known = λ r k v inside held. elim (cells r k v (omega (arith, inside, is.move_columns)) held) [
+      | inl (row, column, value) ↦ rw (row, column, value) right
+      | inr old ↦ is.steps_known r k v inside old
+    ];
+    joins_known = is.joins_known;
+    most_is = is.most_is;
+  }
+
+  pub IsMemo-keep_join : (after : Cells ℕ) (number state joined : ℕ) → after.columns ≡ joins.columns → IsJoinAt memo number state joined
+      → ((r k : ℕ) (v : ℕ) → k < joins.columns → HasCell after r k v → (((r ≡ number) × (k ≡ state) × (v ≡ joined)) ⊎ HasCell joins r k v))
+      → IsMemo width memo steps after most
+  IsMemo-keep_join after number state joined columns right cells = record {
+    rows_are = is.rows_are;
+    sets_are = is.sets_are;
+    move_columns = is.move_columns;
+    state_columns = columns ∙ is.state_columns;
+    steps_known = is.steps_known;
+    joins_known = λ r k v inside held. elim (cells r k v (omega (arith, inside, is.state_columns)) held) [
+      | inl (row, column, value) ↦ rw (row, column, value) right
+      | inr old ↦ is.joins_known r k v inside old
+    ];
+    most_is = is.most_is;
+  }
+
+-- the step that was found out
+pub IsStep-made : (memo : MemoValue) (move : MoveSets) (set targets after : ℕ) (step : Step) → slice_get memo.sets step.next ≡ Some after → AreNeighbours memo.rows set targets
+    → ((q : ℕ) → Has after q ↔ (Has targets q × Has move.silent q)) → step.first ≤ step.last → step.last ≤ length memo.actions
+    → AreWritten targets move (slice_range memo.actions step.first step.last) → IsStep memo move set step
+IsStep-made memo move set targets after step numbered are cut ordered within written = record {
+  after = after;
+  numbered = numbered;
+  next = λ q. (
+    (λ has. let (target, silent) = (cut q).0 has in ((are q).0 target, silent)),
+    (λ (stands, silent). (cut q).1 ((are q).1 stands, silent)),
+  );
+  ordered = ordered;
+  within = within;
+  actions = record {
+    rising = written.rising;
+    exact = λ action. (
+      (λ held. let (target, writes, marked) = (written.exact action).0 held in ((are action.state).0 target, writes, marked)),
+      (λ (stands, writes, marked). (written.exact action).1 ((are action.state).1 stands, writes, marked)),
+    );
+  };
+}
+
+-- ---- a memo that knows the empty set alone
+
+one_set : (number set : ℕ) → slice_get (0 ∷ []) number ≡ Some set → (number ≡ 0) × (set ≡ 0)
+one_set zero set is = (refl, cc)
+one_set (suc number) set is = absurd (cc)
+
+pub AreSets-one : (rows sets : List ℕ) → sets ≡ 0 ∷ [] → AreSets rows sets
+AreSets-one rows sets one = record {
+  empty = rw one refl;
+  once = λ number zero_there. (one_set number 0 (rw one at zero_there)).0;
+  within = λ number set q there has. absurd (Has-none q (subst (λ (s : ℕ). Has s q) (one_set number set (rw one at there)).1 has));
+}
+
+pub first_set : (eq : ℕ → ℕ → Bool) (before after : List ℕ) (set : ℕ) → before ≡ [] → set ≡ 0 → after ≡ insert_key eq before set → after ≡ 0 ∷ []
+first_set eq before after set none is are = rw (are, none, is) refl
+
+pub HasCell-none : {T : Type 0} (cells : Cells T) (row column : ℕ) (value : T) → cells.cells.items ≡ [] → HasCell cells row column value → ⊥
+HasCell-none {T} cells row column value none held =
+    let inside : row * cells.columns + column < length cells.cells.items = slice_get_within cells.cells.items (row * cells.columns + column) (Some value) held in
+    omega (arith, ap length none)
+
+pub IsMemo-new : (width : ℕ) (memo : MemoValue) (steps : Cells Step) (joins : Cells ℕ) (most : ℕ) → AreRows width memo.rows → memo.sets ≡ 0 ∷ []
+    → steps.columns ≡ length memo.moves → joins.columns ≡ length memo.rows → steps.cells.items ≡ [] → joins.cells.items ≡ [] → most ≡ most_sets memo.rows memo.moves
+    → IsMemo width memo steps joins most
+IsMemo-new width memo steps joins most rows sets move_columns state_columns no_steps no_joins is = record {
+  rows_are = rows;
+  sets_are = AreSets-one memo.rows memo.sets sets;
+  move_columns = move_columns;
+  state_columns = state_columns;
+  steps_known = λ number of step inside held. absurd (HasCell-none steps number of step no_steps held);
+  joins_known = λ number state joined inside held. absurd (HasCell-none joins number state joined no_joins held);
+  most_is = is;
+}
+
+-- ---- what is read from a cell
+
+pub step_read : (memo shown : MemoValue) (number of : ℕ) (step : Step) → memo ≡ shown → IsStepAt memo number of step
+    → (set : ℕ) (move : MoveSets) → slice_get shown.sets number ≡ Some set → slice_get shown.moves of ≡ Some move → IsStep shown move set step
+step_read memo shown number of step same known set move found found_move =
+    let is : IsStepAt shown number of step = subst (λ (m : MemoValue). IsStepAt m number of step) same known in
+    let set_is : is.set ≡ set = same_Some is.set set (sym is.numbered ∙ found) in
+    subst (λ (s : ℕ). IsStep shown move s step) set_is (is.step_is move found_move)
+
+pub join_read : (memo shown : MemoValue) (number state joined : ℕ) → memo ≡ shown → IsJoinAt memo number state joined
+    → (set : ℕ) → slice_get shown.sets number ≡ Some set → IsJoined shown set state joined
+join_read memo shown number state joined same known set found =
+    let is : IsJoinAt shown number state joined = subst (λ (m : MemoValue). IsJoinAt m number state joined) same known in
+    let set_is : is.set ≡ set = same_Some is.set set (sym is.numbered ∙ found) in
+    subst (λ (s : ℕ). IsJoined shown s state joined) set_is is.join_is

@@ -93,7 +93,8 @@ impl<'a, const W: usize> Memo<'a, W> {
     pub fn set(&self, number: u32) -> &StateSet<W>
         requires width { W ≤ 17 }
         requires number { number < length self.now.sets }
-        ensures { slice_get self.now.sets number ≡ Some result.now }
+        ensures is { slice_get self.now.sets number ≡ Some result.now }
+        ensures within { (q : ℕ) → Has result.now q → q < length self.now.rows }
     {
         &self.sets.as_slice()[number as usize]
     }

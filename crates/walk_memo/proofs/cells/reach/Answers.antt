@@ -1,4 +1,3 @@
-use Rattle.std.proofs.Common.{subst, Some, List, Option, ◌≡◌, slice_get}
 use Rattle.walk_memo.proofs.CellLemmas.{filled-push}
 use Rattle.walk_memo.proofs.cells.reach.Goals as goal
 

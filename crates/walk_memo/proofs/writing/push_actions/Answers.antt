@@ -1,7 +1,6 @@
-use Rattle.std.proofs.Common.{◌≡◌, ℕ, refl, ◌∙◌, ◌*◌, ◌<◌, ◌↔◌, ◌++◌, List, map, rules, arith}
+use Rattle.std.proofs.Common.{◌≡◌, ℕ, refl, ◌∙◌, ◌*◌, ◌<◌, ◌↔◌, map, rules, arith}
 use Rattle.std.specs.List.{Contains}
 use Rattle.std.proofs.lemmas.List.Elements.{All-contains}
-use Rattle.state_bits.specs.Members.{Has}
 use Rattle.walk_memo.specs.declared.action.Action.{Action}
 use Rattle.walk_memo.specs.Moves.{move_sets}
 use Rattle.walk_memo.proofs.ActionLemmas.{IsWriter, action_of, test_is, written-none, written-more, written-all, next_writer}

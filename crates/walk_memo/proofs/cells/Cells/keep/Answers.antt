@@ -1,4 +1,4 @@
-use Rattle.std.proofs.Common.{◌≡◌, ◌<◌, ◌+◌, ◌*◌, length, subst, Some, List, Option, slice_get, inl, inr, set, arith}
+use Rattle.std.proofs.Common.{◌≡◌, ◌<◌, ◌+◌, ◌*◌, length, Some, slice_get, inl, inr, set, arith}
 use Rattle.walk_memo.proofs.CellLemmas.{filled-set}
 use Rattle.walk_memo.proofs.cells.Cells.keep.Goals as goal
 
