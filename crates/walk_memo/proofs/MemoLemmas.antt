@@ -1,12 +1,13 @@
 -- Memos while they grow.
-use Rattle.std.proofs.Common.{◌≡◌, ℕ, zero, suc, ◌+◌, ◌*◌, ◌<◌, ◌≤◌, ◌⊎◌, ◌↔◌, inl, inr, Bool, true, false, Some, List, [], ◌∷◌, ◌++◌, map, length, slice_get, arith, refl, sym, ap, ◌∙◌, subst, ◌&&◌}
-use Rattle.std.specs.Bool.{◌==◌}
-use Rattle.std.specs.List.{list_any, slice_range}
+use Rattle.std.proofs.Common.{◌≡◌, ℕ, zero, suc, ◌+◌, ◌*◌, ◌<◌, ◌≤◌, ◌⊎◌, ◌↔◌, inl, inr, Bool, true, false, Some, List, [], ◌∷◌, ◌++◌, map, length, slice_get, arith, refl, sym, ap, ◌∙◌, subst, ◌&&◌, eq-eqb, ◌≢◌}
+use Rattle.std.specs.Bool.{◌==◌, Decides}
+use Rattle.std.specs.List.{list_any, slice_range, IsDistinct, AllPairs}
 use Rattle.std.proofs.lemmas.List.{append-nil, map-append, length-append}
 use Rattle.std.proofs.lemmas.Bool.{cases_Bool, and_parts, eqb-true}
 use Rattle.std.proofs.lemmas.Option.{slice_get-map, slice_get_within, same_Some}
 use Rattle.indexmap.specs.IndexSet.{insert_key}
-use Rattle.mine_model.proofs.ListLemmas.{Contains-cases, Contains-none}
+use Rattle.std.proofs.lemmas.Map.Made.{AllPairs-from_IsDistinct}
+use Rattle.mine_model.proofs.ListLemmas.{apart_by_image, Contains-cases, Contains-none}
 use Rattle.mine_model.proofs.ElementLemmas.{get-left, get_snoc}
 use Rattle.state_bits.specs.Members.{Has}
 use Rattle.state_bits.specs.Neighbours.{AreNeighbours}
@@ -248,3 +249,19 @@ join_read memo shown number state joined same known set found =
     let is : IsJoinAt shown number state joined = subst (λ (m : MemoValue). IsJoinAt m number state joined) same known in
     let set_is : is.set ≡ set = same_Some is.set set (sym is.numbered ∙ found) in
     subst (λ (s : ℕ). IsJoined shown s state joined) set_is is.join_is
+
+-- ---- moves, each once
+
+move_from_sets : {W : ℕ} (a b : Move W) → move_sets a ≡ move_sets b → a ≡ b
+move_from_sets {W} a b same =
+    ap (λ (m : MoveSets). let move : Move W = record { silent = m.silent; writes = m.writes; more = m.more; ends = m.ends } in move) same
+
+decides_moves : {W : ℕ} (a b : Move W) → Decides (move_eq a b) (a ≡ b)
+decides_moves {W} a b = (
+  (λ same. move_from_sets a b (same_move a b same)),
+  (λ is. subst (λ (x : Move W). move_eq a x ≡ true) is
+      (rw (eq-eqb a.silent a.silent refl, eq-eqb a.writes a.writes refl, eq-eqb a.more a.more refl, eq-eqb a.ends a.ends refl) refl)),
+)
+
+pub moves_once : {W : ℕ} (keys : List (Move W)) → IsDistinct (move_eq {W = W}) keys → AllPairs (λ one other. one ≢ other) (map (move_sets {W = W}) keys)
+moves_once {W} keys distinct = apart_by_image (move_sets {W = W}) move_from_sets keys (AllPairs-from_IsDistinct decides_moves keys distinct)

@@ -4,6 +4,7 @@
 
 mod action;
 mod cells;
+mod laws;
 mod memo;
 mod movement;
 mod moves;
@@ -12,6 +13,7 @@ mod step;
 mod writing;
 
 pub use action::Action;
+pub use laws::cut_sets_have_the_same_actions;
 pub use memo::Memo;
 pub use movement::Move;
 pub use moves::Moves;

@@ -100,6 +100,7 @@ impl<'a, const W: usize> Memo<'a, W> {
     }
 
     /// Whether the number is that of the empty set.
+    #[inline]
     pub fn is_empty(&self, number: u32) -> bool
         ensures { IsTrue result ↔ (slice_get self.now.sets number ≡ Some 0) }
     {
@@ -108,6 +109,7 @@ impl<'a, const W: usize> Memo<'a, W> {
     }
 
     /// The actions of a step that this memo answered.
+    #[inline]
     pub fn actions(&self, step: Step) -> &[Action]
         requires ordered { step.first ≤ step.last }
         requires within { step.last ≤ length self.now.actions }
@@ -126,6 +128,7 @@ impl<'a, const W: usize> Memo<'a, W> {
     }
 
     /// The step from the set with this number at the move with that number.
+    #[inline]
     pub fn step(&mut self, set: u32, of: u32) -> Result<Step, NoMemory>
         requires width { W ≤ 17 }
         requires set { set < length self.old.sets }
@@ -142,6 +145,7 @@ impl<'a, const W: usize> Memo<'a, W> {
     }
 
     /// The number of the set with this number and the state.
+    #[inline]
     pub fn join(&mut self, set: u32, state: u32) -> Result<u32, NoMemory>
         requires width { W ≤ 17 }
         requires set { set < length self.old.sets }

@@ -38,10 +38,12 @@ impl<const W: usize> Moves<W> {
         }
     }
 
-    /// The number of the move, which is added behind the others if it is new.
+    /// The number of the move, which is added behind the others if it is new. It also wants memory where
+    /// 2^32 - 1 moves have numbers.
     pub fn intern(&mut self, movement: &Move<W>) -> Result<u32, NoMemory>
         requires width { W ≤ 17 }
         ensures grows { AddsTo self.old (move_sets movement.now) self.new }
+        ensures once { AllPairs (λ one other. one ≢ other) self.new }
         ensures number { IfOk result (λ number. slice_get self.new number ≡ Some (move_sets movement.now)) }
     {
         if self.moves.len() >= u32::MAX as usize {
