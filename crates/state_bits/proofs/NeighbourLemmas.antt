@@ -42,16 +42,6 @@ AreNeighboursSoFar-more rows members found after done left later state row so_fa
       members = subst (λ (xs : List ℕ). (k : ℕ) → Contains xs k ↔ Has members k) same so_far.members;
     }
 
-pub AreNeighboursSoFar-all : (rows : List ℕ) (members found : ℕ) (done left : List ℕ) → AreNeighboursSoFar rows members found done left → left ≡ []
-    → AreNeighbours rows members found
-AreNeighboursSoFar-all rows members found done left so_far none =
-    let same : done ++ left ≡ done = rw none (append-nil done) in
-    let are : (k : ℕ) → Contains done k ↔ Has members k = subst (λ (xs : List ℕ). (k : ℕ) → Contains xs k ↔ Has members k) same so_far.members in
-    λ q. (
-      (λ has. let (k, before, inside) = (so_far.exact q).0 has in (k, before, (are k).0 inside)),
-      (λ h. let (k, before, member) = h in (so_far.exact q).1 (k, before, (are k).1 member)),
-    )
-
 -- the next state of a walk is a member
 pub next_neighbour : {rows : List ℕ} {all found : ℕ} {done left : List ℕ} (state : ℕ) (later : List ℕ) → AreNeighboursSoFar rows all found done left
     → left ≡ state ∷ later → Has all state

@@ -1,0 +1,4 @@
+pub mod CellLemmas
+pub mod ActionLemmas
+pub mod MemoLemmas
+pub mod CutLemmas
