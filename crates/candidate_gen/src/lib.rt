@@ -7,8 +7,6 @@ mod listing;
 mod patterns;
 mod place;
 mod rank_lists;
-#[cfg(test)]
-mod tests;
 mod view;
 mod walk;
 

@@ -3,8 +3,6 @@
 
 mod hands;
 mod mining;
-#[cfg(test)]
-mod tests;
 mod working;
 
 pub use mining::mine;

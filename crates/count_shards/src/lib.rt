@@ -5,11 +5,7 @@ mod block;
 mod columns;
 mod rows;
 mod shard;
-#[cfg(test)]
-mod shard_tests;
 mod shards;
-#[cfg(test)]
-mod tests;
 
 pub use block::{BlockCounts, count_block};
 pub use shard::Shard;

@@ -5,8 +5,6 @@ mod growing;
 mod node;
 mod seeds;
 mod state;
-#[cfg(test)]
-mod tests;
 
 pub use growing::expand;
 pub use node::Node;

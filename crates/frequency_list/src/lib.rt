@@ -45,6 +45,3 @@ pub fn count<R: Threads + Sync>(
     let order = ranked(alloc, frequencies.as_slice(), support, names)?;
     Ranks::new(alloc, order, frequencies)
 }
-
-#[cfg(test)]
-mod tests;

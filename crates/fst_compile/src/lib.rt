@@ -12,8 +12,6 @@ mod linking;
 mod repeating;
 mod rowing;
 mod rows;
-#[cfg(test)]
-mod tests;
 mod writing;
 
 pub use compiling::compile;

@@ -14,8 +14,6 @@ mod reading;
 mod successors;
 mod table;
 mod tables;
-#[cfg(test)]
-mod tests;
 
 pub use bound::Bound;
 pub use grid::Grid;

@@ -7,8 +7,6 @@ mod rule;
 mod seat;
 mod setup;
 mod task;
-#[cfg(test)]
-mod tests;
 mod way;
 
 pub use closing::finish;

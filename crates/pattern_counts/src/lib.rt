@@ -118,6 +118,3 @@ impl PatternCounts {
         Ok(())
     }
 }
-
-#[cfg(test)]
-mod tests;

@@ -12,8 +12,6 @@ mod pivots;
 mod reading;
 mod splitting;
 mod table;
-#[cfg(test)]
-mod tests;
 mod weighing;
 
 pub use merging::merge_pivots;

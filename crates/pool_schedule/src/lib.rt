@@ -12,8 +12,6 @@ mod laws;
 mod machine;
 mod run;
 mod stepping;
-#[cfg(test)]
-mod tests;
 mod worker;
 
 pub use event::Event;

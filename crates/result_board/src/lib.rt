@@ -3,8 +3,6 @@
 
 mod board;
 mod post;
-#[cfg(test)]
-mod tests;
 
 pub use board::Board;
 pub use post::Post;

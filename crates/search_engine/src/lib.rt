@@ -9,8 +9,6 @@ mod search;
 mod seats;
 mod simulating;
 mod steer;
-#[cfg(test)]
-mod tests;
 mod workers;
 mod working;
 

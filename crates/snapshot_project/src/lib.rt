@@ -19,8 +19,6 @@ mod span;
 mod starting;
 mod stepping;
 mod supporting;
-#[cfg(test)]
-mod tests;
 mod walking;
 
 pub use advancing::{advance, advance_all};

@@ -3,8 +3,6 @@
 
 mod state_iter;
 mod state_set;
-#[cfg(test)]
-mod tests;
 mod words;
 
 pub use state_iter::StateIter;

@@ -12,6 +12,3 @@ mod lock;
 
 pub use kept::{Change, Kept};
 pub use lock::{Pass, TurnLock};
-
-#[cfg(test)]
-mod tests;

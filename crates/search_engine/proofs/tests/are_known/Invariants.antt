@@ -1,6 +1,0 @@
-use Rattle.std.proofs.Common.{◌<◌, take}
-use Rattle.std.specs.List.{All}
-use Rattle.search_engine.proofs.tests.are_known.Given as goal
-
-abbrev pub invariant-loop-item : goal.invariant-loop-item
-invariant-loop-item l = All (λ t. t.0 < 7) (take l.item-index l.items)

@@ -1,8 +1,0 @@
-use Rattle.std.proofs.Common.{suc}
-use Rattle.mine_model.specs.Cover.{down_to}
-use Rattle.mine_model.proofs.SearchTreeLemmas.{longest}
-use Rattle.search_engine.specs.Searches.{tree_of}
-use Rattle.search_engine.proofs.tests.posted.Given as goal
-
-abbrev pub ghost-run_schedule : goal.ghost-run_schedule
-ghost-run_schedule g a = down_to (tree_of a.g.now).roots (tree_of a.g.now).kids (suc (suc (longest a.g.now.problem.sequences)))
