@@ -41,8 +41,15 @@ fn running(alloc: Global) -> Result<(String, Option<Leaf>), NoMemory> {
     let expr = expression(alloc, Shape::Climbing)?;
     let fst = compile(alloc, &expr)?;
     let text = text_of(alloc, &fst)?;
-    let is_known = fst.states() > 2 && fst.is_captured(State(2)) && !fst.is_captured(State(1));
-    Ok((text, is_known.then_some(fst.leaf(State(2)))))
+    Ok((text, captured_leaf(&fst, State(2))))
+}
+
+/// The leaf of a state that is captured.
+fn captured_leaf(fst: &Fst, state: State) -> Option<Leaf> {
+    if 0 < state.0 && state.0 < fst.states() && fst.is_captured(state) {
+        return Some(fst.leaf(state));
+    }
+    None
 }
 
 #[test]
@@ -139,12 +146,14 @@ fn compiles_many_signs_on_one_name(rt: HostRuntime) -> Result<(), Fail> {
     Ok(())
 }
 
-/// What the leaf writes on the item, where it matches.
+/// What the leaf writes on the item, where it is one and the leaf matches.
 fn written(alloc: Global, leaf: Leaf, t: Item) -> Result<Option<Vec<Item>>, NoMemory>
-    requires named { AllByRecursion (λ w. w.0 < 11) (named_by (leaf_of leaf)) }
-    requires item { t.0 < 11 }
+    requires { AllByRecursion (λ w. w.0 < 11) (named_by (leaf_of leaf)) }
 {
     let hierarchy = hierarchy(alloc)?;
+    if t.0 >= hierarchy.items() {
+        return Ok(None);
+    }
     let mut out = Vec::new(alloc);
     let matches = outputs(&hierarchy, &leaf, t, &mut out)?;
     Ok(matches.then_some(out))
