@@ -11,4 +11,3 @@ pub mod Returning
 pub mod Gathering
 pub mod Emptying
 pub mod Finishing
-pub mod Trials

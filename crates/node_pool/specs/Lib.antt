@@ -6,4 +6,3 @@ pub mod Rule
 pub mod Ways
 pub mod Opening
 pub mod Closing
-pub mod Trial

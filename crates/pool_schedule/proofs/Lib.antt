@@ -11,4 +11,3 @@ pub mod StepLemmas
 pub mod StartLemmas
 pub mod RunLemmas
 pub mod CodingLemmas
-pub mod TrialLemmas

@@ -4,4 +4,3 @@ pub mod Schedule
 pub mod Worker
 pub mod Machine
 pub mod FrontCoding
-pub mod Trial

@@ -3,10 +3,10 @@ ghost use Rattle.std.specs.Prelude.{◌≡◌, ◌≢◌, ◌≤◌, ◌↔◌, 
 ghost use Rattle.pool_schedule.specs.Worker.{HasNothing};
 
 use crate::event::Event;
-use search_tree::Grow;
 use crate::labels::Labels;
 use crate::worker::{Stage, Worker};
 use mine_model::{NoMemory, Row};
+use search_tree::Grow;
 use std::alloc::Global;
 
 /// What was posted: the labels of the grown nodes, and the rows of those that have one, in one order.

@@ -4,10 +4,10 @@ ghost use Rattle.std.specs.List.{filter_map};
 ghost use Rattle.search_tree.specs.Cover.{Covers};
 ghost use Rattle.pool_schedule.specs.Schedule.{first_choice, later_choices, ArePosted};
 
-use search_tree::Grow;
 use crate::machine::{Machine, Posted};
 use crate::stepping::step;
 use mine_model::NoMemory;
+use search_tree::Grow;
 use std::alloc::Global;
 
 /// The first of the choices, or 0 where there is none, and the later ones.

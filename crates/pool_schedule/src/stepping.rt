@@ -6,10 +6,10 @@ ghost use Rattle.pool_schedule.specs.Machine.{seen, IsOwned, HasRows, MayStep, P
 ghost use Rattle.pool_schedule.specs.declared.event.Event.TheVariants.{Post, Steal};
 
 use crate::event::Event;
-use search_tree::Grow;
 use crate::machine::Machine;
 use crate::worker::Pending;
 use mine_model::NoMemory;
+use search_tree::Grow;
 use std::alloc::Global;
 
 /// Posts what the worker has pending.

@@ -1,9 +1,8 @@
 //! One worker of the machine.
 ghost use Rattle.std.specs.Prelude.{◌≡◌, ◌<◌, ◌↔◌, None, [], All, IsTrue, OnOk, length};
 
-use search_tree::Grow;
 use mine_model::{NoMemory, Row};
-use search_tree::Label;
+use search_tree::{Grow, Label};
 use std::alloc::Global;
 use std::collections::VecDeque;
 

@@ -1,5 +1,5 @@
--- The trees of the tests: a kid adds one rank to its parent's label, and a label with no kids has a row.
-use Rattle.std.specs.Prelude.{ℕ, cond, ltb, Option, Some, None, List, [], ◌∷◌, length, map}
+-- The tree of the tests of schedules: a kid adds one rank to its parent's label, and a label with no kids has a row.
+use Rattle.std.specs.Prelude.{ℕ, cond, Option, Some, None, List, [], ◌∷◌, map}
 use Rattle.std.specs.Str.{bytes_eq}
 use Rattle.mine_model.specs.declared.row.Row.{Row}
 
@@ -16,10 +16,6 @@ small_ranks label =
     cond (bytes_eq label (0 ∷ [])) (3 ∷ [])
     (cond (bytes_eq label (0 ∷ 3 ∷ [])) (1 ∷ 2 ∷ 3 ∷ [])
     (cond (bytes_eq label (0 ∷ 3 ∷ 2 ∷ [])) (1 ∷ []) (cond (bytes_eq label (0 ∷ 3 ∷ 3 ∷ [])) (1 ∷ []) [])))
-
--- four kids of each label that is shorter than five
-abbrev pub large_ranks : List ℕ → List ℕ
-large_ranks label = cond (ltb (length label) 5) (1 ∷ 2 ∷ 3 ∷ 4 ∷ []) []
 
 -- the labels of the small tree
 abbrev pub small_tree : List (List ℕ)

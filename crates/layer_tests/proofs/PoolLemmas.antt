@@ -3,7 +3,7 @@ use Rattle.std.proofs.Common.{◌≡◌, ℕ, List, ◌++◌, sym, ◌∙◌, su
 use Rattle.std.proofs.lemmas.Option.{slice_get_within}
 use Rattle.node_pool.specs.declared.seat.Seat.{Seat}
 use Rattle.node_pool.specs.Pool.{IsWholePool}
-use Rattle.node_pool.specs.Trial.{SameSeats}
+use Rattle.layer_tests.specs.Pools.{SameSeats}
 use Rattle.mine_model.proofs.ListLemmas.{written_back}
 use Rattle.mine_model.proofs.ElementLemmas.{get-some}
 

@@ -1,0 +1,96 @@
+//! The nodes of the search tree.
+ghost use Rattle.std.specs.Prelude.{◌≡◌, ◌≤◌, length, All, Contains, IfOk, IfSome};
+ghost use Rattle.dfs_growth.specs.Nodes.{Prefix};
+
+use super::data::{RUNNING, Shape, add_names, add_numbers, job};
+use dfs_growth::{Node, expand, roots, whole};
+use mine_model::{NoMemory, Row};
+use mining_job::Job;
+use search_tree::Grown;
+use snapshot_project::Room;
+use std::alloc::Global;
+use std::fmt::Write;
+use std::test::Fail;
+
+/// The sequences of the seed without a pivot; then what each of the nodes grows into that have these places
+/// among the roots, among the kids of that, and so on.
+fn told(alloc: Global, job: &Job, path: &[u32]) -> Result<String, NoMemory> {
+    let seed = whole(alloc, job)?;
+    let mut text = String::new(alloc);
+    add_numbers(&mut text, seed.sequences.as_slice())?;
+    let mut seeds = Vec::new(alloc);
+    seeds.push(seed)?;
+    let mut room = Room::new(alloc, job)?;
+    let mut nodes = roots(alloc, job, seeds)?;
+    for place in path {
+        nodes = follow(alloc, job, nodes, *place, &mut room, &mut text)?;
+    }
+    Ok(text)
+}
+
+/// Grows the node at this place, tells it, and answers its kids.
+fn follow<'a>(
+    alloc: Global,
+    job: &'a Job,
+    nodes: Vec<Node<'a>>,
+    place: u32,
+    room: &mut Room,
+    text: &mut String,
+) -> Result<Vec<Node<'a>>, NoMemory>
+    requires problem { All (λ (node : Prefix). node.problem ≡ job.now) nodes.items }
+    requires room { length job.now.ranking.order ≤ room.old }
+    ensures room { room.new ≡ room.old }
+    ensures problem { IfOk result (λ kids. All (λ (kid : Prefix). kid.problem ≡ job.now) kids.items) }
+{
+    let Some(node) = node_at(nodes, place) else {
+        text.push_str("; no node")?;
+        return Ok(Vec::new(alloc));
+    };
+    let Grown { label, row, kids } = expand(alloc, node, room)?;
+    add_node(text, label.numbers(), &row, kids.len())?;
+    Ok(kids)
+}
+
+/// The node at this place.
+fn node_at(nodes: Vec<Node>, place: u32) -> Option<Node>
+    ensures { IfSome result (Contains nodes.entry.items) }
+{
+    let mut left = place;
+    'nodes: for node in nodes {
+        if left == 0 {
+            return Some(node);
+        }
+        left -= 1;
+    }
+    None
+}
+
+/// Writes the label, the row, and how many kids there are.
+fn add_node(
+    text: &mut String,
+    label: &[u32],
+    row: &Option<Row>,
+    kids: usize,
+) -> Result<(), NoMemory> {
+    text.push(';')?;
+    add_numbers(text, label)?;
+    if let Some(row) = row {
+        text.push_str(" =")?;
+        add_names(text, row.pattern.items())?;
+        write!(text, " {}", row.support)?;
+    }
+    write!(text, " +{kids}")?;
+    Ok(())
+}
+
+// The kids of the second node are 0 3 1, 0 3 2 and 0 3 3.
+#[test]
+fn grows_the_tree_of_the_running_data(rt: HostRuntime) -> Result<(), Fail> {
+    let job = job(&rt, rt.alloc(), Shape::Climbing, &RUNNING, 1, 2)?;
+    let grown = told(rt.alloc(), &job, &[0, 0, 0, 1])?;
+    assert_eq!(rt;
+        grown.as_str(),
+        " 0 1 4; 0 +1; 0 3 +3; 0 3 1 = a1 b 3 +0; no node"
+    );
+    Ok(())
+}

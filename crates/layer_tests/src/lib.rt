@@ -1,0 +1,35 @@
+//! Tests of the layers below the run, over data that stands once.
+#![tactic(auto)]
+
+#[cfg(test)]
+mod bits;
+#[cfg(test)]
+mod blocks;
+#[cfg(test)]
+mod compiling;
+#[cfg(test)]
+mod counting;
+#[cfg(test)]
+mod data;
+#[cfg(test)]
+mod frequencies;
+#[cfg(test)]
+mod grids;
+#[cfg(test)]
+mod growing;
+#[cfg(test)]
+mod listing;
+#[cfg(test)]
+mod pivots;
+#[cfg(test)]
+mod pools;
+#[cfg(test)]
+mod schedules;
+#[cfg(test)]
+mod searching;
+#[cfg(test)]
+mod snapshots;
+#[cfg(test)]
+mod sums;
+#[cfg(test)]
+mod turns;
