@@ -11,6 +11,3 @@ pub use laws::{
     words_behind_dashes_say,
 };
 pub use words::{Command, Engine, Source, read_words};
-
-#[cfg(test)]
-mod tests;

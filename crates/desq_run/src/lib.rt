@@ -11,6 +11,3 @@ mod sources;
 
 pub use laws::{at_most_one_first_refusal, at_most_one_partition_work, at_most_one_text};
 pub use running::run;
-
-#[cfg(test)]
-mod tests;

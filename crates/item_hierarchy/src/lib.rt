@@ -12,6 +12,3 @@ pub use ancestors::MOST_ANCESTORS;
 pub use closing::close;
 pub use edges::{EdgeRow, Edges};
 pub use reading::read;
-
-#[cfg(test)]
-mod tests;

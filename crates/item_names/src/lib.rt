@@ -125,6 +125,3 @@ impl Names {
         self.texts.count()
     }
 }
-
-#[cfg(test)]
-mod tests;

@@ -18,6 +18,3 @@ pub use find_name::FindName;
 pub use parsed::{NameUse, Parsed};
 pub use parser::parse;
 pub use resolving::resolve;
-
-#[cfg(test)]
-mod tests;

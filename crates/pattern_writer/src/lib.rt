@@ -7,6 +7,3 @@ mod writing;
 
 pub use ordering::order;
 pub use writing::write;
-
-#[cfg(test)]
-mod tests;

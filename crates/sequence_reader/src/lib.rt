@@ -5,6 +5,3 @@ mod reading;
 mod weighing;
 
 pub use reading::read;
-
-#[cfg(test)]
-mod tests;
