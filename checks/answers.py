@@ -48,4 +48,138 @@ ran = subprocess.run([PROGRAM, "--support", "2", PAIRS, lines], stdout=writing, 
                      stdin=subprocess.DEVNULL, timeout=SECONDS, restore_signals=True)
 os.close(writing)
 rows.ends("a pipe whose reader is gone", (ran.returncode, b"", ran.stderr), (6, b"", WRITE_FAULT))
+
+# Small hierarchies and sequences: the words before the expression, the expression, both files, and the answer.
+KINDS, EXAMPLE = "a1 A\na2 A\n", "a1 c d c b\ne e a1 e a1 e b\nc d c b\na2 d b\na1 a1 b\n"
+DIAMOND = "x P Q\nP R\nQ R\n"
+RELATIONS = "Obama ENTITY\nMerkel ENTITY\nHawaii ENTITY\nHamburg ENTITY\nwas VERB\nborn VERB\nin PREP\ncity NOUN\n"
+ANSWERS = (
+    ("2", ".*(A)[(.^)|.]*(b).*", KINDS, EXAMPLE, "3\ta1 b\n2\ta1 A b\n2\ta1 a1 b\n"),
+    ("3", ".*(A)[(.^)|.]*(b).*", KINDS, EXAMPLE, "3\ta1 b\n"),
+    ("6", ".*(A)[(.^)|.]*(b).*", KINDS, EXAMPLE, ""),
+    ("1", ".*", KINDS, EXAMPLE, ""),
+    ("2", "(.^)", DIAMOND, "x\nx\n", "2\tP\n2\tQ\n2\tR\n2\tx\n"),
+    ("2", "(P^)", DIAMOND, "x\nx\n", "2\tP\n2\tx\n"),
+    ("2", "(P^=)", DIAMOND, "x\nx\n", "2\tP\n"),
+    ("2", "(P)", DIAMOND, "x\nx\n", "2\tx\n"),
+    ("2", "(P=)", DIAMOND, "x\nx\n", ""),
+    ("2", ".*ENTITY (VERB+ NOUN+? PREP?) ENTITY.*", RELATIONS,
+     "Obama was born in Hawaii .\nMerkel was born in Hamburg .\n", "2\twas born in\n"),
+    ("1", "(b^=)", "a b\n", "a\n", "1\tb\n"),
+    ("1", "(A).*", "a1 A\n", "a1 b\nc b\n", "1\ta1\n"),
+    ("1", "(!A).*", "a1 A\n", "a1 b\nc b\n", "1\tc\n"),
+    ("1", "(!A=).*", "a1 A\n", "a1 b\nc b\n", "1\ta1\n1\tc\n"),
+    ("1", "(!a1=).*", "a1 A\n", "a1 b\nc b\n", "1\tc\n"),
+    ("2", ".*(A)!A*(b).*", KINDS, EXAMPLE, "3\ta1 b\n"),
+    ("1", "(.)", "", "", ""),
+    ("1", "(.)", "", "\n\n\n", ""),
+    ("1", "[(a)*]*", "", "a a\n", "1\ta a\n"),
+    ("1", ".*(a){2}.*", "", "a a a\n", "1\ta a\n"),
+    ("1", "(a){0}(b)", "", "b\na\n", "1\tb\n"),
+    ("2", ".*(a)(b).*", "", "a b\na b\na c\n", "2\ta b\n"),
+    ("2", "(a)[(b)|.]", "", "a b\na b\n", "2\ta\n2\ta b\n"),
+    ("1", "('it''s')('.')", "", "it's .\n", "1\tit's .\n"),
+    ("1", "(a)[b]", "", "a b\n", "1\ta\n"),
+    ("2", "(a)(b)", "", "\ufeffa b\r\na b", "2\ta b\n"),
+)
+WEIGHED = (
+    ("4", ".*(a)(b).*", "3 a b\n2 a c\n1 a b\n", "4\ta b\n"),
+    ("5", ".*(a)(b).*", "3 a b\n2 a c\n1 a b\n", ""),
+    ("1", "(a)", "7\n002 a\n", "2\ta\n"),
+    ("1", "(a)", "00000000000000000000000001 a\n", "1\ta\n"),
+)
+
+
+def leaves(words, hierarchy, sequences, wanted):
+    """A row: the words leave this on the files `h` and `f`."""
+    write("h", hierarchy)
+    write("f", sequences)
+    status, out, err = wanted
+    rows.ends(f"{words} on {hierarchy!r} and {sequences[:40]!r}", run(*words, cwd=WORK),
+              (status, out.encode(), f"desq: {err}\n".encode() if err else b""))
+
+
+for engine in ("count", "dfs", "pivot"):
+    for support, expression, hierarchy, sequences, answer in ANSWERS:
+        leaves(["--engine", engine, "--support", support, "--hierarchy", "h", expression, "f"], hierarchy, sequences,
+               (0, answer, ""))
+    for support, expression, sequences, answer in WEIGHED:
+        leaves(["--engine", engine, "--weighted", "--support", support, expression, "f"], "", sequences, (0, answer, ""))
+
+# What is refused: expressions with their columns, files with their lines.
+UNEXPECTED = (("", 1), (" ", 2), ("()", 2), ("[]", 2), ("a|", 3), ("|a", 1), ("a||b", 3), ("(a", 3), ("(a]", 3), ("a)", 2),
+              ("*", 1), ("a*=", 3), (".^=", 3), ("!.", 2), ("!a^", 3), ("!!a", 2), ("!", 2), ("(" * 129, 130))
+BAD_TOKEN = (("'a", 1), ("'a''", 1), ("a,b", 2), (") ~", 3), ("{} ~", 4))
+BAD_REPEAT = (("a{,}", 2), ("a{1", 2), ("a{1,2", 2), ("a{}", 2), ("a{1,2,3}", 2), ("a{1 2}", 2), ("{", 1), ("a{3,2}", 2),
+              ("a{1025}{2,1}", 8), ("){2,1}", 2))
+UNKNOWN = (("(!zz)", 3), ("(zz)", 2), ("('')", 2), ("''", 1), ("(a)[b]", 5), ("a y 'z' y", 3), ("a" * 4096, 1))
+REPEAT_LIMIT = (("a{1025}", 2), ("a{1025,1}", 2), ("a{,99999999999999999999}", 2), (")a{1025}", 3))
+TOO_DEEP = (("[" * 129 + "a" + "]" * 129, 129), ("a" + "?" * 129, 130), ("a" + " +" * 129, 259))
+LEAVES = (("[a{32}]{33}", 1056), ("a{1024}b", 1025), ("[a{1024}]{977}", 1000000), ("[[[a{1024}]{1024}]{1024}]{1024}", 1000000),
+          ("a " * 1025, 1025), ("." * 4096, 4096))
+for expressions, status, told in ((UNEXPECTED, 3, "unexpected"), (BAD_TOKEN, 3, "bad token"), (BAD_REPEAT, 3, "bad repeat"),
+                                  (UNKNOWN, 3, "unknown name"), (REPEAT_LIMIT, 4, "repeat over 1024"),
+                                  (TOO_DEEP, 4, "nested over 128")):
+    for expression, column in expressions:
+        leaves(["--support", "1", expression, "f"], "", "a\n", (status, "", f"expression: column {column}: {told}"))
+for expression, count in LEAVES:
+    leaves(["--support", "1", expression, "f"], "", "a\n", (4, "", f"expression: {count} leaves, over 1024"))
+for expression in ("a" * 4097, "~" * 4097):
+    leaves(["--support", "1", expression, "f"], "", "a\n", (4, "", "expression: more than 4096 bytes"))
+for expression in ("[a{32}]{32}", "a{1024}", "[[a{1024}]{1024}]{0}", "a{1024,}", "[" * 128 + "a" + "]" * 128, "[a]" * 129,
+                   "a" + "?" * 128, "[a*]" + "*" * 128, "[" * 128 + "a" + "+]" * 128, "a " * 1024):
+    leaves(["--support", "1", expression, "f"], "", "a\n", (0, "", ""))
+HIERARCHIES = (("x y\ny z\nz x\n", "line 3: cycle"), ("x x\n", "line 1: cycle"), ("a b\na c\nc a", "line 3: cycle"),
+               ("b a\na c\na b\nc a", "line 3: cycle"), ("a b\nb a\nc c", "line 2: cycle"),
+               ("x x\n\x01", "line 2 column 1: bad byte"), ("a\x01b\n", "line 1 column 2: bad byte"))
+for hierarchy, told in HIERARCHIES:
+    leaves(["--support", "1", "--hierarchy", "h", "(.)", "f"], hierarchy, "a\x01\n", (3, "", f"hierarchy: {told}"))
+leaves(["--support", "1", "--hierarchy", "h", "(zz)", "f"], "a b\n", "\x7f\n", (3, "", "sequences: line 1 column 1: bad byte"))
+BAD_BYTES = (("a\x01b\n", 1, 2), ("a\r\r\n", 1, 2), ("a\rb", 1, 2), ("\ufeff\x01", 1, 1), ("a\nb \x7f\x01\n", 2, 3),
+             ("\r\n\0", 2, 1), ("\r\r", 1, 1), ("a\ufeff\x0b", 1, 5), ("a\n\ufeff\x7f", 2, 4))
+for sequences, line, column in BAD_BYTES:
+    leaves(["--support", "1", "(.)", "f"], "", sequences, (3, "", f"sequences: line {line} column {column}: bad byte"))
+BAD_WEIGHTS = (("0 a\n", 1, 1), (" 1000000001 a\n", 1, 2), ("1 a\n\n", 2, 1), ("1 a\na 1", 2, 1),
+               ("18446744073709551617 a", 1, 1), ("1\nb\n\x02", 2, 1), ("1 a\n0 a b\n", 2, 1))
+for sequences, line, column in BAD_WEIGHTS:
+    leaves(["--weighted", "--support", "1", "(a)", "f"], "", sequences,
+           (3, "", f"sequences: line {line} column {column}: bad weight"))
+leaves(["--weighted", "--support", "1", "(a)", "f"], "", "x a \x01\n", (3, "", "sequences: line 1 column 5: bad byte"))
+leaves(["--support", "1", "--hierarchy", "g", "(.)", "f"], "", "", (5, "", "hierarchy: read fault"))
+
+# Words that are a command, whose answer is `2 a`, and words that are none, with one blank between.
+for words in ("(a) f --support 2", "(a) --support 2 f", "--support 2 -- (a) f", "--support=2 (a) f",
+              "--support 000000000000000000000000000000000000000002 (a) f", "--support 2 --engine count (a) f",
+              "--engine=pivot (a) f --support 2", "--workers=064 --engine count --support 2 (a) f",
+              "--support 2 --workers 1 (a) f", "--simulate=007 (a) --support 2 f --engine=pivot",
+              "--support 2 --engine dfs --simulate 0 (a) f",
+              "--support 2 --engine pivot --simulate 18446744073709551615 (a) f",
+              "f --generalize --max-gap=1000 --support 2 --max-length=1",
+              "--max-length 1 --support 2 f --min-length 1 --max-gap 003"):
+    leaves(words.split(" "), "", "a\na\n", (0, "2\ta\n", ""))
+for words in ("--support 2 -- (a) -", "--support 2 (a) -"):
+    rows.ends(words, run(*words.split(" "), input=b"a\na\n"), (0, b"2\ta\n", b""))
+leaves(["--support", "2", "--", "-a", "f"], "", "-a\n-a\n", (0, "", ""))
+leaves(["--support", "1000000000000000000", "(a)", "f"], "", "a\n", (0, "", ""))
+leaves(["--support", "2", "", "f"], "", "a\n", (3, "", "expression: column 1: unexpected"))
+NUMBERS = ("--support 0", "--support 000", "--support 1000000000000000001", "--support 18446744073709551618",
+           "--support 99999999999999999999999999999999999999999999", "--support x", "--support 2x", "--support +2",
+           "--support=", "--support ", "--support -1", "--sup 2", "--support 2 --support 2")
+OPTIONS = ("--workers 0", "--workers 65", "--workers 18446744073709551617", "--workers +1", "--workers=", "--workers x",
+           "--workers", "--workers 2 --workers 2", "--engine Count", "--engine counts", "--engine pivots", "--engine=",
+           "--engine", "--engine count --engine count", "--stats --stats", "--stats=true", "--engine count --simulate 7",
+           "--engine count --simulate 0", "--simulate 18446744073709551616", "--simulate -1", "--simulate=", "--simulate x",
+           "--simulate 7 --simulate 7", "--simulate", "--other", "--hierarchy", "--hierarchy h --hierarchy h",
+           "--weighted --weighted", "--weighted=true", "--max-gap 1", "--min-length 1", "--max-length 5", "--generalize", "g")
+RULES = ("", "--max-gap 1001", "--max-gap -1", "--max-gap=", "--max-gap", "--max-gap 1 --max-gap 1", "--generalize",
+         "--max-gap 1 --min-length 0", "--max-gap 1 --min-length 1001 --max-length 1001", "--max-gap 1 --min-length 6",
+         "--max-gap 1 --min-length 3 --max-length 2", "--max-gap 1 --min-length", "--max-gap 1 --max-length 0",
+         "--max-gap 1 --min-length 1 --min-length 1", "--max-gap 1 --max-length 1001", "--max-gap 1 --max-length",
+         "--max-gap 1 --max-length 5 --max-length 5", "--max-gap 1 --generalize --generalize",
+         "--max-gap 1 --generalize=true")
+OTHERS = ("--help", "-h", "--version", "--support 2", "(a) f", "--support 2 (a)", "(a) f --support", "--support 2 -a f",
+          "--engine --support 1 (a) f", "--support 2 --max-gap 1")
+for words in (*(f"{number} (a) f" for number in NUMBERS), *(f"--support 2 (a) f {option}" for option in OPTIONS),
+              *(f"--support 2 f {rule}".rstrip() for rule in RULES), *OTHERS):
+    rows.ends(f"no command: {words}", run(*words.split(" "), cwd=WORK), (2, b"", USAGE))
 rows.finish()

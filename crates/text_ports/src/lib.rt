@@ -29,6 +29,3 @@ pub use sure_files::SureFiles;
 pub use sure_sink::SureSink;
 pub use visiting::{TextFault, read_lines};
 pub use writing::write_all;
-
-#[cfg(test)]
-mod tests;

@@ -59,28 +59,3 @@ impl Sink for MemSink {
         Ok(count)
     }
 }
-
-#[cfg(test)]
-mod tests {
-    use super::MemSink;
-    use crate::files::Failed;
-    use crate::sink::Sink;
-    use std::test::Fail;
-
-    #[test]
-    fn is_cut_fails_and_is_full(rt: HostRuntime) -> Result<(), Fail> {
-        let mut sink = MemSink::new(rt.alloc(), 5, 3, vec![in rt.alloc(); 2]?)?;
-        let calls = [
-            ("abcd", Ok(3), "abc"),
-            ("defg", Err(Failed), "abc"),
-            ("defg", Ok(2), "abcde"),
-            ("", Ok(0), "abcde"),
-            ("fg", Err(Failed), "abcde"),
-        ];
-        for (piece, outcome, held) in calls {
-            assert_eq!(rt; sink.write(piece.as_bytes()), outcome);
-            assert_eq!(rt; sink.bytes(), held.as_bytes());
-        }
-        Ok(())
-    }
-}

@@ -1,0 +1,102 @@
+//! Lines, their fields, and the first bad byte of a text.
+
+ghost use Rattle.std.specs.Prelude.{◌<◌};
+
+use super::one_file::one_file;
+use std::alloc::{AllocError, Global};
+use std::test::Fail;
+use text_ports::TextFault::BadByte;
+use text_ports::{LineVisitor, Span, TextFault, read_lines};
+
+/// Shows the lines that it is given: each field with a bar behind it, and a slash behind each line.
+#[derive(Drop)]
+struct Shown {
+    text: Vec<u8>,
+}
+
+impl LineVisitor for Shown {
+    type Fault = AllocError;
+
+    ghost took = { λ _ _ _ _. Unit {0} };
+
+    ghost refused = { λ _ _ _ _ _. Unit {0} };
+
+    fn line(&mut self, _number: u64, text: &[u8], fields: &[Span]) -> Result<(), AllocError> {
+        for span in fields {
+            self.text.extend_from_slice(&text[span.from..span.to])?;
+            self.text.push(b'|')?;
+        }
+        self.text.push(b'/')?;
+        Ok(())
+    }
+}
+
+type Outcome = Result<u64, TextFault<AllocError>>;
+
+/// The outcome for a file of these bytes, and what is shown of its lines.
+fn shown_of(
+    alloc: Global,
+    bytes: &[u8],
+    cut: usize,
+    fails: &[u64],
+) -> Result<(Outcome, Vec<u8>), AllocError>
+    requires { 0 < cut }
+{
+    let mut files = one_file(alloc, Vec::from_slice(alloc, bytes)?, cut, fails)?;
+    let mut visitor = Shown {
+        text: Vec::new(alloc),
+    };
+    let outcome = read_lines(alloc, &mut files, "f", &mut visitor);
+    Ok((outcome, visitor.text))
+}
+
+/// Bytes, their number of lines or their first bad byte, and what is shown of the lines before.
+const LINES: &[(&[u8], Outcome, &str)] = &[
+    (b"", Ok(0), ""),
+    (b"\xEF\xBB\xBF", Ok(0), ""),
+    (b"\xEF\xBB\xBFa", Ok(1), "a|/"),
+    (b"a\xEF\xBB\xBFb", Ok(1), "a\u{FEFF}b|/"),
+    (b"a\n\r\nb", Ok(3), "a|//b|/"),
+    (b"a b\r\nc\r", Ok(2), "a|b|/c|/"),
+    (b"\t a  b\t", Ok(1), "a|b|/"),
+    (b"\n\n", Ok(2), "//"),
+    (b"\r", Ok(1), "/"),
+    (b"x\n\xEF\xBB\xBF", Ok(2), "x|/\u{FEFF}|/"),
+    (b"a\r\r\n", Err(BadByte { line: 1, column: 2 }), ""),
+    (b"a\rb", Err(BadByte { line: 1, column: 2 }), ""),
+    (b"\xEF\xBB\xBF\x01", Err(BadByte { line: 1, column: 1 }), ""),
+    (
+        b"a\nb \x7F\x01\n",
+        Err(BadByte { line: 2, column: 3 }),
+        "a|/",
+    ),
+    (b"\r\n\x00", Err(BadByte { line: 2, column: 1 }), "/"),
+    (b"\r\r", Err(BadByte { line: 1, column: 1 }), ""),
+    (
+        b"a\xEF\xBB\xBF\x0B",
+        Err(BadByte { line: 1, column: 5 }),
+        "",
+    ),
+];
+
+#[test]
+fn lines_and_fields_or_the_first_bad_byte(rt: HostRuntime) -> Result<(), Fail> {
+    for (bytes, outcome, text) in LINES {
+        for cut in 1..8 {
+            let (found, told) = shown_of(rt.alloc(), bytes, cut, &[])?;
+            assert_eq!(rt; found, *outcome, "{bytes:?}");
+            assert_eq!(rt; told.as_slice(), text.as_bytes(), "{bytes:?}");
+        }
+    }
+    Ok(())
+}
+
+// A call opens the file, two read it, and one finds its end.
+#[test]
+fn a_file_is_read_by_as_few_calls_as_its_size_asks(rt: HostRuntime) -> Result<(), Fail> {
+    for fail in 1..6u64 {
+        let (outcome, _) = shown_of(rt.alloc(), &[b' '; 4097], 65_536, &[fail])?;
+        assert_eq!(rt; outcome.is_ok(), fail == 5, "{fail}");
+    }
+    Ok(())
+}

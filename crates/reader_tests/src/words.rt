@@ -1,0 +1,61 @@
+//! Words, and the command that they say.
+
+use command_line::read_words;
+use std::alloc::Global;
+use std::test::Fail;
+
+/// The command that the words say, which stand with one blank between them, as it is printed.
+fn said(alloc: Global, text: &str) -> Result<String, Fail> {
+    let mut words = Vec::new(alloc);
+    for word in text.split(' ') {
+        words.push(String::from_str(alloc, word)?)?;
+    }
+    let command = read_words(alloc, words.as_slice())?;
+    Ok(format!(in alloc; "{command:?}")?)
+}
+
+/// Words, and what they say.
+const COMMANDS: &[(&str, &str)] = &[
+    (
+        "--support 1000000000000000000 -- -a -",
+        "Some(Command { support: 1000000000000000000, source: Read { expression: \"-a\", file: \"-\" }, \
+         hierarchy: None, weighted: false, engine: Dfs, workers: 4, seed: None, stats: false })",
+    ),
+    (
+        "f --support=002  --weighted --hierarchy h --stats --workers=064 --engine count",
+        "Some(Command { support: 2, source: Read { expression: \"f\", file: \"\" }, \
+         hierarchy: Some(\"h\"), weighted: true, engine: Count, workers: 64, seed: None, stats: true })",
+    ),
+    (
+        "--support 2 --engine=pivot --simulate 18446744073709551615 (a) --workers 1 f",
+        "Some(Command { support: 2, source: Read { expression: \"(a)\", file: \"f\" }, \
+         hierarchy: None, weighted: false, engine: Pivot, workers: 1, \
+         seed: Some(18446744073709551615), stats: false })",
+    ),
+    (
+        "--support 2 --max-gap 0 f",
+        "Some(Command { support: 2, source: Embed { rule: GapRule { max_gap: 0, min_length: 1, \
+         max_length: 5, generalize: false }, file: \"f\" }, \
+         hierarchy: None, weighted: false, engine: Dfs, workers: 4, seed: None, stats: false })",
+    ),
+    (
+        "--min-length=003 --generalize --max-length=1000 --max-gap 1000 --support=2 --engine dfs -- f",
+        "Some(Command { support: 2, source: Embed { rule: GapRule { max_gap: 1000, min_length: 3, \
+         max_length: 1000, generalize: true }, file: \"f\" }, \
+         hierarchy: None, weighted: false, engine: Dfs, workers: 4, seed: None, stats: false })",
+    ),
+    ("--support 2 (a)", "None"),
+    ("--support 0 (a) f", "None"),
+    ("--support 2 --workers 65 (a) f", "None"),
+    ("--support 2 --engine count --simulate 7 (a) f", "None"),
+    ("--support 2 --max-gap 1 --min-length 6 f", "None"),
+];
+
+#[test]
+fn words_say_a_command_or_none(rt: HostRuntime) -> Result<(), Fail> {
+    for (text, wanted) in COMMANDS {
+        let found = said(rt.alloc(), text)?;
+        assert_eq!(rt; found.as_str(), *wanted, "{text}");
+    }
+    Ok(())
+}

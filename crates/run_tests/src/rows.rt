@@ -1,0 +1,80 @@
+//! Answers, with and without a hierarchy, weights, an expression.
+
+use super::runs::{ANSWER, Case, HIERARCHY, SEQUENCES, first_wrong};
+use std::test::Fail;
+
+const ANSWERS: &[Case] = &[
+    (
+        "--support 2 --hierarchy h .*(A)[(.^)|.]*(b).* f",
+        HIERARCHY,
+        SEQUENCES,
+        0,
+        ANSWER,
+        "",
+    ),
+    (
+        "--support 2 --hierarchy h .*(A)!A*(b).* f",
+        HIERARCHY,
+        SEQUENCES,
+        0,
+        "3\ta1 b\n",
+        "",
+    ),
+    (
+        "--support 2 --hierarchy h (P^) f",
+        "x P Q\nP R\nQ R\n",
+        "x\nx\n",
+        0,
+        "2\tP\n2\tx\n",
+        "",
+    ),
+    (
+        "--support 1 (a){0}(b) f",
+        "",
+        "\u{feff}b\r\na",
+        0,
+        "1\tb\n",
+        "",
+    ),
+    (
+        "--weighted (a) --support=000000000000000000000000000000000000000002 f",
+        "",
+        "7\n002 a\n",
+        0,
+        "2\ta\n",
+        "",
+    ),
+    (
+        "--support 1 --max-gap 1 --min-length 2 --max-length 2 f",
+        "",
+        "a b c\na x x b\n",
+        0,
+        "1\ta b\n1\ta c\n1\ta x\n1\tb c\n1\tx b\n1\tx x\n",
+        "",
+    ),
+    (
+        "--support 2 --generalize --max-gap 0 --max-length 1 --hierarchy h f",
+        "x P Q\nP R\n",
+        "x\nx\n",
+        0,
+        "2\tP\n2\tQ\n2\tR\n2\tx\n",
+        "",
+    ),
+    (
+        "--support 1 --max-gap=509 --min-length=3 --max-length=3 --weighted f",
+        "",
+        "7 a b c\n",
+        0,
+        "7\ta b c\n",
+        "",
+    ),
+];
+
+#[test]
+fn each_engine_gives_the_answer(rt: HostRuntime) -> Result<(), Fail> {
+    for engine in ["--engine=count", "--engine=dfs", "--engine=pivot"] {
+        let wrong = first_wrong(&rt, rt.alloc(), engine, ANSWERS)?;
+        assert_eq!(rt; wrong, None, "{engine}");
+    }
+    Ok(())
+}
