@@ -18,7 +18,7 @@ fn reads(source: &Source, expression: &str, file: &str) -> bool {
             expression: found,
             file: name,
         } => found.as_str() == expression && name.as_str() == file,
-        Source::Embed { .. } => false,
+        Source::Embed { .. } | Source::Make { .. } => false,
     }
 }
 
@@ -281,7 +281,7 @@ fn a_rule_is_read(rt: HostRuntime) -> Result<(), Fail> {
                     assert_eq!(rt; rule.generalize, *generalize);
                     assert_eq!(rt; file.as_str(), "f");
                 }
-                Source::Read { .. } => assert!(rt; false),
+                Source::Read { .. } | Source::Make { .. } => assert!(rt; false),
             },
             None => assert!(rt; false),
         }
