@@ -1,9 +1,11 @@
 //! Laws over the definitions. Each is the contract of a function that does nothing.
 
-ghost use Rattle.std.specs.Prelude.{◌≡◌, ℕ, List};
+ghost use Rattle.std.specs.Prelude.{◌≡◌, ◌↔◌, ℕ, List};
 ghost use Rattle.mine_model.specs.declared.fault.Fault.{Fault};
 ghost use Rattle.mine_model.specs.declared.mined.Work.{Work};
 ghost use Rattle.mine_model.specs.Answer.{Data};
+ghost use Rattle.made_input.specs.Summary.{IsSummary};
+ghost use Rattle.command_line.specs.Words.{make};
 ghost use Rattle.desq_run.specs.PartitionWork.{IsPartitionWork, IsBytewiseBefore};
 ghost use Rattle.desq_run.specs.Ends.{Input, IsFirstRefusal, IsAnswerText};
 
@@ -17,6 +19,13 @@ pub fn at_most_one_first_refusal()
 pub fn at_most_one_text()
     ensures { (input : Input) (first second : List ℕ)
         → IsAnswerText input first → IsAnswerText input second → first ≡ second }
+{}
+
+/// On made input the text of the answer is the summary of the answer to the expression.
+pub fn made_output_is_the_summary()
+    ensures { (input : Input) (count : ℕ) (expression text : List ℕ)
+        → input.command.source ≡ make count expression
+        → IsAnswerText input text ↔ IsSummary count expression input.command.threshold text }
 {}
 
 /// At most one work is that of a search by pivots on the data of a run.
