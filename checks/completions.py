@@ -113,6 +113,8 @@ def main():
     if "--max-gap" in valued:
         table += [("desq --max-gap 1 ", files), ("desq --max-gap=1 al", {"alpha.seq"}),
                   ("desq --max-gap 1 alpha.seq be", set())]
+    if "--generated" in valued:
+        table += [("desq --generated 1 ", set()), ("desq --generated 1 x be", set())]
     # An option is offered by its beginning, and no second time.
     for option in options:
         table.append((f"desq {option}", {other for other in options if other.startswith(option)}))

@@ -106,7 +106,7 @@ def check_options():
              options.get(name) in ("Value", "NeededValue"))
         hold(f"{name} in the synopsis", bool(re.search(rf"^\.(Op )?Fl -{name}( |$)", synopsis, re.M)), True)
         hold(f"{name} is needed", bool(re.search(rf"^\.Fl -{name}( |$)", synopsis, re.M)),
-             options.get(name) == "NeededValue" or name == "max-gap")
+             options.get(name) == "NeededValue" or name in ("max-gap", "generated"))
     engines = re.findall(r'^engine_name \w+ = codes "(\w+)"', WORDS, re.M)
     told = re.match(r"Fl -engine Cm (.*)", OPTIONS["engine"][0]).group(1).split(" | ")
     hold("the engines", sorted(told), sorted(engines))
@@ -126,6 +126,7 @@ USES = {
                                  "1000", LINES],
     "max-length": lambda value: ["--support", "1", "--max-gap", "0", "--max-length", value, LINES],
     "generalize": lambda: ["--support", "1", "--max-gap", "0", "--generalize", LINES],
+    "generated": lambda value: ["--support", "1000000", "--generated", value, ".*(top^=).*"],
 }
 
 
@@ -176,6 +177,9 @@ def check_uses():
         hold("least above most", runs([*gap, "--min-length", "3", "--max-length", "2", LINES])[0], 2)
         hold("least above the default of most", runs([*gap, "--min-length", "6", LINES])[0], 2)
         hold("an expression beside max-gap", runs([*gap, "(a).*", LINES])[0], 2)
+    if "generated" in OPTIONS:
+        for given in (["--hierarchy", ABOVE], ["--weighted"], ["--max-gap", "0"], [LINES]):
+            hold(f"{given[0]} beside generated", runs(["--support", "1", "--generated", "1", "(.)", *given])[0], 2)
 
 
 def told(name, what, pattern):
@@ -190,6 +194,8 @@ def check_defaults():
          ("1", str(LIMITS["most_support"])))
     hold("workers", told("workers", "the range of workers", r"(\d+) to (\d+)"),
          ("1", str(LIMITS["most_workers"])))
+    hold("made sequences", told("generated", "the range of made sequences", r"(\d+) to (\d+)"),
+         ("1", str(constants("crates/made_input/specs/Made.antt")["most_made"])))
     hold("seeds", told("simulate", "the range of seeds", r"(\d+) to (\d+)"),
          ("0", str(constants("crates/command_line/specs/Words.antt")["most_seed"])))
     default = re.search(r'codes "workers"\) found\) \(codes "(\d+)"\)', WORDS).group(1)

@@ -10,7 +10,7 @@ sys.dont_write_bytecode = True
 from rows import Rows
 
 COLUMNS = 110
-OWN_CRATES = ("mine_model", "gap_front", "command_line", "desq_run", "text_ports")
+OWN_CRATES = ("mine_model", "gap_front", "made_input", "command_line", "desq_run", "text_ports")
 
 
 def text_of(path):

@@ -9,7 +9,7 @@ _desq_files() {
 # Answers by COMPREPLY.
 _desq() {
     local with_value=" --support --hierarchy --engine --workers --simulate "
-    with_value+="--max-gap --min-length --max-length "
+    with_value+="--max-gap --min-length --max-length --generated "
     local alone=" --weighted --stats --generalize "
     local given=" " value_of="" named=0 bare=0 word i
     # What stands before the cursor: the options that were given, the one whose value comes now, and how many
@@ -46,9 +46,11 @@ _desq() {
                 done
                 mapfile -t COMPREPLY < <(compgen -W "${left[*]}" -- "$word")
             else
-                # The sequence file stands behind the expression, or with --max-gap alone.
+                # The sequence file stands behind the expression, or with --max-gap alone; with --generated
+                # there is none.
                 local file_at=1
                 [[ $given != *" --max-gap "* ]] || file_at=0
+                [[ $given != *" --generated "* ]] || file_at=none
                 [[ $bare != "$file_at" ]] || _desq_files "$word"
             fi
             ;;

@@ -34,7 +34,7 @@ function __desq_before
             test $bare = 0; and echo file
         else
             test $bare = 0; and echo expression
-            test $bare = 1; and echo file
+            test $bare = 1; and not contains -- --generated $given; and echo file
         end
     end
 end
@@ -60,3 +60,5 @@ complete -c desq -n 'not __desq_has --max-gap' -l max-gap -x \
 complete -c desq -n 'not __desq_has --min-length' -l min-length -x -d 'least items of a pattern'
 complete -c desq -n 'not __desq_has --max-length' -l max-length -x -d 'most items of a pattern'
 complete -c desq -n 'not __desq_has --generalize' -l generalize -d 'items may be what stands above them'
+complete -c desq -n 'not __desq_has --generated' -l generated -x \
+    -d 'mine so many made sequences, with no file'

@@ -118,7 +118,7 @@ module _ (digits : Text) (p : IsPlainWord digits) where
 
     end_source : GivesSource found (read expression file)
     unfolding clap_on_literals options desq
-    end_source = (refl, refl, no_rule)
+    end_source = (refl, refl, refl, no_rule)
 
     end_rules : KeepsRules found
     unfolding clap_on_literals options desq

@@ -2,12 +2,13 @@
 use Rattle.std.specs.Prelude.{option_map, string_bytes}
 use Rattle.command_line.specs.declared.words.Command.{Command as ReadCommand}
 use Rattle.command_line.specs.declared.words.Source.{Source as ReadSource}
-use Rattle.command_line.specs.declared.words.Source.TheVariants.{Read, Embed}
-use Rattle.command_line.specs.Words.{Command, Source, read, embed}
+use Rattle.command_line.specs.declared.words.Source.TheVariants.{Read, Embed, Make}
+use Rattle.command_line.specs.Words.{Command, Source, read, embed, make}
 
 abbrev pub source_said : ReadSource → Source
 source_said (Read expression file) = read (string_bytes expression) (string_bytes file)
 source_said (Embed rule file) = embed rule (string_bytes file)
+source_said (Make count expression) = make count (string_bytes expression)
 
 abbrev pub command_said : ReadCommand → Command
 command_said said = record {

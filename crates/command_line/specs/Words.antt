@@ -5,15 +5,17 @@ use Rattle.mine_model.specs.Grammar.{IsDecimal}
 use Rattle.clap.specs.Words.{Row, Text, first_of}
 use Rattle.gap_front.specs.declared.rule.GapRule.{GapRule}
 use Rattle.gap_front.specs.Embedding.{most_gap, most_rule_length}
+use Rattle.made_input.specs.Made.{most_made}
 use Rattle.command_line.specs.Options.{faults, rows}
 use Rattle.command_line.specs.declared.words.Engine.{Engine}
 use Rattle.command_line.specs.declared.words.Engine.TheVariants.{Count, Dfs, Pivot}
 
 -- what a run mines: the patterns of an expression in the sequences of a file, or those that are embedded in
--- them under a rule on gaps and lengths
+-- them under a rule on gaps and lengths, or the patterns of an expression in so many made sequences
 pub data Source : Type 0 where
   read : (expression file : Text) → Source
   embed : (rule : GapRule) → (file : Text) → Source
+  make : (count : ℕ) → (expression : Text) → Source
 
 -- what the words of a command say
 pub record Command : Type 0 where
@@ -102,13 +104,25 @@ pub record GivesRule (found : List Row) (rule : GapRule) : Type 0 where
   pub order : rule.min_length ≤ rule.max_length
   pub generalize : IsTrue rule.generalize ↔ IsGiven found (codes "generalize")
 
--- Exactly one of FILE and a greatest gap is there. With a gap the one word by its place, which is else the
--- expression, is the name of the file.
+-- so many sequences are to be made, and no file is named and no weight is read
+pub record GivesMade (found : List Row) (count : ℕ) : Type 0 where
+  pub digits : Text
+  pub given : first_of (codes "generated") found ≡ Some digits
+  pub number : IsNumber 1 most_made digits count
+  pub file : IsAway found (codes "file")
+  pub hierarchy : IsAway found (codes "hierarchy")
+  pub weighted : IsGiven found (codes "weighted") → ⊥
+  pub rule : HasNoRule found
+
+-- Exactly one of FILE, a greatest gap and a number of made sequences is there. With a gap the one word by its
+-- place, which is else the expression, is the name of the file.
 abbrev pub GivesSource : List Row → Source → Type 0
 GivesSource found (read expression file) = (first_of (codes "expression") found ≡ Some expression)
-    × (first_of (codes "file") found ≡ Some file) × HasNoRule found
+    × (first_of (codes "file") found ≡ Some file) × IsAway found (codes "generated") × HasNoRule found
 GivesSource found (embed rule file) = (first_of (codes "expression") found ≡ Some file)
-    × IsAway found (codes "file") × GivesRule found rule
+    × IsAway found (codes "file") × IsAway found (codes "generated") × GivesRule found rule
+GivesSource found (make count expression) = (first_of (codes "expression") found ≡ Some expression)
+    × GivesMade found count
 
 -- the rules beyond clap's, a line each: each number is in its range, the engine is one that there is, without
 -- a seed where it counts, there is one source
@@ -138,14 +152,15 @@ pub record IsCommand (words : List Text) (command : Command) : Type 0 where
 abbrev pub IsUsage : List Text → Type 0
 IsUsage words = (faults words ≢ []) ⊎ (KeepsRules (rows words) → ⊥)
 
--- the file of sequences
-abbrev pub file_of : Source → Text
-file_of (read expression file) = file
-file_of (embed rule file) = file
+-- the file of sequences; made ones have none
+abbrev pub file_of : Source → Option Text
+file_of (read expression file) = Some file
+file_of (embed rule file) = Some file
+file_of (make count expression) = None
 
 -- the command names this file
 abbrev pub NamesFile : Command → Text → Type 0
-NamesFile command name = (file_of command.source ≡ name) ⊎ (command.hierarchy ≡ Some name)
+NamesFile command name = (file_of command.source ≡ Some name) ⊎ (command.hierarchy ≡ Some name)
 
 -- the words name this file
 abbrev pub IsNamed : List Text → Text → Type 0

@@ -1,11 +1,12 @@
 //! Laws over the definitions. Each is the contract of a function that does nothing.
 
-ghost use Rattle.std.specs.Prelude.{◌≡◌, ◌≤◌, ℕ, List, [], ◌∷◌, codes};
+ghost use Rattle.std.specs.Prelude.{◌≡◌, ◌≤◌, ℕ, false, None, List, [], ◌∷◌, codes};
 ghost use Rattle.clap.specs.Words.{Text};
 ghost use Rattle.mine_model.specs.Limits.{most_support};
 ghost use Rattle.gap_front.specs.declared.rule.GapRule.{GapRule};
 ghost use Rattle.gap_front.specs.Embedding.{IsRule};
-ghost use Rattle.command_line.specs.Words.{Command, IsCommand, IsNumber, IsUsage, embed};
+ghost use Rattle.made_input.specs.Made.{most_made};
+ghost use Rattle.command_line.specs.Words.{Command, IsCommand, IsNumber, IsUsage, embed, make};
 ghost use Rattle.command_line.specs.PlainWords.{IsPlainWord, plain_command};
 
 /// Words say at most one command.
@@ -25,6 +26,14 @@ pub fn a_rule_is_in_its_ranges()
     ensures { (words : List Text) (command : Command) (rule : GapRule) (file : Text)
         → IsCommand words command → command.source ≡ embed rule file
         → IsRule rule × (rule.min_length ≤ rule.max_length) }
+{}
+
+/// The number of sequences to be made that words say is in its range, and such words name no file and ask for
+/// no weights.
+pub fn made_input_names_no_file()
+    ensures { (words : List Text) (command : Command) (count : ℕ) (expression : Text)
+        → IsCommand words command → command.source ≡ make count expression
+        → (1 ≤ count) × (count ≤ most_made) × (command.hierarchy ≡ None) × (command.weighted ≡ false) }
 {}
 
 /// What `--support DIGITS EXPRESSION FILE` says, where neither word begins with a dash.

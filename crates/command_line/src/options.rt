@@ -27,7 +27,7 @@ pub enum Argument {
 }
 
 /// The arguments of the command, in order.
-static ARGUMENTS: [Argument; 13] = [
+static ARGUMENTS: [Argument; 14] = [
     Argument::NeededValue("support"),
     Argument::Value("hierarchy"),
     Argument::Flag("weighted"),
@@ -39,6 +39,7 @@ static ARGUMENTS: [Argument; 13] = [
     Argument::Value("min-length"),
     Argument::Value("max-length"),
     Argument::Flag("generalize"),
+    Argument::Value("generated"),
     Argument::NeededWord("expression"),
     Argument::Word("file"),
 ];

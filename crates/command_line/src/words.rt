@@ -2,7 +2,7 @@
 
 ghost use Rattle.std.specs.Prelude.{◌≡◌, ◌↔◌, ℕ, List, Option, Some, IsTrue, IfOk, MatchOption, map, option_map, unwrap_or, string_bytes, codes};
 ghost use Rattle.clap.specs.Words.{first_of, found_of, rows_of};
-ghost use Rattle.command_line.specs.Words.{GivesSupport, GivesEngine, GivesWorkers, GivesSeed, GivesLength, GivesMode, GivesRule, GivesSource, HasNoRule, Source as SourceSaid, Suits, IsGiven, KeepsRules, Says, IsCommand, IsUsage};
+ghost use Rattle.command_line.specs.Words.{GivesSupport, GivesEngine, GivesWorkers, GivesSeed, GivesLength, GivesMode, GivesRule, GivesMade, GivesSource, HasNoRule, IsAway, Source as SourceSaid, Suits, IsGiven, KeepsRules, Says, IsCommand, IsUsage};
 ghost use Rattle.command_line.specs.Arguments.{HasNeeded};
 ghost use Rattle.command_line.specs.Commands.{command_said, source_said};
 ghost use Rattle.command_line.specs.declared.words.Engine.{Engine};
@@ -28,6 +28,9 @@ const MOST_GAP: u64 = 1_000;
 
 /// The greatest length of a pattern that may be asked for.
 const MOST_RULE_LENGTH: u64 = 1_000;
+
+/// The most sequences that may be asked to be made.
+const MOST_MADE: u64 = 1_000_000;
 
 /// How a run searches.
 #[derive(Clone, Copy, Debug, PartialEq, Eq)]
@@ -56,6 +59,13 @@ pub enum Source {
         rule: GapRule,
         /// The name of the file of sequences, `-` for standard input.
         file: String,
+    },
+    /// The patterns of an expression, in sequences that are made. No file is read.
+    Make {
+        /// How many sequences, 1 to 1,000,000.
+        count: u32,
+        /// The pattern expression, as it was given. It may be empty.
+        expression: String,
     },
 }
 
@@ -243,14 +253,34 @@ fn given_rule(matches: &ArgMatches<'_>) -> Option<GapRule>
     }
 }
 
-/// What is mined. None where the values say no source.
-fn given_source(alloc: Global, matches: &ArgMatches<'_>) -> Result<Option<Source>, NoMemory>
-    requires { HasNeeded (rows_of (found_of matches.now)) }
+/// How many sequences are to be made. None where no number was given or the value is none, or a word was
+/// given that does not stand beside it.
+fn given_made(matches: &ArgMatches<'_>) -> Option<u32>
+    ensures { MatchOption result
+        ((count : ℕ) → GivesMade (rows_of (found_of matches.now)) count → ⊥)
+        (λ count. GivesMade (rows_of (found_of matches.now)) count) }
+{
+    let count = read_number(given(matches, "generated")?.as_bytes(), 1, MOST_MADE)?;
+    let is_alone = given(matches, "file").is_none()
+        && given(matches, "hierarchy").is_none()
+        && !is_given(matches, "weighted")
+        && has_no_rule(matches);
+    if is_alone { Some(count as u32) } else { None }
+}
+
+/// What is mined, where no sequences are to be made. None where the values say no source.
+fn given_files(
+    alloc: Global,
+    matches: &ArgMatches<'_>,
+    word: String,
+) -> Result<Option<Source>, NoMemory>
+    requires word { first_of (codes "expression") (rows_of (found_of matches.now))
+        ≡ Some (string_bytes word) }
+    requires away { IsAway (rows_of (found_of matches.now)) (codes "generated") }
     ensures { IfOk result (λ given. MatchOption given
         ((source : SourceSaid) → GivesSource (rows_of (found_of matches.now)) source → ⊥)
         (λ source. GivesSource (rows_of (found_of matches.now)) (source_said source))) }
 {
-    let word = given_text(alloc, matches, "expression")?.unwrap();
     match given_text(alloc, matches, "file")? {
         Some(file) => {
             if has_no_rule(matches) {
@@ -266,6 +296,26 @@ fn given_source(alloc: Global, matches: &ArgMatches<'_>) -> Result<Option<Source
             Some(rule) => Ok(Some(Source::Embed { rule, file: word })),
             None => Ok(None),
         },
+    }
+}
+
+/// What is mined. None where the values say no source.
+fn given_source(alloc: Global, matches: &ArgMatches<'_>) -> Result<Option<Source>, NoMemory>
+    requires { HasNeeded (rows_of (found_of matches.now)) }
+    ensures { IfOk result (λ given. MatchOption given
+        ((source : SourceSaid) → GivesSource (rows_of (found_of matches.now)) source → ⊥)
+        (λ source. GivesSource (rows_of (found_of matches.now)) (source_said source))) }
+{
+    let word = given_text(alloc, matches, "expression")?.unwrap();
+    if given(matches, "generated").is_none() {
+        return given_files(alloc, matches, word);
+    }
+    match given_made(matches) {
+        Some(count) => Ok(Some(Source::Make {
+            count,
+            expression: word,
+        })),
+        None => Ok(None),
     }
 }
 

@@ -5,24 +5,25 @@ use Rattle.mine_model.specs.declared.fault.Fault.{Fault}
 use Rattle.mine_model.specs.declared.fault.Fault.TheVariants.{Usage, BadToken, BadRepeat, Unexpected, Unknown, BadByte, BadWeight, Cycle, ExprTooLong, RepeatLimit, TooDeep, TooManyLeaves, TooLarge, NameTooLong, TooManyItems, TooManyAncestors, TooManySequences, SequenceTooLong, Read, Write, NoMemory}
 use Rattle.mine_model.specs.declared.fault.Which.{Which}
 use Rattle.mine_model.specs.Expression.{Tree, named_in}
-use Rattle.mine_model.specs.Grammar.{Use}
+use Rattle.mine_model.specs.Grammar.{Use, ReadsAs}
 use Rattle.mine_model.specs.Support.{Sequence}
 use Rattle.mine_model.specs.Ancestry.{Ancestry}
 use Rattle.mine_model.specs.First.{FirstAmong}
-use Rattle.mine_model.specs.Refusal.{IsExpressionRefusal, IsHierarchyRefusal, IsSequencesRefusal, IsUnknown}
+use Rattle.mine_model.specs.Refusal.{IsExpressionRefusal, IsUnknown}
 use Rattle.mine_model.specs.declared.mined.Work.{Work}
 use Rattle.mine_model.specs.Status.{fault_status, status_of}
 use Rattle.mine_model.proofs.ListLemmas.{Contains-first, Contains-other}
 use Rattle.mine_model.proofs.FirstLemmas.{AtMostOne, FirstOf-unique, FirstAmong-unique}
 use Rattle.patex_grammar.proofs.RefusalLemmas.{ReadsAs-unique, IsExpressionRefusal-unique}
-use Rattle.command_line.specs.Words.{Source, read, embed, Command, IsCommand, IsUsage, file_of}
+use Rattle.command_line.specs.Words.{Source, read, embed, make, Command, IsCommand, IsUsage, file_of}
 use Rattle.command_line.proofs.CommandLemmas.{IsCommand-unique, IsUsage-excludes}
 use Rattle.desq_run.specs.Sources.{IsSourceRefusal, IsUnknownIn}
+use Rattle.desq_run.specs.Said.{RefusesHierarchy, RefusesSequences}
 use Rattle.desq_run.specs.Ends.{Input, IsInput, bytes_named, hierarchy_names, known_names, IsFirstRefusal, IsAccepted, HasSource, IsOfKind, IsOfFiles, Ends, done, no_command, refused_source, refused_file, read_fault, write_fault, no_memory}
-use Rattle.desq_run.specs.Inputs.{IsHierarchyOf, IsDatabaseOf, IsRead}
+use Rattle.desq_run.specs.Inputs.{IsHierarchySaid, IsDatabaseSaid, IsRead}
 use Rattle.desq_run.proofs.LinkLemmas.{Contains-both, Contains-front, Contains-back}
 use Rattle.desq_run.proofs.SameRefusals.{HoldSame, sequences-alike, unknown-alike}
-use Rattle.desq_run.proofs.UniqueRefusals.{hierarchy-unique, sequences-unique}
+use Rattle.desq_run.proofs.UniqueRefusals.{hierarchy-once, sequences-once}
 
 pub IfSome-at : {T : Type 0} (P : T → Type 0) (o : Option T) (t : T) → IfSome o P → o ≡ Some t → P t
 IfSome-at P o t p same = let q : IfSome (Some t) P = subst (λ o. IfSome o P) same p in q
@@ -41,10 +42,12 @@ expression-status text fault (inr (a, inr (b, inr (c, inr (d, inr (e, inr (g, p)
 pub source-status : (source : Source) (fault : Fault) → IsSourceRefusal source fault → (fault_status fault ≡ 3) ⊎ (fault_status fault ≡ 4)
 source-status (read expression file) fault refused = expression-status expression fault refused
 source-status (embed rule file) fault (many, same) = inr (ap fault_status same)
+source-status (make count expression) fault refused = expression-status expression fault refused
 
 source-unique : (source : Source) → AtMostOne (IsSourceRefusal source)
 source-unique (read expression file) = IsExpressionRefusal-unique expression
 source-unique (embed rule file) = λ f g p q. p.1 ∙ sym q.1
+source-unique (make count expression) = IsExpressionRefusal-unique expression
 
 -- an unknown name is that of a use
 pub unknown-use : (known : List (List ℕ)) (before uses : List Use) (fault : Fault)
@@ -83,19 +86,24 @@ pub files-status : (c : Command) (fault : Fault) → IsOfFiles c fault → (faul
 files-status c fault (inl (kind, named, of_kind)) = kind-status kind fault of_kind
 files-status c fault (inr (u, has, same)) = inl (ap fault_status same)
 
-unknown-unique : (known : List (List ℕ)) (source : Source) → AtMostOne (IsUnknownIn known source)
-unknown-unique known (embed rule file) = λ f g p q. absurd p
-unknown-unique known (read expression file) = λ f g p q.
+unknown-name-unique : (known : List (List ℕ)) (expression : List ℕ)
+    → AtMostOne (λ fault. (tree : Tree Use) × ReadsAs expression tree × IsUnknown known (named_in tree) fault)
+unknown-name-unique known expression = λ f g p q.
     let same : p.0 ≡ q.0 = ReadsAs-unique expression p.0 q.0 p.1 q.1 in
     FirstAmong-unique _ (λ before u j k r s. r.1 ∙ sym s.1) [] (named_in q.0) f g
     (subst (λ t. IsUnknown known (named_in t) f) same p.2) q.2
+
+unknown-unique : (known : List (List ℕ)) (source : Source) → AtMostOne (IsUnknownIn known source)
+unknown-unique known (read expression file) = unknown-name-unique known expression
+unknown-unique known (embed rule file) = λ f g p q. absurd p
+unknown-unique known (make count expression) = unknown-name-unique known expression
 
 -- there is at most one first refusal
 pub first-unique : (input : Input) → AtMostOne (IsFirstRefusal input)
 first-unique input =
     FirstOf-unique _ _ (source-unique input.command.source)
-    (FirstOf-unique _ _ (hierarchy-unique input.hierarchy)
-    (FirstOf-unique _ _ (sequences-unique input.command.weighted (hierarchy_names input) input.sequences)
+    (FirstOf-unique _ _ (hierarchy-once input.command.source input.hierarchy)
+    (FirstOf-unique _ _ (sequences-once input.command.source input.command.weighted (hierarchy_names input) input.sequences)
     (unknown-unique (known_names input) input.command.source)))
 
 module _ (words : List (List ℕ)) (holds : List ℕ → Option (List ℕ)) (c : Command) (has : HasSource words c) where
@@ -109,25 +117,27 @@ module _ (words : List (List ℕ)) (holds : List ℕ → Option (List ℕ)) (c :
   hierarchy_at : (input : Input) → IsInput words holds input → bytes_named holds c.hierarchy ≡ Some input.hierarchy
   hierarchy_at input is = ap (λ (d : Command). bytes_named holds d.hierarchy) (same_command input is) ∙ is.hierarchy
 
-  sequences_at : (input : Input) → IsInput words holds input → holds (file_of c.source) ≡ Some input.sequences
-  sequences_at input is = ap (λ (d : Command). holds (file_of d.source)) (same_command input is) ∙ is.sequences
+  sequences_at : (input : Input) → IsInput words holds input → bytes_named holds (file_of c.source) ≡ Some input.sequences
+  sequences_at input is = ap (λ (d : Command). bytes_named holds (file_of d.source)) (same_command input is) ∙ is.sequences
 
-  pub hierarchy-refused : (fault : Fault) → IfSome (bytes_named holds c.hierarchy) (λ bytes. IsHierarchyRefusal bytes fault)
+  pub hierarchy-refused : (fault : Fault) → IfSome (bytes_named holds c.hierarchy) (λ bytes. RefusesHierarchy c.source bytes fault)
       → IsOfFiles c fault → Ends words holds (Err fault)
   hierarchy-refused fault refused of_files = refused_file c fault has
       (λ input is. inr (
         no_source input is,
-        inl (IfSome-at (λ bytes. IsHierarchyRefusal bytes fault) (bytes_named holds c.hierarchy) input.hierarchy refused (hierarchy_at input is)),
+        inl (subst (λ (d : Command). RefusesHierarchy d.source input.hierarchy fault) (same_command input is)
+            (IfSome-at (λ bytes. RefusesHierarchy c.source bytes fault) (bytes_named holds c.hierarchy) input.hierarchy refused (hierarchy_at input is))),
       )) of_files
 
-  module _ (known : List (List ℕ)) (h : Ancestry) (read : IfSome (bytes_named holds c.hierarchy) (λ bytes. IsHierarchyOf bytes known h)) where
-    pub read_at : (input : Input) → IsInput words holds input → IsHierarchyOf input.hierarchy known h
-    read_at input is = IfSome-at (λ bytes. IsHierarchyOf bytes known h) (bytes_named holds c.hierarchy) input.hierarchy read (hierarchy_at input is)
+  module _ (known : List (List ℕ)) (h : Ancestry) (read : IfSome (bytes_named holds c.hierarchy) (λ bytes. IsHierarchySaid c.source bytes known h)) where
+    pub read_at : (input : Input) → IsInput words holds input → IsHierarchySaid input.command.source input.hierarchy known h
+    read_at input is = subst (λ (d : Command). IsHierarchySaid d.source input.hierarchy known h) (same_command input is)
+        (IfSome-at (λ bytes. IsHierarchySaid c.source bytes known h) (bytes_named holds c.hierarchy) input.hierarchy read (hierarchy_at input is))
 
     known_same : (input : Input) → IsInput words holds input → HoldSame known (hierarchy_names input)
     known_same input is = (read_at input is).held
 
-    pub sequences-refused : (fault : Fault) → IfSome (holds (file_of c.source)) (λ bytes. IsSequencesRefusal c.weighted known bytes fault)
+    pub sequences-refused : (fault : Fault) → IfSome (bytes_named holds (file_of c.source)) (λ bytes. RefusesSequences c.source c.weighted known bytes fault)
         → IsOfFiles c fault → Ends words holds (Err fault)
     sequences-refused fault refused of_files = refused_file c fault has
         (λ input is. inr (
@@ -135,23 +145,23 @@ module _ (words : List (List ℕ)) (holds : List ℕ → Option (List ℕ)) (c :
           inr (
             (read_at input is).accepted,
             inl (
-                let here : IsSequencesRefusal c.weighted known input.sequences fault =
-                IfSome-at (λ bytes. IsSequencesRefusal c.weighted known bytes fault) (holds (file_of c.source)) input.sequences refused (sequences_at input is) in
-                let there : IsSequencesRefusal input.command.weighted known input.sequences fault =
-                subst (λ (d : Command). IsSequencesRefusal d.weighted known input.sequences fault) (same_command input is) here in
-                (sequences-alike input.command.weighted known (hierarchy_names input) input.sequences (known_same input is) fault).0 there),
+                let here : RefusesSequences c.source c.weighted known input.sequences fault =
+                IfSome-at (λ bytes. RefusesSequences c.source c.weighted known bytes fault) (bytes_named holds (file_of c.source)) input.sequences refused (sequences_at input is) in
+                let there : RefusesSequences input.command.source input.command.weighted known input.sequences fault =
+                subst (λ (d : Command). RefusesSequences d.source d.weighted known input.sequences fault) (same_command input is) here in
+                (sequences-alike input.command.source input.command.weighted known (hierarchy_names input) input.sequences (known_same input is) fault).0 there),
           ),
         )) of_files
 
-    module _ (names : List (List ℕ)) (db : List (Sequence Item)) (found : IfSome (holds (file_of c.source)) (λ bytes. IsDatabaseOf c.weighted bytes known names db)) where
-      pub found_at : (input : Input) → IsInput words holds input → IsDatabaseOf input.command.weighted input.sequences known names db
-      found_at input is = subst (λ (d : Command). IsDatabaseOf d.weighted input.sequences known names db) (same_command input is)
-          (IfSome-at (λ bytes. IsDatabaseOf c.weighted bytes known names db) (holds (file_of c.source)) input.sequences found (sequences_at input is))
+    module _ (names : List (List ℕ)) (db : List (Sequence Item)) (found : IfSome (bytes_named holds (file_of c.source)) (λ bytes. IsDatabaseSaid c.source c.weighted bytes known names db)) where
+      pub found_at : (input : Input) → IsInput words holds input → IsDatabaseSaid input.command.source input.command.weighted input.sequences known names db
+      found_at input is = subst (λ (d : Command). IsDatabaseSaid d.source d.weighted input.sequences known names db) (same_command input is)
+          (IfSome-at (λ bytes. IsDatabaseSaid c.source c.weighted bytes known names db) (bytes_named holds (file_of c.source)) input.sequences found (sequences_at input is))
 
       no_sequences : (input : Input) → IsInput words holds input → (fault : Fault)
-          → IsSequencesRefusal input.command.weighted (hierarchy_names input) input.sequences fault → ⊥
+          → RefusesSequences input.command.source input.command.weighted (hierarchy_names input) input.sequences fault → ⊥
       no_sequences input is fault refused = (found_at input is).accepted fault
-          ((sequences-alike input.command.weighted known (hierarchy_names input) input.sequences (known_same input is) fault).1 refused)
+          ((sequences-alike input.command.source input.command.weighted known (hierarchy_names input) input.sequences (known_same input is) fault).1 refused)
 
       names_same : (input : Input) → IsInput words holds input → HoldSame names (known_names input)
       names_same input is name = (

@@ -1,6 +1,9 @@
 -- How reading a file fails.
 use Rattle.std.proofs.Common.{◌≡◌, ◌≢◌, inl, inr, ℕ, ◌≤◌, Bool, List, [], Option, Some, None, IfSome, IsSome, IfErr, Result, Ok, Err, true≢false, refl, sym, ap, subst, arith}
+use Rattle.std.proofs.lemmas.Option.{none-some}
 use Rattle.text_ports.specs.Faults.{Rose}
+use Rattle.mine_model.specs.declared.item.Item.{Item}
+use Rattle.mine_model.specs.Support.{Sequence}
 use Rattle.mine_model.specs.declared.fault.Fault.{Fault}
 use Rattle.mine_model.specs.declared.fault.Fault.TheVariants.{Read, Write, NoMemory}
 use Rattle.mine_model.specs.declared.fault.Which.{Which}
@@ -17,10 +20,11 @@ use Rattle.item_hierarchy.specs.Refusing.{IsReadRefusal}
 use Rattle.mine_model.specs.Refusal.{IsHierarchyRefusal, IsSequencesRefusal}
 use Rattle.mine_model.specs.Status.{fault_status}
 use Rattle.mine_model.specs.Ancestry.{Ancestry}
-use Rattle.command_line.specs.Words.{Command, file_of}
+use Rattle.command_line.specs.Words.{Command, Source, read, embed, make, file_of}
+use Rattle.desq_run.specs.Said.{RefusesHierarchy, RefusesSequences}
 use Rattle.desq_run.specs.Ends.{bytes_named, HasSource, NamesKind, IsOfKind, Ends}
 use Rattle.desq_run.specs.Ends as ends
-use Rattle.desq_run.specs.Inputs.{FailsBy, refused, failed, no_memory, IsHierarchyOf}
+use Rattle.desq_run.specs.Inputs.{FailsBy, refused, failed, no_memory, IsHierarchyOf, IsHierarchySaid, IsDatabaseOf, IsDatabaseSaid}
 use Rattle.desq_run.proofs.EndLemmas.{hierarchy-refused, sequences-refused}
 
 -- a refusal of the text and names of a hierarchy file is its first refusal
@@ -82,9 +86,35 @@ named-kind c some = by c.hierarchy some refl
     by None none same = absurd (true≢false (sym none))
     by (Some name) is same = (name, same)
 
+-- what is read of files is what a source with a file says
+module _ (told : Option (List ℕ)) (kind : Which) (Named Faulty : Type 0) (fault : Fault) where
+  pub hierarchy-fails : (source : Source) (file : List ℕ) → file_of source ≡ Some file
+      → FailsBy told IsHierarchyRefusal kind Named Faulty fault → FailsBy told (RefusesHierarchy source) kind Named Faulty fault
+  hierarchy-fails (read expression name) file has fails = fails
+  hierarchy-fails (embed rule name) file has fails = fails
+  hierarchy-fails (make count expression) file has fails = absurd (none-some file has)
+
+  pub sequences-fails : (weighted : Bool) (known : List (List ℕ)) (source : Source) (file : List ℕ) → file_of source ≡ Some file
+      → FailsBy told (IsSequencesRefusal weighted known) kind Named Faulty fault → FailsBy told (RefusesSequences source weighted known) kind Named Faulty fault
+  sequences-fails weighted known (read expression name) file has fails = fails
+  sequences-fails weighted known (embed rule name) file has fails = fails
+  sequences-fails weighted known (make count expression) file has fails = absurd (none-some file has)
+
+pub hierarchy-said : (told : Option (List ℕ)) (names : List (List ℕ)) (h : Ancestry) (source : Source) (file : List ℕ) → file_of source ≡ Some file
+    → IfSome told (λ bytes. IsHierarchyOf bytes names h) → IfSome told (λ bytes. IsHierarchySaid source bytes names h)
+hierarchy-said told names h (read expression name) file has is = is
+hierarchy-said told names h (embed rule name) file has is = is
+hierarchy-said told names h (make count expression) file has is = absurd (none-some file has)
+
+pub sequences-said : (told : Option (List ℕ)) (weighted : Bool) (known names : List (List ℕ)) (db : List (Sequence Item)) (source : Source) (file : List ℕ) → file_of source ≡ Some file
+    → IfSome told (λ bytes. IsDatabaseOf weighted bytes known names db) → IfSome told (λ bytes. IsDatabaseSaid source weighted bytes known names db)
+sequences-said told weighted known names db (read expression name) file has is = is
+sequences-said told weighted known names db (embed rule name) file has is = is
+sequences-said told weighted known names db (make count expression) file has is = absurd (none-some file has)
+
 module _ (words : List (List ℕ)) (holds : List ℕ → Option (List ℕ)) (c : Command) (has : HasSource words c) (Faulty : Type 0) where
   -- how a run ends where reading the hierarchy fails
-  pub hierarchy-ends : (fault : Fault) → FailsBy (bytes_named holds c.hierarchy) IsHierarchyRefusal Hierarchy (IsSome c.hierarchy) Faulty fault
+  pub hierarchy-ends : (fault : Fault) → FailsBy (bytes_named holds c.hierarchy) (RefusesHierarchy c.source) Hierarchy (IsSome c.hierarchy) Faulty fault
       → Ends words holds (Err fault)
   hierarchy-ends _ (refused fault named is of_kind) =
       hierarchy-refused words holds c has fault is (inl (Hierarchy, named-kind c named, of_kind))
@@ -92,12 +122,13 @@ module _ (words : List (List ℕ)) (holds : List ℕ → Option (List ℕ)) (c :
   hierarchy-ends _ no_memory = ends.no_memory
 
   -- how a run ends where reading the sequences fails
-  pub sequences-ends : (known : List (List ℕ)) (h : Ancestry) → IfSome (bytes_named holds c.hierarchy) (λ bytes. IsHierarchyOf bytes known h)
-      → (fault : Fault) → FailsBy (holds (file_of c.source)) (IsSequencesRefusal c.weighted known) Sequences (Unit {0}) Faulty fault → Ends words holds (Err fault)
-  sequences-ends known h read _ (refused fault named is of_kind) =
-      sequences-refused words holds c has known h read fault is (inl (Sequences, tt, of_kind))
-  sequences-ends known h read _ (failed named faulty) = ends.read_fault c Sequences has tt
-  sequences-ends known h read _ no_memory = ends.no_memory
+  pub sequences-ends : (known : List (List ℕ)) (h : Ancestry) → IfSome (bytes_named holds c.hierarchy) (λ bytes. IsHierarchySaid c.source bytes known h)
+      → (file : List ℕ) → file_of c.source ≡ Some file
+      → (fault : Fault) → FailsBy (bytes_named holds (file_of c.source)) (RefusesSequences c.source c.weighted known) Sequences (Unit {0}) Faulty fault → Ends words holds (Err fault)
+  sequences-ends known h found file here _ (refused fault named is of_kind) =
+      sequences-refused words holds c has known h found fault is (inl (Sequences, (file, here), of_kind))
+  sequences-ends known h found file here _ (failed named faulty) = ends.read_fault c Sequences has (file, here)
+  sequences-ends known h found file here _ no_memory = ends.no_memory
 
 module _ (told : Option (List ℕ)) (Faulty : Type 0) where
   abbrev FailsHierarchy : Fault → Type 0

@@ -10,7 +10,6 @@ use Rattle.mine_model.specs.Support.{Sequence}
 use Rattle.mine_model.specs.Answer.{Data, Rises, IsAnswer, IsFrequent}
 use Rattle.mine_model.specs.Names.{name_of, HasName, AreDistinct, named_row, sequence_by}
 use Rattle.mine_model.specs.Ancestry.{Ancestry}
-use Rattle.mine_model.specs.Refusal.{links_of}
 use Rattle.mine_model.proofs.ListLemmas.{Contains-first, Contains-other}
 use Rattle.mine_model.specs.declared.mined.Work.{Work}
 use Rattle.mine_model.specs.Counted.{HasPairs}
@@ -20,8 +19,9 @@ use Rattle.mine_model.proofs.NamedAnswer.{named_data, answer-named}
 use Rattle.command_line.specs.declared.words.Engine.{Engine}
 use Rattle.command_line.specs.declared.words.Engine.TheVariants.{Count, Dfs, Pivot}
 use Rattle.mine_model.specs.PartitionWork.{IsPartitionWork, IsBytewiseBefore, IsNamedBefore}
+use Rattle.desq_run.specs.Said.{links_said}
 use Rattle.desq_run.specs.Ends.{Input, data_of, IsWorkOf}
-use Rattle.desq_run.specs.Inputs.{IsHierarchyOf, IsDatabaseOf, AreLinksWithin}
+use Rattle.desq_run.specs.Inputs.{IsHierarchySaid, IsDatabaseSaid, AreLinksWithin}
 use Rattle.desq_run.proofs.LinkLemmas.{names-rename}
 use Rattle.mine_model.proofs.PartitionWorkLemmas.{partition-names}
 
@@ -32,9 +32,9 @@ each-contained P (x ∷ xs) each = (each x (Contains-first x xs), each-contained
 -- the rows found by numbers, in order, are the answer by names
 pub rows-answer : (input : Input) (tree : Tree (List ℕ)) (known added : List (List ℕ)) (h : Ancestry) (db : List (Sequence Item)) (e : Tree Item) (rows : List Row)
     → AreDistinct (known ++ added)
-    → IsHierarchyOf input.hierarchy known h
+    → IsHierarchySaid input.command.source input.hierarchy known h
     → AreLinksWithin h
-    → IsDatabaseOf input.command.weighted input.sequences known (known ++ added) db
+    → IsDatabaseSaid input.command.source input.command.weighted input.sequences known (known ++ added) db
     → AllByRecursion (λ (s : Sequence Item). AllByRecursion (HasName (known ++ added)) s.items) db
     → tree_by (name_of (known ++ added)) e ≡ tree
     → AllByRecursion (HasName (known ++ added)) (named_in e)
@@ -50,18 +50,18 @@ rows-answer input tree known added h db e rows distinct read within is_db number
     each-contained (λ (link : Link Item). HasName names link.child × HasName names link.parent) h.links (λ link inside.
     let both = All-contains (λ (l : Link Item). (l.child.0 < h.items) × (l.parent.0 < h.items)) h.links link within inside in
     (omega (arith, both.0, few), omega (arith, both.1, few))) in
-    let answer : IsAnswer (named_data names (links_of input.hierarchy) d) (map (named_row names) rows) =
-    answer-named names (links_of input.hierarchy) d (names-rename input.hierarchy known added h distinct read within)
+    let answer : IsAnswer (named_data names (links_said input.command.source input.hierarchy) d) (map (named_row names) rows) =
+    answer-named names (links_said input.command.source input.hierarchy) d (names-rename input.command.source input.hierarchy known added h distinct read within)
     (record { links = links_named; sequences = numbered; expression = named }) some rows frequent rises in
-    subst (λ (s : List (Sequence (List ℕ))). IsAnswer (record { links = links_of input.hierarchy; sequences = s; expression = tree; threshold = input.command.threshold }) (map (named_row names) rows)) is_db.sequences
-    (subst (λ (t : Tree (List ℕ)). IsAnswer (record { links = links_of input.hierarchy; sequences = map (sequence_by (name_of names)) db; expression = t; threshold = input.command.threshold }) (map (named_row names) rows)) same_tree answer)
+    subst (λ (s : List (Sequence (List ℕ))). IsAnswer (record { links = links_said input.command.source input.hierarchy; sequences = s; expression = tree; threshold = input.command.threshold }) (map (named_row names) rows)) is_db.same
+    (subst (λ (t : Tree (List ℕ)). IsAnswer (record { links = links_said input.command.source input.hierarchy; sequences = map (sequence_by (name_of names)) db; expression = t; threshold = input.command.threshold }) (map (named_row names) rows)) same_tree answer)
 
 -- the work found by numbers is the work by names
 pub work-answer : (input : Input) (tree : Tree (List ℕ)) (known added : List (List ℕ)) (h : Ancestry) (db : List (Sequence Item)) (e : Tree Item) (engine : Engine) (work : Work)
     → AreDistinct (known ++ added)
-    → IsHierarchyOf input.hierarchy known h
+    → IsHierarchySaid input.command.source input.hierarchy known h
     → AreLinksWithin h
-    → IsDatabaseOf input.command.weighted input.sequences known (known ++ added) db
+    → IsDatabaseSaid input.command.source input.command.weighted input.sequences known (known ++ added) db
     → AllByRecursion (λ (s : Sequence Item). AllByRecursion (HasName (known ++ added)) s.items) db
     → tree_by (name_of (known ++ added)) e ≡ tree
     → AllByRecursion (HasName (known ++ added)) (named_in e) → 1 ≤ input.command.threshold
@@ -70,29 +70,29 @@ pub work-answer : (input : Input) (tree : Tree (List ℕ)) (known added : List (
 work-answer input tree known added h db e Count work distinct read within is_db numbered same_tree named some is =
     let names : List (List ℕ) = known ++ added in
     let d : Data Item = record { links = h.links; sequences = db; expression = e; threshold = input.command.threshold } in
-    let pairs = pairs-forth (name_of names) (links_of input.hierarchy) d (HasName names) (names-rename input.hierarchy known added h distinct read within)
+    let pairs = pairs-forth (name_of names) (links_said input.command.source input.hierarchy) d (HasName names) (names-rename input.command.source input.hierarchy known added h distinct read within)
     named numbered db is.pairs.0 numbered is.pairs.1 in
     record {
       nodes = is.nodes;
       parts = is.parts;
       pairs = (
         is.pairs.0,
-        subst (λ (s : List (Sequence (List ℕ))). HasPairs (record { links = links_of input.hierarchy; sequences = s; expression = tree; threshold = input.command.threshold }) s is.pairs.0) is_db.sequences
-            (subst (λ (t : Tree (List ℕ)). HasPairs (record { links = links_of input.hierarchy; sequences = map (sequence_by (name_of names)) db; expression = t; threshold = input.command.threshold }) (map (sequence_by (name_of names)) db) is.pairs.0) same_tree pairs),
+        subst (λ (s : List (Sequence (List ℕ))). HasPairs (record { links = links_said input.command.source input.hierarchy; sequences = s; expression = tree; threshold = input.command.threshold }) s is.pairs.0) is_db.same
+            (subst (λ (t : Tree (List ℕ)). HasPairs (record { links = links_said input.command.source input.hierarchy; sequences = map (sequence_by (name_of names)) db; expression = t; threshold = input.command.threshold }) (map (sequence_by (name_of names)) db) is.pairs.0) same_tree pairs),
         is.pairs.2,
       );
     }
 work-answer input tree known added h db e Dfs work distinct read within is_db numbered same_tree named some is =
     let names : List (List ℕ) = known ++ added in
     let d : Data Item = record { links = h.links; sequences = db; expression = e; threshold = input.command.threshold } in
-    let search = search-forth (name_of names) (links_of input.hierarchy) d (HasName names) (names-rename input.hierarchy known added h distinct read within)
+    let search = search-forth (name_of names) (links_said input.command.source input.hierarchy) d (HasName names) (names-rename input.command.source input.hierarchy known added h distinct read within)
     named numbered some work is in
-    subst (λ (s : List (Sequence (List ℕ))). IsSearchWork (record { links = links_of input.hierarchy; sequences = s; expression = tree; threshold = input.command.threshold }) work) is_db.sequences
-    (subst (λ (t : Tree (List ℕ)). IsSearchWork (record { links = links_of input.hierarchy; sequences = map (sequence_by (name_of names)) db; expression = t; threshold = input.command.threshold }) work) same_tree search)
+    subst (λ (s : List (Sequence (List ℕ))). IsSearchWork (record { links = links_said input.command.source input.hierarchy; sequences = s; expression = tree; threshold = input.command.threshold }) work) is_db.same
+    (subst (λ (t : Tree (List ℕ)). IsSearchWork (record { links = links_said input.command.source input.hierarchy; sequences = map (sequence_by (name_of names)) db; expression = t; threshold = input.command.threshold }) work) same_tree search)
 work-answer input tree known added h db e Pivot work distinct read within is_db numbered same_tree named some is =
     let names : List (List ℕ) = known ++ added in
     let d : Data Item = record { links = h.links; sequences = db; expression = e; threshold = input.command.threshold } in
-    let partition = partition-names (name_of names) (links_of input.hierarchy) d (HasName names) (names-rename input.hierarchy known added h distinct read within)
+    let partition = partition-names (name_of names) (links_said input.command.source input.hierarchy) d (HasName names) (names-rename input.command.source input.hierarchy known added h distinct read within)
     named numbered IsBytewiseBefore some work is in
-    subst (λ (s : List (Sequence (List ℕ))). IsPartitionWork IsBytewiseBefore (record { links = links_of input.hierarchy; sequences = s; expression = tree; threshold = input.command.threshold }) work) is_db.sequences
-    (subst (λ (t : Tree (List ℕ)). IsPartitionWork IsBytewiseBefore (record { links = links_of input.hierarchy; sequences = map (sequence_by (name_of names)) db; expression = t; threshold = input.command.threshold }) work) same_tree partition)
+    subst (λ (s : List (Sequence (List ℕ))). IsPartitionWork IsBytewiseBefore (record { links = links_said input.command.source input.hierarchy; sequences = s; expression = tree; threshold = input.command.threshold }) work) is_db.same
+    (subst (λ (t : Tree (List ℕ)). IsPartitionWork IsBytewiseBefore (record { links = links_said input.command.source input.hierarchy; sequences = map (sequence_by (name_of names)) db; expression = t; threshold = input.command.threshold }) work) same_tree partition)

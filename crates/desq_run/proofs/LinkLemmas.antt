@@ -11,7 +11,10 @@ use Rattle.mine_model.specs.Refusal.{names_of, links_of_line, links_from, placed
 use Rattle.mine_model.proofs.ListLemmas.{Contains-cases, Contains-first, Contains-other, Contains-none, Contains-from}
 use Rattle.mine_model.proofs.AncestryLemmas.{Item-same}
 use Rattle.mine_model.proofs.NumberingLemmas.{Renames}
-use Rattle.desq_run.specs.Inputs.{IsHierarchyOf}
+use Rattle.made_input.proofs.MakingLemmas.{links-between}
+use Rattle.command_line.specs.Words.{Source, read, embed, make}
+use Rattle.desq_run.specs.Said.{names_said, links_said}
+use Rattle.desq_run.specs.Inputs.{IsHierarchySaid}
 
 -- a walk with a step begins at the child of a link and ends at the parent of one
 walk_ends : {A : Type 0} (links : List (Link A)) (t next : A) (steps : List A) (w : A) → IsWalk links t (next ∷ steps) w
@@ -69,14 +72,21 @@ from-among line (text ∷ lines) placed inside =
     ]
 
 -- the links of a hierarchy file are between its names
-pub links-among : (bytes : List ℕ) (link : Link (List ℕ)) → Contains (links_of bytes) link
+file-links : (bytes : List ℕ) (link : Link (List ℕ)) → Contains (links_of bytes) link
     → Contains (names_of (lines_of bytes)) link.child × Contains (names_of (lines_of bytes)) link.parent
-links-among bytes link inside =
+file-links bytes link inside =
     let (placed, held, same) = Contains-from (λ (p : PlacedLink (List ℕ)). p.link) (placed_links_of (lines_of bytes)) link inside in
     let both = from-among 1 (lines_of bytes) placed held in (
       subst (λ (l : Link (List ℕ)). Contains (names_of (lines_of bytes)) l.child) (sym same) both.0,
       subst (λ (l : Link (List ℕ)). Contains (names_of (lines_of bytes)) l.parent) (sym same) both.1,
     )
+
+-- the links of a source are between its names
+pub links-among : (source : Source) (bytes : List ℕ) (link : Link (List ℕ)) → Contains (links_said source bytes) link
+    → Contains (names_said source bytes) link.child × Contains (names_said source bytes) link.parent
+links-among (read expression file) bytes link inside = file-links bytes link inside
+links-among (embed rule file) bytes link inside = file-links bytes link inside
+links-among (make count expression) bytes link inside = links-between link inside
 
 -- a name that is held has a number
 pub number-of : (names : List (List ℕ)) (name : List ℕ) → Contains names name → (w : Item) × HasName names w × (name ≡ name_of names w)
@@ -95,8 +105,8 @@ name-front names added w held = by names w.0 held
     by (first ∷ names) zero less = refl
     by (first ∷ names) (suc n) less = by names n (omega (arith, less))
 
-module _ (bytes : List ℕ) (known added : List (List ℕ)) (h : Ancestry) (distinct : AreDistinct (known ++ added))
-    (read : IsHierarchyOf bytes known h)
+module _ (source : Source) (bytes : List ℕ) (known added : List (List ℕ)) (h : Ancestry) (distinct : AreDistinct (known ++ added))
+    (found : IsHierarchySaid source bytes known h)
     (within : All (λ (link : Link Item). (link.child.0 < h.items) × (link.parent.0 < h.items)) h.links) where
   among_all : (w : Item) → HasName known w → HasName (known ++ added) w
   among_all w held = rw length-append (omega (arith, held))
@@ -105,50 +115,50 @@ module _ (bytes : List ℕ) (known added : List (List ℕ)) (h : Ancestry) (dist
   within_items link held =
       All-contains (λ (l : Link Item). (l.child.0 < h.items) × (l.parent.0 < h.items)) h.links link within held
 
-  -- a name of the file is that of a number among the known names alone
-  known_number : (w : Item) → HasName (known ++ added) w → Contains (names_of (lines_of bytes)) (name_of (known ++ added) w) → HasName known w
+  -- a name of the source is that of a number among the known names alone
+  known_number : (w : Item) → HasName (known ++ added) w → Contains (names_said source bytes) (name_of (known ++ added) w) → HasName known w
   known_number w held inside =
-      let (v, among, same) = number-of known (name_of (known ++ added) w) ((read.held (name_of (known ++ added) w)).1 inside) in
+      let (v, among, same) = number-of known (name_of (known ++ added) w) ((found.held (name_of (known ++ added) w)).1 inside) in
       let alike : w.0 ≡ v.0 = distinct w.0 v.0 held (among_all v among) (same ∙ sym (name-front known added v among)) in
       subst (λ n. n < length known) (sym alike) among
 
   ancestor-forth : (w t : Item) → HasName (known ++ added) w → HasName (known ++ added) t → IsAncestor h.links w t
-      → IsAncestor (links_of bytes) (name_of (known ++ added) w) (name_of (known ++ added) t)
+      → IsAncestor (links_said source bytes) (name_of (known ++ added) w) (name_of (known ++ added) t)
   ancestor-forth w t w_held t_held up = elim (ancestor-cases h.links w t up) [
     | inl same ↦ ([], ap (name_of (known ++ added)) same)
     | inr ends ↦
-        let t_known : HasName known t = subst (λ n. t.0 < n) read.items (within_items (record { child = t; parent = ends.0.0 }) ends.0.1).0 in
-        let w_known : HasName known w = subst (λ n. w.0 < n) read.items (within_items (record { child = ends.1.0; parent = w }) ends.1.1).1 in
-        rw (name-front known added w w_known, name-front known added t t_known) ((read.above w t w_known t_known).0 up)
+        let t_known : HasName known t = subst (λ n. t.0 < n) found.items (within_items (record { child = t; parent = ends.0.0 }) ends.0.1).0 in
+        let w_known : HasName known w = subst (λ n. w.0 < n) found.items (within_items (record { child = ends.1.0; parent = w }) ends.1.1).1 in
+        rw (name-front known added w w_known, name-front known added t t_known) ((found.above w t w_known t_known).0 up)
   ]
 
   ancestor-back : (w t : Item) → HasName (known ++ added) w → HasName (known ++ added) t
-      → IsAncestor (links_of bytes) (name_of (known ++ added) w) (name_of (known ++ added) t) → IsAncestor h.links w t
-  ancestor-back w t w_held t_held up = elim (ancestor-cases (links_of bytes) (name_of (known ++ added) w) (name_of (known ++ added) t) up) [
+      → IsAncestor (links_said source bytes) (name_of (known ++ added) w) (name_of (known ++ added) t) → IsAncestor h.links w t
+  ancestor-back w t w_held t_held up = elim (ancestor-cases (links_said source bytes) (name_of (known ++ added) w) (name_of (known ++ added) t) up) [
     | inl same ↦ ([], Item-same t w (distinct t.0 w.0 t_held w_held same))
     | inr ends ↦
-        let t_known : HasName known t = known_number t t_held (links-among bytes (record { child = name_of (known ++ added) t; parent = ends.0.0 }) ends.0.1).0 in
-        let w_known : HasName known w = known_number w w_held (links-among bytes (record { child = ends.1.0; parent = name_of (known ++ added) w }) ends.1.1).1 in
-        let up' : IsAncestor (links_of bytes) (name_of known w) (name_of known t) =
-        subst (λ n. IsAncestor (links_of bytes) n (name_of known t)) (name-front known added w w_known)
-        (subst (λ n. IsAncestor (links_of bytes) (name_of (known ++ added) w) n) (name-front known added t t_known) up) in
-        (read.above w t w_known t_known).1 up'
+        let t_known : HasName known t = known_number t t_held (links-among source bytes (record { child = name_of (known ++ added) t; parent = ends.0.0 }) ends.0.1).0 in
+        let w_known : HasName known w = known_number w w_held (links-among source bytes (record { child = ends.1.0; parent = name_of (known ++ added) w }) ends.1.1).1 in
+        let up' : IsAncestor (links_said source bytes) (name_of known w) (name_of known t) =
+        subst (λ n. IsAncestor (links_said source bytes) n (name_of known t)) (name-front known added w w_known)
+        (subst (λ n. IsAncestor (links_said source bytes) (name_of (known ++ added) w) n) (name-front known added t t_known) up) in
+        (found.above w t w_known t_known).1 up'
   ]
 
-  -- the numbers of the names rename what the file says
-  pub names-rename : Renames h.links (links_of bytes) (HasName (known ++ added)) (name_of (known ++ added))
+  -- the numbers of the names rename what the source says
+  pub names-rename : Renames h.links (links_said source bytes) (HasName (known ++ added)) (name_of (known ++ added))
   names-rename = record {
     one_to_one = λ x y x_held y_held same. Item-same x y (distinct x.0 y.0 x_held y_held same);
     forth = ancestor-forth;
     back = ancestor-back;
     up = λ v t up held. elim (ancestor-cases h.links v t up) [
       | inl same ↦ subst (HasName (known ++ added)) same held
-      | inr ends ↦ among_all v (subst (λ n. v.0 < n) read.items (within_items (record { child = ends.1.0; parent = v }) ends.1.1).1)
+      | inr ends ↦ among_all v (subst (λ n. v.0 < n) found.items (within_items (record { child = ends.1.0; parent = v }) ends.1.1).1)
     ];
-    upward = λ v t held up. elim (ancestor-cases (links_of bytes) v (name_of (known ++ added) t) up) [
+    upward = λ v t held up. elim (ancestor-cases (links_said source bytes) v (name_of (known ++ added) t) up) [
       | inl same ↦ (t, held, sym same)
       | inr ends ↦
-          let inside : Contains known v = (read.held v).1 (links-among bytes (record { child = ends.1.0; parent = v }) ends.1.1).1 in
+          let inside : Contains known v = (found.held v).1 (links-among source bytes (record { child = ends.1.0; parent = v }) ends.1.1).1 in
           let (w, among, same) = number-of known v inside in
           (w, among_all w among, same ∙ sym (name-front known added w among))
     ];

@@ -1,10 +1,11 @@
 -- What the readers of files answer, in the words of a run.
-use Rattle.std.proofs.Common.{◌≡◌, ◌≢◌, inl, inr, ℕ, ◌<◌, Bool, List, [], ◌∷◌, map, length, All, Option, Some, None, IfSome, Contains, refl, arith}
+use Rattle.std.proofs.Common.{◌≡◌, ◌≢◌, ◌↔◌, ◌∙◌, sym, subst, false, inl, inr, ℕ, ◌<◌, Bool, List, [], ◌∷◌, map, length, All, Option, Some, None, IfSome, Contains, refl, arith}
+use Rattle.std.proofs.lemmas.List.{append-nil}
 use Rattle.std.proofs.lemmas.List.Elements.{All-contains}
 use Rattle.mine_model.specs.declared.item.Item.{Item}
 use Rattle.mine_model.specs.declared.fault.Fault.{Fault}
 use Rattle.mine_model.specs.Support.{Sequence}
-use Rattle.mine_model.specs.Names.{name_of, AreDistinct, sequence_by, GrowBy}
+use Rattle.mine_model.specs.Names.{name_of, AreDistinct, HasName, sequence_by, GrowBy}
 use Rattle.item_hierarchy.specs.declared.hierarchy_fault.CloseFault.{CloseFault}
 use Rattle.item_hierarchy.specs.declared.hierarchy_fault.CloseFault.TheVariants as close
 use Rattle.mine_model.specs.Limits.{most_file_bytes}
@@ -18,7 +19,12 @@ use Rattle.item_hierarchy.specs.declared.edges.EdgeRow.{EdgeRow}
 use Rattle.item_hierarchy.specs.Edges.{AreWithin, named_rows, IsCloseRefusal, Closes}
 use Rattle.item_hierarchy.specs.Refusing.{IsReadRefusal}
 use Rattle.desq_run.proofs.HierarchyLemmas.{hierarchy-of, close-refused}
-use Rattle.desq_run.specs.Inputs.{IsHierarchyOf, IsDatabaseOf, AreLinksWithin}
+use Rattle.made_input.specs.Made.{made_names, made_items, named_links, named_sequences}
+use Rattle.made_input.proofs.NameLemmas.{how_many_names}
+use Rattle.made_input.proofs.MakingLemmas.{names-known}
+use Rattle.command_line.specs.Words.{Command, make, file_of}
+use Rattle.desq_run.specs.Ends.{bytes_named}
+use Rattle.desq_run.specs.Inputs.{IsHierarchyOf, IsDatabaseOf, IsHierarchySaid, IsDatabaseSaid, AreLinksWithin, AreInputs}
 use Rattle.desq_run.proofs.LinkLemmas.{Contains-both, Contains-front, Contains-back}
 
 pub database-of : (weighted : Bool) (told : Option (List ℕ)) (known names : List (List ℕ)) (db : List (Sequence Item))
@@ -29,7 +35,7 @@ pub database-of : (weighted : Bool) (told : Option (List ℕ)) (known names : Li
 database-of weighted None known names db said grown accepted = tt
 database-of weighted (Some bytes) known names db said grown accepted = record {
   accepted = accepted;
-  sequences = said;
+  same = said;
   held = λ name. (
     (λ inside. Contains-both known (items_of (sequences_of weighted bytes)) name ((grown.exact name).0 inside)),
     (λ inside. (grown.exact name).1 (elim inside [
@@ -83,3 +89,40 @@ none-hierarchy h none within = record {
         let (t, next, steps, walk) = cycle.0 in Contains-none (record { child = t; parent = next }) walk.0
     no_refusal fault (inr (a, inr (b, inr (d, (more, same))))) =
         let (pairs, apart, all, over) = more in let none : length pairs ≡ 0 = no_pairs pairs all in omega (arith, over, none)
+
+in_any : {T : Type 0} (told : Option T) (P : Type 0) → P → IfSome told (λ value. P)
+in_any None P p = tt
+in_any (Some value) P p = p
+
+-- what was made is what a source says that asks for it, whatever the files hold
+pub made-inputs : (holds : List ℕ → Option (List ℕ)) (command : Command) (count : ℕ) (expression : List ℕ) (names : List (List ℕ)) (h : Ancestry) (db : List (Sequence Item))
+    → command.source ≡ make count expression → names ≡ made_names → h.items ≡ made_items → AreLinksWithin h
+    → ((w t : Item) → HasName made_names w → HasName made_names t
+    → IsAncestor h.links w t ↔ IsAncestor named_links (name_of made_names w) (name_of made_names t))
+    → map (sequence_by (name_of made_names)) db ≡ named_sequences count
+    → AreInputs holds command names h db
+made-inputs holds command count expression names h db source is_names items within above sequences =
+    let hierarchy : IsHierarchySaid (make count expression) [] made_names h = record {
+      accepted = λ fault none. none;
+      held = λ name. ((λ held. held), (λ held. held));
+      items = items ∙ sym how_many_names;
+      above = above;
+    } in
+    let database : IsDatabaseSaid (make count expression) false [] made_names made_names db = record {
+      accepted = λ fault none. none;
+      same = sequences;
+      held = λ name. ((λ held. inl held), (λ held. elim held [ inl known ↦ known | inr item ↦ names-known count name item ]));
+    } in
+    record {
+      known = made_names;
+      added = [];
+      behind = is_names ∙ sym (append-nil made_names);
+      before = h;
+      within = within;
+      links = refl;
+      hierarchy = subst (λ s. IfSome (bytes_named holds command.hierarchy) (λ bytes. IsHierarchySaid s bytes made_names h)) (sym source)
+          (in_any (bytes_named holds command.hierarchy) (IsHierarchySaid (make count expression) [] made_names h) hierarchy);
+      sequences = subst (λ s. IfSome (bytes_named holds (file_of command.source)) (λ bytes. IsDatabaseSaid s command.weighted bytes made_names names db)) (sym source)
+          (in_any (bytes_named holds (file_of command.source)) (IsDatabaseSaid (make count expression) command.weighted [] made_names names db)
+          (subst (λ l. IsDatabaseSaid (make count expression) command.weighted [] made_names l db) (sym is_names) database));
+    }

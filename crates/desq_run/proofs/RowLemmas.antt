@@ -21,7 +21,7 @@ use Rattle.command_line.specs.declared.words.Engine.{Engine}
 use Rattle.mine_model.specs.PartitionWork.{IsBytewiseBefore, IsNamedBefore}
 use Rattle.desq_run.specs.Sources.{SaysTree}
 use Rattle.desq_run.specs.Ends.{bytes_named, data_of, HasSource, IsAnswerTo, IsWorkOf}
-use Rattle.desq_run.specs.Inputs.{IsHierarchyOf, IsDatabaseOf, AreLinksWithin, AreInputs, HasRanges, IsRead, AreRows, AreOrdered, IsMined}
+use Rattle.desq_run.specs.Inputs.{IsHierarchySaid, IsDatabaseSaid, AreLinksWithin, AreInputs, HasRanges, IsRead, AreRows, AreOrdered, IsMined}
 use Rattle.desq_run.proofs.HierarchyLemmas.{all-of}
 use Rattle.desq_run.proofs.EndLemmas.{same_command, read_at, found_at, nothing-refused}
 use Rattle.desq_run.proofs.SourceLemmas.{answer-to}
@@ -53,13 +53,13 @@ module _ (words : List (List ℕ)) (holds : List ℕ → Option (List ℕ)) (c :
   Mines : List (List ℕ) → Type 0
   Mines names =
       AreDistinct names
-      → IfSome (holds (file_of c.source)) (λ bytes. IsDatabaseOf c.weighted bytes known names db)
+      → IfSome (bytes_named holds (file_of c.source)) (λ bytes. IsDatabaseSaid c.source c.weighted bytes known names db)
       → AllByRecursion (λ (s : Sequence Item). AllByRecursion (HasName names) s.items) db
       → ((fault : Fault) → IsUnknown names uses fault → ⊥)
       → AreRows names before db (named_tree uses tree) c.threshold c.engine rows work
       → IsMined words holds c names rows work
 
-  mined-at : (added : List (List ℕ)) → AreLinksWithin before → IfSome (bytes_named holds c.hierarchy) (λ bytes. IsHierarchyOf bytes known before)
+  mined-at : (added : List (List ℕ)) → AreLinksWithin before → IfSome (bytes_named holds c.hierarchy) (λ bytes. IsHierarchySaid c.source bytes known before)
       → IsRead c.source uses tree → HasRanges c.source → 1 ≤ c.threshold → Mines (known ++ added)
   unfolding Mines
   mined-at added within read is_read ranges some distinct found numbered known_all are = record {
@@ -68,7 +68,7 @@ module _ (words : List (List ℕ)) (holds : List ℕ → Option (List ℕ)) (c :
     answer = λ input is.
         let same : c ≡ input.command = same_command words holds c has input is in
         subst (λ (d : Command). IsAnswerTo d.source input (map (named_row (known ++ added)) rows)) same
-        (answer-to c.source input (named_tree uses tree) (map (named_row (known ++ added)) rows) ranges is_read.says
+        (answer-to c.source input (named_tree uses tree) (map (named_row (known ++ added)) rows) (ap (λ (d : Command). d.source) same) ranges is_read.says
         (rows-answer input (named_tree uses tree) known added before db are.expression rows distinct
         (read_at words holds c has known before read input is) within
         (found_at words holds c has known before read (known ++ added) db found input is) numbered are.same are.named
@@ -99,11 +99,11 @@ module _ (words : List (List ℕ)) (holds : List ℕ → Option (List ℕ)) (c :
   unfolding Mines
   mined names h inputs known_is before_is is_read ranges some distinct numbered known_all are =
       let behind : names ≡ known ++ inputs.added = inputs.behind ∙ ap (λ k. k ++ inputs.added) known_is in
-      let read : IfSome (bytes_named holds c.hierarchy) (λ bytes. IsHierarchyOf bytes known before) =
-      subst (λ k. IfSome (bytes_named holds c.hierarchy) (λ bytes. IsHierarchyOf bytes k before)) known_is
-      (subst (λ b. IfSome (bytes_named holds c.hierarchy) (λ bytes. IsHierarchyOf bytes inputs.known b)) before_is inputs.hierarchy) in
-      let found : IfSome (holds (file_of c.source)) (λ bytes. IsDatabaseOf c.weighted bytes known names db) =
-      subst (λ k. IfSome (holds (file_of c.source)) (λ bytes. IsDatabaseOf c.weighted bytes k names db)) known_is inputs.sequences in
+      let read : IfSome (bytes_named holds c.hierarchy) (λ bytes. IsHierarchySaid c.source bytes known before) =
+      subst (λ k. IfSome (bytes_named holds c.hierarchy) (λ bytes. IsHierarchySaid c.source bytes k before)) known_is
+      (subst (λ b. IfSome (bytes_named holds c.hierarchy) (λ bytes. IsHierarchySaid c.source bytes inputs.known b)) before_is inputs.hierarchy) in
+      let found : IfSome (bytes_named holds (file_of c.source)) (λ bytes. IsDatabaseSaid c.source c.weighted bytes known names db) =
+      subst (λ k. IfSome (bytes_named holds (file_of c.source)) (λ bytes. IsDatabaseSaid c.source c.weighted bytes k names db)) known_is inputs.sequences in
       let links : h.links ≡ before.links = inputs.links ∙ ap (λ (b : Ancestry). b.links) before_is in
       let are_before : AreRows names before db (named_tree uses tree) c.threshold c.engine rows work = record {
         expression = are.expression;

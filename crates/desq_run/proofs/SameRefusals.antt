@@ -7,6 +7,8 @@ use Rattle.mine_model.specs.Text.{lines_of}
 use Rattle.mine_model.specs.Grammar.{Use}
 use Rattle.mine_model.specs.First.{FirstOf, FirstAmong}
 use Rattle.mine_model.specs.Refusal.{IsTooLarge, HasMoreNames, IsSequenceLineRefusal, IsSequencesRefusal, IsUnknown, sequences_of_lines, items_of}
+use Rattle.command_line.specs.Words.{Source, read, embed, make}
+use Rattle.desq_run.specs.Said.{RefusesSequences}
 use Rattle.desq_run.proofs.LinkLemmas.{Contains-both, Contains-front, Contains-back}
 
 -- both hold the same elements
@@ -53,9 +55,9 @@ more-names : (n : ℕ) (xs ys : List (List ℕ)) → ((x : List ℕ) → Contain
 more-names n xs ys move (some, apart, all, more) = (some, apart, All-weaker (Contains xs) (Contains ys) move some all, more)
 
 -- names that are known otherwise listed refuse the same sequences
-pub sequences-alike : (weighted : Bool) (known others : List (List ℕ)) (bytes : List ℕ) → HoldSame known others
+file-alike : (weighted : Bool) (known others : List (List ℕ)) (bytes : List ℕ) → HoldSame known others
     → RefuseAlike (IsSequencesRefusal weighted known bytes) (IsSequencesRefusal weighted others bytes)
-sequences-alike weighted known others bytes same =
+file-alike weighted known others bytes same =
     FirstOf-alike (IsTooLarge Sequences bytes) (IsTooLarge Sequences bytes)
     (FirstAmong (IsSequenceLineRefusal weighted known) [] (lines_of bytes)) (FirstAmong (IsSequenceLineRefusal weighted others) [] (lines_of bytes))
     (λ fault. ((λ p. p), (λ p. p)))
@@ -82,6 +84,12 @@ sequences-alike weighted known others bytes same =
             p.1,
           )),
         )))))
+
+pub sequences-alike : (source : Source) (weighted : Bool) (known others : List (List ℕ)) (bytes : List ℕ) → HoldSame known others
+    → RefuseAlike (RefusesSequences source weighted known bytes) (RefusesSequences source weighted others bytes)
+sequences-alike (read expression file) weighted known others bytes same = file-alike weighted known others bytes same
+sequences-alike (embed rule file) weighted known others bytes same = file-alike weighted known others bytes same
+sequences-alike (make count expression) weighted known others bytes same = λ fault. ((λ none. none), (λ none. none))
 
 -- names that are known otherwise listed leave the same names unknown
 pub unknown-alike : (known others : List (List ℕ)) (uses : List Use) → HoldSame known others → RefuseAlike (IsUnknown known uses) (IsUnknown others uses)

@@ -11,6 +11,8 @@ use Rattle.mine_model.specs.First.{FirstAmong}
 use Rattle.mine_model.specs.Refusal.{IsTextRefusal, IsHierarchyLineRefusal, IsHierarchyRefusal, IsBadWeight, IsSequenceLineRefusal, IsSequencesRefusal, placed_links_of}
 use Rattle.mine_model.proofs.ListLemmas.{Contains-cases, Contains-other, Contains-none}
 use Rattle.mine_model.proofs.FirstLemmas.{AtMostOne, FirstOf-unique, FirstAmong-unique}
+use Rattle.command_line.specs.Words.{Source, read, embed, make}
+use Rattle.desq_run.specs.Said.{RefusesHierarchy, RefusesSequences}
 
 -- the bytes of the first piece are bytes of a name
 names_first : (line piece : List ℕ) (pieces : List (List ℕ)) → pieces_by_blank line ≡ piece ∷ pieces
@@ -150,7 +152,7 @@ IsCycleLine-unique placed m n p q = elim (cases_order m n) [
   ]
 ]
 
-pub hierarchy-unique : (bytes : List ℕ) → AtMostOne (IsHierarchyRefusal bytes)
+hierarchy-unique : (bytes : List ℕ) → AtMostOne (IsHierarchyRefusal bytes)
 hierarchy-unique bytes =
     FirstOf-unique _ _ (λ f g p q. p.1 ∙ sym q.1)
     (FirstOf-unique (FirstAmong IsHierarchyLineRefusal [] (lines_of bytes)) _
@@ -165,7 +167,7 @@ IsBadWeight-unique false fields c d p q = absurd p
 IsBadWeight-unique true [] c d p q = p ∙ sym q
 IsBadWeight-unique true (field ∷ fields) c d p q = p.1 ∙ sym q.1
 
-pub sequences-unique : (weighted : Bool) (known : List (List ℕ)) (bytes : List ℕ) → AtMostOne (IsSequencesRefusal weighted known bytes)
+sequences-unique : (weighted : Bool) (known : List (List ℕ)) (bytes : List ℕ) → AtMostOne (IsSequencesRefusal weighted known bytes)
 sequences-unique weighted known bytes =
     FirstOf-unique _ _ (λ f g p q. p.1 ∙ sym q.1)
     (FirstAmong-unique (IsSequenceLineRefusal weighted known)
@@ -174,3 +176,15 @@ sequences-unique weighted known bytes =
     (FirstOf-unique _ _
     (λ f g p q. p.2 ∙ ap (BadWeight (length before + 1)) (IsBadWeight-unique weighted _ p.0 q.0 p.1 q.1) ∙ sym q.2)
     (FirstOf-unique _ _ (λ f g p q. p.1 ∙ sym q.1) (λ f g p q. p.1 ∙ sym q.1))))) [] (lines_of bytes))
+
+-- so of each source
+pub hierarchy-once : (source : Source) (bytes : List ℕ) → AtMostOne (RefusesHierarchy source bytes)
+hierarchy-once (read expression file) bytes = hierarchy-unique bytes
+hierarchy-once (embed rule file) bytes = hierarchy-unique bytes
+hierarchy-once (make count expression) bytes = λ f g p q. absurd p
+
+pub sequences-once : (source : Source) (weighted : Bool) (known : List (List ℕ)) (bytes : List ℕ)
+    → AtMostOne (RefusesSequences source weighted known bytes)
+sequences-once (read expression file) weighted known bytes = sequences-unique weighted known bytes
+sequences-once (embed rule file) weighted known bytes = sequences-unique weighted known bytes
+sequences-once (make count expression) weighted known bytes = λ f g p q. absurd p

@@ -4,24 +4,24 @@ use Rattle.mine_model.specs.declared.fault.Fault.{Fault}
 use Rattle.mine_model.specs.declared.fault.Fault.TheVariants.{Usage, Unknown, BadByte, BadWeight, Cycle, TooLarge, NameTooLong, TooManyItems, TooManyAncestors, TooManySequences, SequenceTooLong, Read, Write, NoMemory}
 use Rattle.mine_model.specs.declared.fault.Which.{Which}
 use Rattle.mine_model.specs.declared.fault.Which.TheVariants.{Hierarchy, Sequences}
-use Rattle.mine_model.specs.Text.{lines_of}
 use Rattle.mine_model.specs.Expression.{Tree, tree_by}
 use Rattle.mine_model.specs.Grammar.{Use, ReadsAs}
+use Rattle.mine_model.specs.Support.{Sequence}
 use Rattle.mine_model.specs.Answer.{Data, NamedRow, IsAnswer}
-use Rattle.mine_model.specs.AnswerText.{text_of}
 use Rattle.mine_model.specs.Counted.{IsCountingWork}
 use Rattle.mine_model.specs.Growth.{IsSearchWork}
 use Rattle.mine_model.specs.declared.mined.Work.{Work}
 use Rattle.mine_model.specs.First.{FirstOf}
-use Rattle.mine_model.specs.Refusal.{IsHierarchyRefusal, IsSequencesRefusal, names_of, links_of, items_of, sequences_of}
+use Rattle.mine_model.specs.Refusal.{links_of, items_of, sequences_of}
 use Rattle.gap_front.specs.Answers.{IsEmbeddedAnswer}
 use Rattle.command_line.specs.declared.words.Engine.{Engine}
 use Rattle.command_line.specs.declared.words.Engine.TheVariants.{Count, Dfs, Pivot}
-use Rattle.command_line.specs.Words.{Source, read, embed, Command, IsCommand, IsUsage, file_of}
+use Rattle.command_line.specs.Words.{Source, read, embed, make, Command, IsCommand, IsUsage, file_of}
 use Rattle.mine_model.specs.PartitionWork.{IsBytewiseBefore, IsPartitionWork}
 use Rattle.desq_run.specs.Sources.{IsSourceRefusal, HasUse, IsUnknownIn, SaysTree}
+use Rattle.desq_run.specs.Said.{names_said, links_said, sequences_said, RefusesHierarchy, RefusesSequences, written_of}
 
--- a command, and what its files hold
+-- a command, and what its files hold; of a file that is not named, nothing
 pub record Input : Type 0 where
   pub command : Command
   pub hierarchy : List ℕ
@@ -36,33 +36,38 @@ bytes_named holds (Some name) = holds name
 pub record IsInput (words : List (List ℕ)) (holds : List ℕ → Option (List ℕ)) (input : Input) : Type 0 where
   pub said : IsCommand words input.command
   pub hierarchy : bytes_named holds input.command.hierarchy ≡ Some input.hierarchy
-  pub sequences : holds (file_of input.command.source) ≡ Some input.sequences
+  pub sequences : bytes_named holds (file_of input.command.source) ≡ Some input.sequences
 
--- the names of the hierarchy file
+-- the sequences of the input
+abbrev pub sequences_in : Input → List (Sequence (List ℕ))
+sequences_in input = sequences_said input.command.source input.command.weighted input.sequences
+
+-- the names of its hierarchy
 abbrev pub hierarchy_names : Input → List (List ℕ)
-hierarchy_names input = names_of (lines_of input.hierarchy)
+hierarchy_names input = names_said input.command.source input.hierarchy
 
--- the names of both files
+-- the names of its hierarchy and of its sequences
 abbrev pub known_names : Input → List (List ℕ)
-known_names input = hierarchy_names input ++ items_of (sequences_of input.command.weighted input.sequences)
+known_names input = hierarchy_names input ++ items_of (sequences_in input)
 
 -- the first refusal: of the expression or the rule, of the hierarchy, of the sequences, of an unknown name,
 -- in this order
 abbrev pub IsFirstRefusal : Input → Fault → Type 0
 IsFirstRefusal input = FirstOf (IsSourceRefusal input.command.source)
-    (FirstOf (IsHierarchyRefusal input.hierarchy)
-    (FirstOf (IsSequencesRefusal input.command.weighted (hierarchy_names input) input.sequences)
+    (FirstOf (RefusesHierarchy input.command.source input.hierarchy)
+    (FirstOf
+    (RefusesSequences input.command.source input.command.weighted (hierarchy_names input) input.sequences)
     (IsUnknownIn (known_names input) input.command.source)))
 
 -- nothing is refused
 abbrev pub IsAccepted : Input → Type 0
 IsAccepted input = (fault : Fault) → IsFirstRefusal input fault → ⊥
 
--- the data that the files say, with a tree over names
+-- the data of the input, with a tree over names
 abbrev pub data_of : Input → Tree (List ℕ) → Data (List ℕ)
 data_of input tree = record {
-  links = links_of input.hierarchy;
-  sequences = sequences_of input.command.weighted input.sequences;
+  links = links_said input.command.source input.hierarchy;
+  sequences = sequences_in input;
   expression = tree;
   threshold = input.command.threshold;
 }
@@ -74,11 +79,13 @@ IsAnswerTo (read expression file) input answer = (tree : Tree Use) × ReadsAs ex
     × IsAnswer (data_of input (tree_by (λ (u : Use). u.name) tree)) answer
 IsAnswerTo (embed rule file) input answer = IsEmbeddedAnswer (links_of input.hierarchy) rule
     (sequences_of input.command.weighted input.sequences) input.command.threshold answer
+IsAnswerTo (make count expression) input answer = (tree : Tree Use) × ReadsAs expression tree
+    × IsAnswer (data_of input (tree_by (λ (u : Use). u.name) tree)) answer
 
--- the text is that of the answer
+-- the text is what is written of the answer
 abbrev pub IsAnswerText : Input → List ℕ → Type 0
 IsAnswerText input text = (answer : List NamedRow) × IsAnswerTo input.command.source input answer
-    × (text ≡ text_of answer)
+    × (text ≡ written_of input.command.source answer)
 
 -- the work is that of a run of the engine over the data, where Ties says which of two items of one frequency
 -- ranks first
@@ -87,7 +94,7 @@ IsWorkOf Ties Count d work = IsCountingWork d work
 IsWorkOf Ties Dfs d work = IsSearchWork d work
 IsWorkOf Ties Pivot d work = IsPartitionWork Ties d work
 
--- the work is that of the command on its files, where items of one frequency rank by their names
+-- the work is that of the command on its input, where items of one frequency rank by their names
 abbrev pub IsWork : Input → Work → Type 0
 IsWork input work = (tree : Tree (List ℕ)) × SaysTree input.command.source tree
     × IsWorkOf IsBytewiseBefore input.command.engine (data_of input tree) work
@@ -95,7 +102,7 @@ IsWork input work = (tree : Tree (List ℕ)) × SaysTree input.command.source tr
 -- the command names a file of this kind
 abbrev pub NamesKind : Command → Which → Type 0
 NamesKind command Hierarchy = (name : List ℕ) × (command.hierarchy ≡ Some name)
-NamesKind command Sequences = Unit {0}
+NamesKind command Sequences = (name : List ℕ) × (file_of command.source ≡ Some name)
 
 -- a fault of what stands in the file of this kind
 abbrev pub IsOfKind : Which → Fault → Type 0

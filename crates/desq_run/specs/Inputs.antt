@@ -1,4 +1,4 @@
--- What was read of the files, by the numbers of names.
+-- What was read of the files or made, by the numbers of names.
 use Rattle.std.specs.Prelude.{◌≡◌, ◌⊎◌, ◌↔◌, ◌≤◌, ◌<◌, ◌++◌, ℕ, Bool, List, Option, IfSome, length, map, All, Contains}
 use Rattle.std.specs.List.{AllByRecursion}
 use Rattle.mine_model.specs.declared.item.Item.{Item}
@@ -19,32 +19,57 @@ use Rattle.mine_model.specs.declared.mined.Work.{Work}
 use Rattle.command_line.specs.declared.words.Engine.{Engine}
 use Rattle.gap_front.specs.Embedding.{IsRule}
 use Rattle.patex_parser.specs.Parsing.{AreWithin, named_tree}
-use Rattle.command_line.specs.Words.{Source, read, embed, Command, file_of}
+use Rattle.command_line.specs.Words.{Source, read, embed, make, Command, file_of}
 use Rattle.mine_model.specs.PartitionWork.{IsNamedBefore}
+use Rattle.made_input.specs.Made.{most_made}
+use Rattle.desq_run.specs.Said.{names_said, links_said, sequences_said, RefusesHierarchy, RefusesSequences}
 use Rattle.desq_run.specs.Sources.{HasUse, IsUnknownIn, SaysTree}
 use Rattle.desq_run.specs.Ends.{Input, IsInput, bytes_named, IsAccepted, IsAnswerTo, HasSource, IsOfKind, IsWorkOf, IsWork}
 
--- the names are exactly those of the hierarchy file, and above each other stands what stands so in the file
-pub record IsHierarchyOf (bytes : List ℕ) (names : List (List ℕ)) (h : Ancestry) : Type 0 where
-  pub accepted : (fault : Fault) → IsHierarchyRefusal bytes fault → ⊥
-  pub held : (name : List ℕ) → Contains names name ↔ Contains (names_of (lines_of bytes)) name
+-- nothing is refused, the names are exactly these, and above each other stands what these links say
+pub record IsHierarchyBy (Refuses : Fault → Type 0) (own : List (List ℕ)) (links : List (Link (List ℕ)))
+    (names : List (List ℕ)) (h : Ancestry) : Type 0 where
+  pub accepted : (fault : Fault) → Refuses fault → ⊥
+  pub held : (name : List ℕ) → Contains names name ↔ Contains own name
   pub items : h.items ≡ length names
   pub above : (w t : Item) → HasName names w → HasName names t
-      → (IsAncestor h.links w t ↔ IsAncestor (links_of bytes) (name_of names w) (name_of names t))
+      → (IsAncestor h.links w t ↔ IsAncestor links (name_of names w) (name_of names t))
 
--- the sequences are those of the sequence file, and the names are those known before and those of its items
-pub record IsDatabaseOf (weighted : Bool) (bytes : List ℕ) (known names : List (List ℕ))
-    (db : List (Sequence Item)) : Type 0 where
-  pub accepted : (fault : Fault) → IsSequencesRefusal weighted known bytes fault → ⊥
-  pub sequences : map (sequence_by (name_of names)) db ≡ sequences_of weighted bytes
+-- the hierarchy is that of the file
+abbrev pub IsHierarchyOf : List ℕ → List (List ℕ) → Ancestry → Type 0
+IsHierarchyOf bytes names h =
+    IsHierarchyBy (IsHierarchyRefusal bytes) (names_of (lines_of bytes)) (links_of bytes) names h
+
+-- it is that of the source, whose file holds these bytes
+abbrev pub IsHierarchySaid : Source → List ℕ → List (List ℕ) → Ancestry → Type 0
+IsHierarchySaid source bytes names h =
+    IsHierarchyBy (RefusesHierarchy source bytes) (names_said source bytes) (links_said source bytes) names h
+
+-- nothing is refused, the sequences are these, and the names are those known before and those of the items
+pub record IsDatabaseBy (Refuses : Fault → Type 0) (sequences : List (Sequence (List ℕ)))
+    (known names : List (List ℕ)) (db : List (Sequence Item)) : Type 0 where
+  pub accepted : (fault : Fault) → Refuses fault → ⊥
+  pub same : map (sequence_by (name_of names)) db ≡ sequences
   pub held : (name : List ℕ)
-      → Contains names name ↔ (Contains known name ⊎ Contains (items_of (sequences_of weighted bytes)) name)
+      → Contains names name ↔ (Contains known name ⊎ Contains (items_of sequences) name)
+
+-- the sequences are those of the file
+abbrev pub IsDatabaseOf : Bool → List ℕ → List (List ℕ) → List (List ℕ) → List (Sequence Item) → Type 0
+IsDatabaseOf weighted bytes known names db =
+    IsDatabaseBy (IsSequencesRefusal weighted known bytes) (sequences_of weighted bytes) known names db
+
+-- they are those of the source, whose file holds these bytes
+abbrev pub IsDatabaseSaid : Source → Bool → List ℕ → List (List ℕ) → List (List ℕ) → List (Sequence Item)
+    → Type 0
+IsDatabaseSaid source weighted bytes known names db = IsDatabaseBy
+    (RefusesSequences source weighted known bytes) (sequences_said source weighted bytes) known names db
 
 -- both items of each link are among those of the hierarchy
 abbrev pub AreLinksWithin : Ancestry → Type 0
 AreLinksWithin h = All (λ (link : Link Item). (link.child.0 < h.items) × (link.parent.0 < h.items)) h.links
 
--- names, hierarchy and sequences were read: numbers as the program needs them, and what they say of the files
+-- names, hierarchy and sequences were read or made: numbers as the program needs them, and what they say of
+-- the source
 pub record AreInputs (holds : List ℕ → Option (List ℕ)) (command : Command) (names : List (List ℕ))
     (h : Ancestry)
     (db : List (Sequence Item)) : Type 0 where
@@ -54,9 +79,10 @@ pub record AreInputs (holds : List ℕ → Option (List ℕ)) (command : Command
   pub before : Ancestry
   pub within : AreLinksWithin before
   pub links : h.links ≡ before.links
-  pub hierarchy : IfSome (bytes_named holds command.hierarchy) (λ bytes. IsHierarchyOf bytes known before)
-  pub sequences : IfSome (holds (file_of command.source))
-      (λ bytes. IsDatabaseOf command.weighted bytes known names db)
+  pub hierarchy : IfSome (bytes_named holds command.hierarchy)
+      (λ bytes. IsHierarchySaid command.source bytes known before)
+  pub sequences : IfSome (bytes_named holds (file_of command.source))
+      (λ bytes. IsDatabaseSaid command.source command.weighted bytes known names db)
 
 -- reading a file, where one is named, ended with this fault: a refusal of its bytes, a counted fault, or want
 -- of memory
@@ -67,10 +93,11 @@ pub data FailsBy (told : Option (List ℕ)) (Refused : List ℕ → Fault → Ty
   failed : Named → Faulty → FailsBy told Refused file Named Faulty (Read file)
   no_memory : FailsBy told Refused file Named Faulty NoMemory
 
--- The numbers of the rule are in their ranges. An expression has none.
+-- The numbers of the source are in their ranges. An expression on a file has none.
 abbrev pub HasRanges : Source → Type 0
 HasRanges (read expression file) = Unit {0}
 HasRanges (embed rule file) = IsRule rule × (rule.min_length ≤ rule.max_length)
+HasRanges (make count expression) = (1 ≤ count) × (count ≤ most_made)
 
 -- The tree of the source was read, over the numbers of the uses of its names.
 pub record IsRead (source : Source) (uses : List Use) (tree : Tree Item) : Type 0 where

@@ -1,5 +1,6 @@
 -- the words of the promise
 pub mod Sources
+pub mod Said
 pub mod Ends
 pub mod Reported
 -- what the proofs keep

@@ -1,28 +1,31 @@
 //! From words to the answer written, or to the fault that ends the run.
 
-ghost use Rattle.std.specs.Prelude.{◌≡◌, ◌≢◌, ◌≤◌, ◌<◌, ◌++◌, ℕ, List, Some, Err, IsTrue, IfOk, IfErr, OnOk, OnErr, IfSome, is_some, All, map, length, take, string_bytes};
+ghost use Rattle.std.specs.Prelude.{◌≡◌, ◌≢◌, ◌⊎◌, ◌≤◌, ◌<◌, ◌++◌, ℕ, List, Some, Err, IsTrue, IfOk, IfErr, OnOk, OnErr, IfSome, is_some, All, map, length, take, string_bytes};
 ghost use Rattle.text_ports.specs.Faults.{Rose};
-ghost use Rattle.mine_model.specs.declared.fault.Fault.TheVariants.{Read, Write};
+ghost use Rattle.mine_model.specs.declared.fault.Fault.TheVariants.{Read, Write, NoMemory as OutOfMemory};
 ghost use Rattle.mine_model.specs.declared.fault.Which.{Which};
 ghost use Rattle.mine_model.specs.Limits.{most_workers};
 ghost use Rattle.mine_model.specs.Names.{HasName, named_row};
 ghost use Rattle.mine_model.specs.AnswerText.{text_of};
+ghost use Rattle.made_input.specs.Summary.{summary_of};
 ghost use Rattle.command_line.specs.Words.{IsCommand, NamesFile, IsNamed};
 ghost use Rattle.command_line.specs.Commands.{source_said, command_said};
 ghost use Rattle.desq_run.specs.Ends.{Input, IsInput, IsAccepted, IsAnswerText, Ends};
+ghost use Rattle.desq_run.specs.Said.{written_of};
 ghost use Rattle.desq_run.specs.Inputs.{HasRanges, IsMined};
 
 use super::inputs::{Inputs, read_inputs};
 use super::rows::rows_of;
 use super::sources::read_source;
-use command_line::{Command, read_words};
+use command_line::{Command, Source, read_words};
 use item_names::Names;
+use made_input::summary;
 use mine_model::{Fault, Gate, Mined, NoMemory, Row, Work};
 use pattern_writer::{WriteFault, write};
 use std::alloc::Global;
 use std::sync::Wait;
 use std::thread::Threads;
-use text_ports::{Files, Sink};
+use text_ports::{Failed, Files, Sink, write_all};
 
 /// How many bytes of the answer are gathered before they are written. Each write but the last has as many.
 const ROOM: usize = 65_536;
@@ -36,7 +39,7 @@ struct Answer {
 }
 
 /// Mines as the command says. Its expression or rule is read before a file is opened.
-fn mine_files<R: Threads + Wait + Sync, F: Files, G: Gate>(
+fn mine_input<R: Threads + Wait + Sync, F: Files, G: Gate>(
     rt: &R,
     alloc: Global,
     command: &Command,
@@ -90,6 +93,83 @@ fn take_room(alloc: Global) -> Result<Vec<u8>, NoMemory>
     Ok(vec![in alloc; 0u8; ROOM]?)
 }
 
+/// Writes the rows in their order, each in a line.
+fn write_text<O: Sink>(alloc: Global, answer: &Answer, out: &mut O) -> Result<(), Fault>
+    requires named { All (λ row. All (HasName answer.now.names) row.pattern) answer.now.rows.items }
+    ensures written { OnOk result (IfSome (O.written out.old) (λ before.
+        O.written out.new ≡ Some (before
+        ++ text_of (map (named_row answer.now.names) answer.now.rows.items)))) }
+    ensures cut { result ≡ Err Write → IfSome (O.written out.old) (λ before.
+        (n : ℕ) × (n < length (text_of (map (named_row answer.now.names) answer.now.rows.items)))
+        × (O.written out.new ≡ Some (before
+        ++ take n (text_of (map (named_row answer.now.names) answer.now.rows.items))))) }
+    ensures unchanged { OnErr result (result ≢ Err Write → O.written out.new ≡ O.written out.old) }
+    ensures fails { IfErr result (λ fault. (fault ≡ Write) ⊎ (fault ≡ OutOfMemory)) }
+    ensures write_fault { result ≡ Err Write → Rose (O.faults out.old) (O.faults out.new) }
+    ensures never_falls { O.faults out.old ≤ O.faults out.new }
+{
+    let mut room = take_room(alloc)?;
+    match write(
+        answer.rows.as_slice(),
+        &answer.names,
+        out,
+        room.as_mut_slice(),
+    ) {
+        Ok(()) => Ok(()),
+        Err(WriteFault) => Err(Fault::Write),
+    }
+}
+
+/// Writes the summary of the rows that were found in so many made sequences.
+fn write_summary<O: Sink>(count: u32, answer: &Answer, out: &mut O) -> Result<(), Fault>
+    ensures written { OnOk result (IfSome (O.written out.old) (λ before.
+        O.written out.new ≡ Some (before
+        ++ summary_of count (map (named_row answer.now.names) answer.now.rows.items)))) }
+    ensures cut { result ≡ Err Write → IfSome (O.written out.old) (λ before.
+        (n : ℕ) × (n < length (summary_of count (map (named_row answer.now.names) answer.now.rows.items)))
+        × (O.written out.new ≡ Some (before
+        ++ take n (summary_of count (map (named_row answer.now.names) answer.now.rows.items))))) }
+    ensures fails { IfErr result (λ fault. fault ≡ Write) }
+    ensures write_fault { result ≡ Err Write → Rose (O.faults out.old) (O.faults out.new) }
+    ensures never_falls { O.faults out.old ≤ O.faults out.new }
+{
+    match write_all(
+        out,
+        summary(count, answer.rows.as_slice()).as_str().as_bytes(),
+    ) {
+        Ok(()) => Ok(()),
+        Err(Failed) => Err(Fault::Write),
+    }
+}
+
+/// Writes what is said of the answer: its text, or on made input its summary.
+fn write_answer<O: Sink>(
+    alloc: Global,
+    source: &Source,
+    answer: &Answer,
+    out: &mut O,
+) -> Result<(), Fault>
+    requires named { All (λ row. All (HasName answer.now.names) row.pattern) answer.now.rows.items }
+    ensures written { OnOk result (IfSome (O.written out.old) (λ before.
+        O.written out.new ≡ Some (before ++ written_of (source_said source.now)
+        (map (named_row answer.now.names) answer.now.rows.items)))) }
+    ensures cut { result ≡ Err Write → IfSome (O.written out.old) (λ before.
+        (n : ℕ) × (n < length (written_of (source_said source.now)
+        (map (named_row answer.now.names) answer.now.rows.items)))
+        × (O.written out.new ≡ Some (before ++ take n (written_of (source_said source.now)
+        (map (named_row answer.now.names) answer.now.rows.items))))) }
+    ensures unchanged { OnErr result (result ≢ Err Write → O.written out.new ≡ O.written out.old) }
+    ensures fails { IfErr result (λ fault. (fault ≡ Write) ⊎ (fault ≡ OutOfMemory)) }
+    ensures write_fault { result ≡ Err Write → Rose (O.faults out.old) (O.faults out.new) }
+    ensures never_falls { O.faults out.old ≤ O.faults out.new }
+{
+    match source {
+        Source::Make { count, .. } => write_summary(*count, answer, out),
+        Source::Read { .. } => write_text(alloc, answer, out),
+        Source::Embed { .. } => write_text(alloc, answer, out),
+    }
+}
+
 /// Mines as the words say, and writes the answer. Gives the work, where the words ask for it.
 pub(crate) fn attempt<R: Threads + Wait + Sync, F: Files, O: Sink, G: Gate>(
     rt: &R,
@@ -123,15 +203,7 @@ pub(crate) fn attempt<R: Threads + Wait + Sync, F: Files, O: Sink, G: Gate>(
         Some(command) => command,
         None => return Err(Fault::Usage),
     };
-    let mined = mine_files(rt, alloc, &command, files, gate)?;
-    let mut room = take_room(alloc)?;
-    match write(
-        mined.rows.as_slice(),
-        &mined.names,
-        out,
-        room.as_mut_slice(),
-    ) {
-        Ok(()) => Ok(told(&command, mined.work)),
-        Err(WriteFault) => Err(Fault::Write),
-    }
+    let mined = mine_input(rt, alloc, &command, files, gate)?;
+    write_answer(alloc, &command.source, &mined, out)?;
+    Ok(told(&command, mined.work))
 }

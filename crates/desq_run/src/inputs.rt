@@ -1,4 +1,4 @@
-//! Reads the files that a command names.
+//! Reads the files that a command names, or makes its input.
 
 ghost use Rattle.std.specs.Prelude.{◌≡◌, ◌≢◌, ℕ, ◌≤◌, ◌<◌, ◌++◌, List, [], Option, Err, IsSome, IsTrue, IfOk, IfErr, OnOk, IfSome, length, All, option_map, string_bytes};
 ghost use Rattle.std.specs.List.{AllByRecursion};
@@ -8,34 +8,25 @@ ghost use Rattle.mine_model.specs.declared.fault.Which.{Which};
 ghost use Rattle.mine_model.specs.declared.fault.Which.TheVariants.{Hierarchy as OfHierarchy, Sequences};
 ghost use Rattle.mine_model.specs.Names.{HasName, AreDistinct};
 ghost use Rattle.mine_model.specs.Refusal.{IsHierarchyRefusal, IsSequencesRefusal};
-ghost use Rattle.command_line.specs.Words.{NamesFile, file_of as file_said};
+ghost use Rattle.made_input.specs.Made.{most_made};
+ghost use Rattle.command_line.specs.Words.{NamesFile, file_of, make, Command as CommandSaid};
 ghost use Rattle.command_line.specs.Commands.{source_said, command_said};
 ghost use Rattle.desq_run.specs.Ends.{bytes_named, HasSource, Ends};
-ghost use Rattle.desq_run.specs.Inputs.{IsHierarchyOf, IsDatabaseOf, AreLinksWithin, AreInputs, FailsBy};
+ghost use Rattle.desq_run.specs.Inputs.{IsHierarchyOf, IsDatabaseOf, AreLinksWithin, AreInputs, FailsBy, HasRanges};
 
 use command_line::{Command, Source};
 use item_hierarchy::close;
 use item_names::Names;
-use mine_model::{Db, Fault, Hierarchy};
+use mine_model::{Db, Fault, Hierarchy, NoMemory};
 use std::alloc::Global;
 use text_ports::Files;
 
-/// What the files of a command say: items by the numbers of their names.
+/// What the files of a command say, or what was made: items by the numbers of their names.
 #[derive(Debug, Drop)]
 pub(crate) struct Inputs {
     pub(crate) names: Names,
     pub(crate) hierarchy: Hierarchy,
     pub(crate) db: Db,
-}
-
-/// The name of the file of sequences.
-fn file_of(source: &Source) -> &str
-    ensures { result.now ≡ file_said (source_said source.now) }
-{
-    match source {
-        Source::Read { file, .. } => file.as_str(),
-        Source::Embed { file, .. } => file.as_str(),
-    }
 }
 
 /// The sequences of the file of this name. A new name gets the next number.
@@ -138,14 +129,16 @@ fn read_hierarchy<F: Files>(
     }
 }
 
-/// Reads the hierarchy and then the sequences of a command.
-pub(crate) fn read_inputs<F: Files>(
+/// Reads the hierarchy and then the sequences of a command, whose file this is.
+fn read_files<F: Files>(
     alloc: Global,
     command: &Command,
+    file: &str,
     files: &mut F,
 ) -> Result<Inputs, Fault>
     requires may { (file : List ℕ) → NamesFile (command_said command.now) file
         → IsTrue (F.may files.old file) }
+    requires file { file_of (source_said command.now.source) ≡ Some file.now }
     ensures inputs { IfOk result (λ inputs. AreInputs (F.holds files.old) (command_said command.now)
         inputs.names inputs.hierarchy inputs.db) }
     ensures distinct { IfOk result (λ inputs. AreDistinct inputs.names) }
@@ -163,17 +156,64 @@ pub(crate) fn read_inputs<F: Files>(
 {
     let mut names = Names::new(alloc)?;
     let mut hierarchy = read_hierarchy(alloc, files, &command.hierarchy, &mut names)?;
-    let db = read_sequences(
-        alloc,
-        files,
-        file_of(&command.source),
-        command.weighted,
-        &mut names,
-    )?;
+    let db = read_sequences(alloc, files, file, command.weighted, &mut names)?;
     hierarchy.cover(names.count())?;
     Ok(Inputs {
         names,
         hierarchy,
         db,
     })
+}
+
+/// So many made sequences and the hierarchy above their items.
+fn make_inputs(alloc: Global, count: u32) -> Result<Inputs, NoMemory>
+    requires { count ≤ most_made }
+    ensures inputs { (holds : List ℕ → Option (List ℕ)) (command : CommandSaid) (expression : List ℕ)
+        → command.source ≡ make count expression
+        → IfOk result (λ inputs. AreInputs holds command inputs.names inputs.hierarchy inputs.db) }
+    ensures distinct { IfOk result (λ inputs. AreDistinct inputs.names) }
+    ensures items { IfOk result (λ inputs. inputs.hierarchy.items ≡ length inputs.names) }
+    ensures named { IfOk result (λ inputs.
+        AllByRecursion (λ s. AllByRecursion (HasName inputs.names) s.items) inputs.db) }
+{
+    let made = made_input::make(alloc, count)?;
+    // Names differ, and no link leads out of the items of a hierarchy.
+    let _count = made.names.count();
+    let _items = made.hierarchy.items();
+    Ok(Inputs {
+        names: made.names,
+        hierarchy: made.hierarchy,
+        db: made.db,
+    })
+}
+
+/// Reads the files of a command, the hierarchy first, or makes its input.
+pub(crate) fn read_inputs<F: Files>(
+    alloc: Global,
+    command: &Command,
+    files: &mut F,
+) -> Result<Inputs, Fault>
+    requires may { (file : List ℕ) → NamesFile (command_said command.now) file
+        → IsTrue (F.may files.old file) }
+    requires ranges { HasRanges (source_said command.now.source) }
+    ensures inputs { IfOk result (λ inputs. AreInputs (F.holds files.old) (command_said command.now)
+        inputs.names inputs.hierarchy inputs.db) }
+    ensures distinct { IfOk result (λ inputs. AreDistinct inputs.names) }
+    ensures items { IfOk result (λ inputs. inputs.hierarchy.items ≡ length inputs.names) }
+    ensures named { IfOk result (λ inputs.
+        AllByRecursion (λ s. AllByRecursion (HasName inputs.names) s.items) inputs.db) }
+    ensures ends { (words : List (List ℕ)) → HasSource words (command_said command.now)
+        → IfErr result (λ fault. Ends words (F.holds files.old) (Err fault)) }
+    ensures read_fault { (file : Which) → result ≡ Err (Read file)
+        → Rose (F.faults files.old) (F.faults files.new) }
+    ensures no_write { result ≢ Err Write }
+    ensures same_names { F.may files.new ≡ F.may files.old }
+    ensures same_files { F.holds files.new ≡ F.holds files.old }
+    ensures never_falls { F.faults files.old ≤ F.faults files.new }
+{
+    match &command.source {
+        Source::Read { file, .. } => read_files(alloc, command, file.as_str(), files),
+        Source::Embed { file, .. } => read_files(alloc, command, file.as_str(), files),
+        Source::Make { count, .. } => Ok(make_inputs(alloc, *count)?),
+    }
 }

@@ -9,5 +9,5 @@ mod rows;
 mod running;
 mod sources;
 
-pub use laws::{at_most_one_first_refusal, at_most_one_text};
+pub use laws::{at_most_one_first_refusal, at_most_one_text, made_output_is_the_summary};
 pub use running::run;

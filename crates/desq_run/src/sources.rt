@@ -71,5 +71,6 @@ pub(crate) fn read_source(alloc: Global, source: &Source) -> Result<Parsed, Faul
     match source {
         Source::Read { expression, .. } => read_expression(alloc, expression.as_bytes()),
         Source::Embed { rule, .. } => expression_of_rule(alloc, rule),
+        Source::Make { expression, .. } => read_expression(alloc, expression.as_bytes()),
     }
 }

@@ -1,8 +1,7 @@
-use Rattle.std.proofs.Common.{◌≡◌, ◌∙◌, sym, ap, List, codes, None, option_map, string_bytes}
+use Rattle.std.proofs.Common.{rules, ◌≡◌, ◌∙◌, sym, ℕ, List, Option, Some, None, codes, false, is_none, option_map, string_bytes, true≢false}
 use Rattle.std.proofs.lemmas.Option.{none-some}
 use Rattle.clap.specs.Words.{Row, first_of, found_of, rows_of}
-use Rattle.gap_front.specs.declared.rule.GapRule.{GapRule}
-use Rattle.command_line.specs.Words.{GivesRule, GivesSource, Source, read, embed}
+use Rattle.command_line.specs.Words.{GivesMade, GivesSource, Source, read, embed, make}
 use Rattle.command_line.proofs.Needed.{needed_expression, shown}
 use Rattle.command_line.proofs.words.given_source.Goals as goal
 
@@ -11,13 +10,18 @@ unwrap-word-requires c =
     let there = needed_expression (rows_of (found_of c.args.matches.now)) c.requires in
     shown string_bytes c.in_ok-given_text.field-0 _ c.in_ok-given_text.ensures there
 
--- without FILE and with no rule there is no source
-no_source : (found : List Row) → first_of (codes "file") found ≡ None
-    → ((rule : GapRule) → GivesRule found rule → ⊥) → (source : Source) → GivesSource found source → ⊥
-no_source found away none (read expression file) gives = none-some file (sym away ∙ gives.1)
-no_source found away none (embed rule file) gives = none rule gives.2
+not_away : {X Y : Type 0} (f : X → Y) (o : Option X) → is_none o ≡ false → option_map f o ≡ None → ⊥
+not_away f None there away = true≢false there
+not_away f (Some x) there away = none-some (f x) (sym away)
 
-pub returns-in-None-given_rule : goal.returns-in-None-given_rule
-returns-in-None-given_rule c =
-    let away = sym c.in_ok-file.ensures ∙ ap (option_map string_bytes) c.in-None.is in
-    no_source (rows_of (found_of c.args.matches.now)) away c.in-None-given_rule.ensures
+-- with a number of sequences there is no other source
+no_source : (found : List Row) → (first_of (codes "generated") found ≡ None → ⊥)
+    → ((count : ℕ) → GivesMade found count → ⊥) → (source : Source) → GivesSource found source → ⊥
+no_source found there none (read expression file) gives = there gives.2
+no_source found there none (embed rule file) gives = there gives.2
+no_source found there none (make count expression) gives = none count gives.1
+
+pub returns-in-None : goal.returns-in-None
+returns-in-None c =
+    no_source (rows_of (found_of c.args.matches.now))
+    (λ away. not_away _ c.given.result (search rules) (c.given.ensures ∙ away)) c.in-None.ensures

@@ -2,9 +2,9 @@ use Rattle.std.proofs.Common.{map, string_bytes}
 use Rattle.mine_model.specs.Numbered.{tree_of}
 use Rattle.patex_parser.specs.Parsing.{use_view, IsParsed}
 use Rattle.patex_parser.specs.declared.parsed.Parsed.{Parsed}
-use Rattle.command_line.specs.Words.{read}
+use Rattle.command_line.specs.Words.{read, make}
 use Rattle.desq_run.specs.Inputs.{IsRead}
-use Rattle.desq_run.proofs.SourceLemmas.{parsed-read}
+use Rattle.desq_run.proofs.SourceLemmas.{parsed-read, made-read}
 use Rattle.desq_run.proofs.RowLemmas.{if_ok}
 use Rattle.desq_run.proofs.sources.read_source.Goals as goal
 
@@ -23,3 +23,19 @@ returns-in-Read-clause-accepted c = rw c.in-Read.is (rw c.as_bytes.ensures.value
 
 pub returns-in-Read-clause-refused : goal.returns-in-Read-clause-refused
 returns-in-Read-clause-refused c = rw c.in-Read.is (rw c.as_bytes.ensures.value at c.read_expression.ensures.refused)
+
+pub returns-in-Make-clause-read : goal.returns-in-Make-clause-read
+returns-in-Make-clause-read c =
+    let expression = string_bytes c.in-Make.expression in
+    let count = c.in-Make.count in
+    let parsed = rw c.as_bytes-in-Make.ensures.value at c.read_expression-in-Make.ensures.parsed in
+    rw c.in-Make.is
+    (if_ok (λ (p : Parsed). IsParsed expression (tree_of p.tree) (map use_view p.uses.items))
+    (λ (p : Parsed). IsRead (make count expression) (map use_view p.uses.items) (tree_of p.tree)) c.read_expression-in-Make.result
+    (λ p is. made-read count expression (map use_view p.uses.items) (tree_of p.tree) is) parsed)
+
+pub returns-in-Make-clause-accepted : goal.returns-in-Make-clause-accepted
+returns-in-Make-clause-accepted c = rw c.in-Make.is (rw c.as_bytes-in-Make.ensures.value at c.read_expression-in-Make.ensures.accepted)
+
+pub returns-in-Make-clause-refused : goal.returns-in-Make-clause-refused
+returns-in-Make-clause-refused c = rw c.in-Make.is (rw c.as_bytes-in-Make.ensures.value at c.read_expression-in-Make.ensures.refused)

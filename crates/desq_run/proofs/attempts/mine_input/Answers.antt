@@ -8,7 +8,7 @@ use Rattle.desq_run.specs.Ends.{Ends, no_memory, refused_source}
 use Rattle.desq_run.proofs.EndLemmas.{unknown-refused}
 use Rattle.desq_run.proofs.MineLemmas.{no_other}
 use Rattle.desq_run.proofs.RowLemmas.{mined}
-use Rattle.desq_run.proofs.attempts.mine_files.Goals as goal
+use Rattle.desq_run.proofs.attempts.mine_input.Goals as goal
 
 pub returns-in_err-parsed-clause-ends : goal.returns-in_err-parsed-clause-ends
 returns-in_err-parsed-clause-ends g c = λ words is.
