@@ -1,5 +1,5 @@
 -- Rows as entries of a map from patterns to supports.
-use Rattle.std.proofs.Common.{◌≡◌, ◌≢◌, ◌⊎◌, ℕ, ◌==◌, inl, inr, Bool, true, false, cond, is_some, Option, Some, None, List, [], ◌∷◌, ◌++◌, map, refl, sym, ap, ◌∙◌, subst, true≢false, Contains}
+use Rattle.std.proofs.Common.{◌≡◌, ℕ, ◌==◌, inl, inr, Bool, true, false, cond, is_some, Option, Some, None, List, [], ◌∷◌, ◌++◌, map, refl, sym, ap, ◌∙◌, subst, true≢false}
 use Rattle.std.specs.Bool.{Decides}
 use Rattle.std.specs.Map.{lookup}
 use Rattle.std.specs.Cmp.Lexicographic.{pointwise}
@@ -32,20 +32,20 @@ Entry = Vec Item Global × ℕ
 abbrev pub is_key : List Item → Vec Item Global → Bool
 is_key pattern key = pointwise item_eq pattern key.items
 
+abbrev patterns : List Entry → List (List Item)
+patterns entries = map (λ (row : Row). row.pattern) (map row_of entries)
+
 -- a look-up finds exactly the patterns of the rows
 pub found-decides : (pattern : List Item) (entries : List Entry) → Decides (is_some (lookup (is_key pattern) entries)) (HasPattern (map row_of entries) pattern)
 found-decides pattern [] = ((λ wrong. absurd (true≢false (sym wrong))), (λ held. absurd (Contains-none pattern held)))
 found-decides pattern (entry ∷ entries) = by (is_key pattern entry.0) (items-decide pattern entry.0.items) (found-decides pattern entries)
   where
-    abbrev patterns : List (List Item)
-    patterns = map (λ (row : Row). row.pattern) (map row_of entries)
-
-    by : (test : Bool) → Decides test (pattern ≡ entry.0.items) → Decides (is_some (lookup (is_key pattern) entries)) (Contains patterns pattern)
-        → Decides (is_some (cond test (Some entry.1) (lookup (is_key pattern) entries))) (Contains (entry.0.items ∷ patterns) pattern)
-    by true here rest = ((λ _. subst (Contains (entry.0.items ∷ patterns)) (sym (here.0 refl)) (Contains-first entry.0.items patterns)), (λ _. refl))
+    by : (test : Bool) → Decides test (pattern ≡ entry.0.items) → Decides (is_some (lookup (is_key pattern) entries)) (HasPattern (map row_of entries) pattern)
+        → Decides (is_some (cond test (Some entry.1) (lookup (is_key pattern) entries))) (HasPattern (map row_of (entry ∷ entries)) pattern)
+    by true here rest = ((λ _. subst (HasPattern (map row_of (entry ∷ entries))) (sym (here.0 refl)) (Contains-first entry.0.items (patterns entries))), (λ _. refl))
     by false here rest = (
-      (λ found. Contains-other entry.0.items patterns pattern (rest.0 found)),
-      (λ held. elim (Contains-cases entry.0.items patterns pattern held) [
+      (λ found. Contains-other entry.0.items (patterns entries) pattern (rest.0 found)),
+      (λ held. elim (Contains-cases entry.0.items (patterns entries) pattern held) [
         | inl same ↦ absurd (true≢false (sym (here.1 same)))
         | inr later ↦ rest.1 later
       ]),

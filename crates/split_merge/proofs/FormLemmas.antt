@@ -1,8 +1,8 @@
 -- The form of a line that says a row.
-use Rattle.std.proofs.Common.{◌≡◌, ◌≢◌, ℕ, ◌+◌, ◌≤◌, Bool, true, false, cond, List, [], ◌∷◌, ◌++◌, map, length, take, drop, ◌↔◌, nat_eq, refl, sym, ap, ◌∙◌, subst, true≢false, All}
+use Rattle.std.proofs.Common.{◌≡◌, ◌≢◌, ℕ, zero, suc, ◌+◌, ◌≤◌, ◌<◌, get_or, Bool, true, false, cond, List, [], ◌∷◌, ◌++◌, map, length, take, drop, ◌↔◌, nat_eq, refl, sym, ap, ◌∙◌, subst, true≢false, All, arith}
 use Rattle.std.specs.Cmp.Lexicographic.{pointwise}
 use Rattle.std.proofs.Math.Seq.{take-append_seam, drop-append_seam}
-use Rattle.std.proofs.lemmas.List.{take-append-drop}
+use Rattle.std.proofs.lemmas.List.{append_assoc, take-append-drop, length-map}
 use Rattle.std.proofs.lemmas.Slice.Eq.{bytes_eq-Decides}
 use Rattle.std.specs.List.{AllByRecursion, join_with_byte}
 use Rattle.std.specs.Char.{is_ascii_digit}
@@ -16,9 +16,10 @@ use Rattle.mine_model.proofs.ListLemmas.{AllByRecursion-weaker}
 use Rattle.text_ports.specs.declared.lines.Span.{Span}
 use Rattle.text_ports.specs.Lines.{AreFields, IsWithin}
 use Rattle.item_names.specs.Fields.{texts_at}
-use Rattle.item_names.proofs.FieldLemmas.{fields_are_texts}
+use Rattle.item_names.proofs.FieldLemmas.{fields_are_texts, texts_at-more}
 use Rattle.split_merge.specs.Merging.{IsNameText, IsRowLine}
 use Rattle.split_merge.specs.Taking.{IsSaidBy}
+use Rattle.split_merge.proofs.JoinLemmas.{join-push}
 use Rattle.split_merge.proofs.SoundLemmas.{digit-name, blank-cut, join-pieces, fields-texts}
 
 -- the fields of a line that says a row are its digits and its names
@@ -58,8 +59,11 @@ module _ (least : ℕ) (line : List ℕ) (spans : List Span) (are : AreFields li
   row-texts row is = sym (fields_are_texts line spans are) ∙ row-fields least line row is
 
   -- no row is said where no span is
-  pub none-said : spans ≡ [] → (row : NamedRow) → IsRowLine least line row → ⊥
-  none-said none row is = let texts = row-texts row is in let empty : texts_at line spans ≡ [] = ap (texts_at line) none in cc
+  pub none-said : length spans ≡ 0 → (row : NamedRow) → IsRowLine least line row → ⊥
+  none-said none row is =
+      let texts = ap length (row-texts row is) in
+      let whole = length-map spans (λ (span : Span). Rattle.std.specs.List.slice_range line span.from span.to) in
+      omega (arith, texts, whole, none)
 
   module _ (first : Span) (others : List Span) (cut : spans ≡ first ∷ others) where
     abbrev digits : List ℕ
@@ -70,8 +74,12 @@ module _ (least : ℕ) (line : List ℕ) (spans : List Span) (are : AreFields li
         let whole : digits ∷ texts_at line others ≡ is.digits ∷ row.pattern = sym (ap (texts_at line) cut) ∙ row-texts row is in
         (cc, cc)
 
-    pub no-names : others ≡ [] → (row : NamedRow) → IsRowLine least line row → ⊥
-    no-names none row is = is.some (sym (both row is).1 ∙ ap (texts_at line) none)
+    pub no-names : length others ≡ 0 → (row : NamedRow) → IsRowLine least line row → ⊥
+    no-names none row is = is.some (sym (both row is).1 ∙ ap (texts_at line) (empty others none))
+      where
+        empty : (spans : List Span) → length spans ≡ 0 → spans ≡ []
+        empty [] none = refl
+        empty (span ∷ spans) none = absurd (omega (arith, none))
 
     pub no-support : ((n : ℕ) → IsDecimal digits n → least ≤ n → n ≤ most_support → ⊥) → (row : NamedRow) → IsRowLine least line row → ⊥
     no-support none row is = none row.support (subst (λ d. IsDecimal d row.support) (sym (both row is).0) is.number) is.least is.most
@@ -120,3 +128,29 @@ module _ (text digits : List ℕ) where
   not-stripped names other spelled =
       let front : take (length digits) text ≡ digits = ap (take (length digits)) spelled ∙ take-append_seam digits (tab ∷ names) in
       true≢false (sym ((bytes_eq-Decides (take (length digits) text) digits).1 front) ∙ other)
+
+-- Names that are joined one after another
+
+module _ (line : List ℕ) where
+  abbrev pub text_at : Span → List ℕ
+  text_at span = Rattle.std.specs.List.slice_range line span.from span.to
+
+  pub joined-first : (spans : List Span) (i : ℕ) (d : Span) (joined after : List ℕ) → i < length spans → i ≤ 0
+      → joined ≡ join_with_byte space (texts_at line (take i spans)) → after ≡ joined ++ text_at (get_or spans i d)
+      → after ≡ join_with_byte space (texts_at line (take (i + 1) spans))
+  joined-first [] i d joined after within low joins is = absurd (omega (arith, within))
+  joined-first (span ∷ spans) zero d joined after within low joins is = is ∙ ap (λ w. w ++ text_at span) joins
+  joined-first (span ∷ spans) (suc i) d joined after within low joins is = absurd (omega (arith, low))
+
+  some-texts : (spans : List Span) (i : ℕ) → i < length spans → 0 < i → texts_at line (take i spans) ≢ []
+  some-texts [] i within later = absurd (omega (arith, within))
+  some-texts (span ∷ spans) zero within later = absurd (omega (arith, later))
+  some-texts (span ∷ spans) (suc i) within later = λ none. cc
+
+  pub joined-next : (spans : List Span) (i : ℕ) (d : Span) (joined after : List ℕ) → i < length spans → 0 < i
+      → joined ≡ join_with_byte space (texts_at line (take i spans)) → after ≡ (joined ++ space ∷ []) ++ text_at (get_or spans i d)
+      → after ≡ join_with_byte space (texts_at line (take (i + 1) spans))
+  joined-next spans i d joined after within later joins is =
+      is ∙ append_assoc joined (space ∷ []) (text_at (get_or spans i d)) ∙ ap (λ w. w ++ space ∷ text_at (get_or spans i d)) joins
+      ∙ sym (join-push (texts_at line (take i spans)) (text_at (get_or spans i d)) (some-texts spans i within later))
+      ∙ ap (join_with_byte space) (sym (texts_at-more line spans i d within))

@@ -1,13 +1,12 @@
 -- Lemmas on the lines that were read, and on the first refusal.
 use Rattle.std.proofs.Common.{◌≡◌, ◌≢◌, ℕ, ◌+◌, ◌≤◌, ◌<◌, ◌⊎◌, inl, inr, Option, Some, None, true, List, [], ◌∷◌, ◌++◌, map, length, refl, sym, ap, ◌∙◌, subst, arith, Contains, AllPairs}
-use Rattle.std.specs.List.{AllByRecursion, join_with_byte, slice_index_or}
+use Rattle.std.specs.List.{AllByRecursion, slice_index_or}
 use Rattle.std.proofs.lemmas.List.{append-nil, append_assoc, map-append}
 use Rattle.std.proofs.lemmas.List.Concat.{flat_map-append}
 use Rattle.std.proofs.lemmas.List.Elements.{Contains-append_left, Contains-append_right, Contains-append_cases}
 use Rattle.mine_model.specs.declared.item.Item.{Item}
 use Rattle.mine_model.specs.declared.row.Row.{Row}
 use Rattle.mine_model.specs.Answer.{NamedRow, ComesBefore}
-use Rattle.mine_model.specs.Bytes.{space}
 use Rattle.mine_model.specs.First.{FirstAmong}
 use Rattle.mine_model.specs.Limits.{most_file_bytes, most_items}
 use Rattle.mine_model.specs.Names.{name_of, HasName, named_row, AreDistinct, GrowBy}
@@ -15,8 +14,8 @@ use Rattle.mine_model.specs.Numbered.{PatternsDiffer}
 use Rattle.mine_model.specs.Refusal.{HasMoreNames, sequence_of, sequences_of_lines, items_of}
 use Rattle.mine_model.specs.Support.{Sequence}
 use Rattle.mine_model.specs.Text.{lines_of, fields_of, bad_byte, long_name, IsSoundLine}
-use Rattle.mine_model.proofs.AnswerLemmas.{ComesBefore-irreflexive, ComesBefore-chain}
-use Rattle.mine_model.proofs.ListLemmas.{Contains-cases, Contains-first, Contains-other, Contains-none, Contains-by, Contains-from, of_both, AllByRecursion-contained, AllPairs-append}
+use Rattle.mine_model.proofs.AnswerLemmas.{ComesBefore-chain}
+use Rattle.mine_model.proofs.ListLemmas.{Contains-cases, Contains-first, Contains-other, Contains-none, Contains-by, Contains-from, of_both, AllByRecursion-contained}
 use Rattle.mine_model.proofs.NameLemmas.{GrowBy-more, no_more_names, distinct_fit}
 use Rattle.item_names.proofs.Growing.{HasMoreNames-grown}
 use Rattle.item_names.proofs.FieldLemmas.{map-name_of-grown, AllNamed-grown}
@@ -306,8 +305,11 @@ module _ (threshold : ℕ) where
             no-text sound,
             inr (
               (λ other bad. bad.0 row (too-many-right row is next more)),
-              (subst (HasMoreNames most_items) (sym (names-more (earlier ++ lines) text row is))
-                  (HasMoreNames-grown most_items [] (names_of_lines (earlier ++ lines)) v.names row.pattern taken.rows.grown more), ap TooManyItems number),
+              (
+                subst (HasMoreNames most_items) (sym (names-more (earlier ++ lines) text row is))
+                    (HasMoreNames-grown most_items [] (names_of_lines (earlier ++ lines)) v.names row.pattern taken.rows.grown more),
+                ap TooManyItems number,
+              ),
             ),
           )
       line_refused names NoMemory sound why apart = absurd (apart refl)

@@ -76,7 +76,10 @@ impl LineVisitor for Merging {
         if self.rows.has(self.items.as_slice()) {
             return Err(MergeFault::BadRow { line: number });
         }
-        self.rows.push(self.items.as_slice(), said.support)?;
+        match self.rows.push(self.items.as_slice(), said.support) {
+            Ok(()) => {}
+            Err(_) => return Err(MergeFault::NoMemory),
+        }
         self.last.support = Some(said.support);
         mem::swap(&mut self.last.names, &mut self.joined);
         // Names differ, so a new list of items has new names.
@@ -166,7 +169,10 @@ fn read_all<F: Files>(
         Err(TextFault::ReadFault) => Err(MergeFault::ReadFault),
         Err(TextFault::TooLarge) => Err(MergeFault::TooLarge),
         Err(TextFault::BadByte { line, column }) => Err(MergeFault::BadByte { line, column }),
-        Err(TextFault::NameTooLong { line, column }) => Err(MergeFault::NameTooLong { line, column }),
+        Err(TextFault::NameTooLong { line, column }) => Err(MergeFault::NameTooLong {
+            line,
+            column,
+        }),
         Err(TextFault::Visitor(fault)) => Err(fault),
         Err(TextFault::NoMemory) => Err(MergeFault::NoMemory),
     }
