@@ -24,7 +24,7 @@ use Rattle.split_merge.specs.declared.faults.MergeFault.{MergeFault}
 use Rattle.split_merge.specs.declared.faults.MergeFault.TheVariants.{ReadFault, TooLarge, BadByte, NameTooLong, BadRow, TooManyItems, NoMemory}
 use Rattle.split_merge.specs.declared.reading.Merging.{Merging}
 use Rattle.split_merge.specs.Merging.{IsNameText, IsRowLine, IsSaid, IsRightLine, IsBadRow, names_of_lines, IsMergedLineRefusal, IsMergedFileRefusal}
-use Rattle.split_merge.specs.Rows.{HasPattern, AreSaid, AreRowsOf}
+use Rattle.split_merge.specs.Rows.{HasPattern, AreSaid, AreRowsOfLines}
 use Rattle.split_merge.specs.Taking.{joined_of, IsBehind, ComesNext, TookLine, IsWrong, IsLineFault, RefusedLine, IsLastRow, IsTaken}
 use Rattle.split_merge.proofs.LineLemmas.{one-row}
 use Rattle.split_merge.proofs.JoinLemmas.{behind-after, after-behind}
@@ -165,7 +165,7 @@ module _ (threshold : ℕ) where
       whole : (earlier ++ lines) ++ text ∷ [] ≡ earlier ++ (lines ++ text ∷ [])
       whole = append_assoc earlier lines (text ∷ [])
 
-      rows-more : AreRowsOf threshold ((earlier ++ lines) ++ text ∷ []) w.names w.rows
+      rows-more : AreRowsOfLines threshold ((earlier ++ lines) ++ text ∷ []) w.names w.rows
       unfolding row
       rows-more = record {
         named = subst (AllByRecursion (λ (r : Row). AllByRecursion (HasName w.names) r.pattern)) (sym took.pushed)
@@ -189,7 +189,7 @@ module _ (threshold : ℕ) where
       unfolding row
       IsTaken-more = record {
         same = took.same ∙ taken.same;
-        rows = subst (λ l. AreRowsOf threshold l w.names w.rows) whole rows-more;
+        rows = subst (λ l. AreRowsOfLines threshold l w.names w.rows) whole rows-more;
         distinct = took.distinct;
         room = took.room;
         last = inr (named_row w.names took.row, last-more lines v text (named_row w.names took.row) w.last.support w.last.names.items taken says took.next took.support took.last);
@@ -317,17 +317,17 @@ module _ (threshold : ℕ) where
 -- The whole file
 
 module _ (merging after : Merging) (room : length merging.names ≤ most_items) (distinct : AreDistinct merging.names) (first : merging.last.support ≡ None)
-    (earlier : List (List ℕ)) (rows : AreRowsOf merging.least earlier merging.names merging.rows) where
+    (earlier : List (List ℕ)) (rows : AreRowsOfLines merging.least earlier merging.names merging.rows) where
   start : IsTaken merging.least earlier [] merging
   start = record {
     same = refl;
-    rows = subst (λ l. AreRowsOf merging.least l merging.names merging.rows) (sym (append-nil earlier)) rows;
+    rows = subst (λ l. AreRowsOfLines merging.least l merging.names merging.rows) (sym (append-nil earlier)) rows;
     distinct = distinct;
     room = room;
     last = inl (refl, first);
   }
 
-  pub whole_taken : (lines : List (List ℕ)) → TookAll TookLine lines merging after → AreRowsOf merging.least (earlier ++ lines) after.names after.rows
+  pub whole_taken : (lines : List (List ℕ)) → TookAll TookLine lines merging after → AreRowsOfLines merging.least (earlier ++ lines) after.names after.rows
   whole_taken lines took = (IsTaken-all merging.least earlier [] lines 1 merging after start took.given).rows
 
   pub whole_accepted : (bytes : List ℕ) → length bytes ≤ most_file_bytes → TookAll TookLine (lines_of bytes) merging after

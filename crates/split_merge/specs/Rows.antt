@@ -20,7 +20,7 @@ AreSaid threshold (line ∷ lines) [] = ⊥
 AreSaid threshold (line ∷ lines) (row ∷ rows) = IsRowLine threshold line row × AreSaid threshold lines rows
 
 -- the lines say these rows, no two of one pattern, and the names are those of the lines
-pub record AreRowsOf (threshold : ℕ) (lines names : List (List ℕ)) (rows : List Row) : Type 0 where
+pub record AreRowsOfLines (threshold : ℕ) (lines names : List (List ℕ)) (rows : List Row) : Type 0 where
   pub named : AllByRecursion (λ row. AllByRecursion (HasName names) row.pattern) rows
   pub said : AreSaid threshold lines (map (named_row names) rows)
   pub differ : PatternsDiffer rows

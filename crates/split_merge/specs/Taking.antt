@@ -18,7 +18,7 @@ use Rattle.split_merge.specs.declared.faults.MergeFault.{MergeFault}
 use Rattle.split_merge.specs.declared.faults.MergeFault.TheVariants.{ReadFault, TooLarge, BadByte, NameTooLong, BadRow, TooManyItems, NoMemory}
 use Rattle.split_merge.specs.declared.reading.Merging.{Merging}
 use Rattle.split_merge.specs.Merging.{IsRowLine, IsSaid}
-use Rattle.split_merge.specs.Rows.{HasPattern, AreRowsOf}
+use Rattle.split_merge.specs.Rows.{HasPattern, AreRowsOfLines}
 
 -- the names of a row, joined
 abbrev pub joined_of : NamedRow → List ℕ
@@ -100,7 +100,7 @@ IsLastOf threshold lines support names =
 -- these lines of a file were read, behind the lines of the files before
 pub record IsTaken (threshold : ℕ) (earlier lines : List (List ℕ)) (merging : Merging) : Type 0 where
   pub same : merging.least ≡ threshold
-  pub rows : AreRowsOf threshold (earlier ++ lines) merging.names merging.rows
+  pub rows : AreRowsOfLines threshold (earlier ++ lines) merging.names merging.rows
   pub distinct : AreDistinct merging.names
   pub room : length merging.names ≤ most_items
   pub last : IsLastOf threshold lines merging.last.support merging.last.names.items

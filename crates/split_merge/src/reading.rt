@@ -8,7 +8,7 @@ ghost use Rattle.mine_model.specs.Text.{lines_of};
 ghost use Rattle.text_ports.specs.Faults.{Rose};
 ghost use Rattle.text_ports.specs.Lines.{OfBytes};
 ghost use Rattle.split_merge.specs.Merging.{IsMergedFileRefusal};
-ghost use Rattle.split_merge.specs.Rows.{AreRowsOf};
+ghost use Rattle.split_merge.specs.Rows.{AreRowsOfLines};
 ghost use Rattle.split_merge.specs.Taking.{IsBehind, TookLine, RefusedLine};
 
 use super::faults::MergeFault;
@@ -100,14 +100,14 @@ pub fn read_rows<F: Files>(
     held: &mut MergedRows,
 ) -> Result<(), MergeFault>
     requires may { IsTrue (F.may files.old name.now) }
-    ensures rows { (lines : List (List ℕ)) → AreRowsOf support lines names.old held.old
+    ensures rows { (lines : List (List ℕ)) → AreRowsOfLines support lines names.old held.old
         → OnOk result (IfSome (F.holds files.old name.now) (λ bytes.
-        AreRowsOf support (lines ++ lines_of bytes) names.new held.new)) }
-    ensures accepted { (lines : List (List ℕ)) → AreRowsOf support lines names.old held.old
+        AreRowsOfLines support (lines ++ lines_of bytes) names.new held.new)) }
+    ensures accepted { (lines : List (List ℕ)) → AreRowsOfLines support lines names.old held.old
         → OnOk result (IfSome (F.holds files.old name.now) (λ bytes.
         (fault : MergeFault) → IsMergedFileRefusal support lines bytes fault → ⊥)) }
     ensures refused { (lines : List (List ℕ)) (fault : MergeFault)
-        → AreRowsOf support lines names.old held.old → result ≡ Err fault
+        → AreRowsOfLines support lines names.old held.old → result ≡ Err fault
         → fault ≢ MergeFault.ReadFault → fault ≢ MergeFault.NoMemory
         → IfSome (F.holds files.old name.now) (λ bytes. IsMergedFileRefusal support lines bytes fault) }
     ensures failed { result ≡ Err MergeFault.ReadFault → Rose (F.faults files.old) (F.faults files.new) }
@@ -147,14 +147,14 @@ fn read_all<F: Files>(
     requires room { length merging.old.names ≤ most_items }
     requires distinct { AreDistinct merging.old.names }
     requires first { merging.old.last.support ≡ None }
-    ensures rows { (lines : List (List ℕ)) → AreRowsOf merging.old.least lines merging.old.names merging.old.rows
+    ensures rows { (lines : List (List ℕ)) → AreRowsOfLines merging.old.least lines merging.old.names merging.old.rows
         → OnOk result (IfSome (F.holds files.old name.now) (λ bytes.
-        AreRowsOf merging.old.least (lines ++ lines_of bytes) merging.new.names merging.new.rows)) }
-    ensures accepted { (lines : List (List ℕ)) → AreRowsOf merging.old.least lines merging.old.names merging.old.rows
+        AreRowsOfLines merging.old.least (lines ++ lines_of bytes) merging.new.names merging.new.rows)) }
+    ensures accepted { (lines : List (List ℕ)) → AreRowsOfLines merging.old.least lines merging.old.names merging.old.rows
         → OnOk result (IfSome (F.holds files.old name.now) (λ bytes.
         (fault : MergeFault) → IsMergedFileRefusal merging.old.least lines bytes fault → ⊥)) }
     ensures refused { (lines : List (List ℕ)) (fault : MergeFault)
-        → AreRowsOf merging.old.least lines merging.old.names merging.old.rows → result ≡ Err fault
+        → AreRowsOfLines merging.old.least lines merging.old.names merging.old.rows → result ≡ Err fault
         → fault ≢ MergeFault.ReadFault → fault ≢ MergeFault.NoMemory
         → IfSome (F.holds files.old name.now) (λ bytes. IsMergedFileRefusal merging.old.least lines bytes fault) }
     ensures failed { result ≡ Err MergeFault.ReadFault → Rose (F.faults files.old) (F.faults files.new) }
