@@ -1,0 +1,50 @@
+use Rattle.std.proofs.Common.{List, ℕ, Bool, true, false, length, refl, sym, subst}
+use Rattle.mine_model.specs.declared.mined.Work.{Work}
+use Rattle.mine_model.specs.Ranks.{Ranking}
+use Rattle.fst_simulate.specs.Problems.{data_of}
+use Rattle.pivot_partition.specs.Pivots.{pivots_in}
+use Rattle.search_engine.specs.Partition.{AreAlivePivots, IsWorkFor}
+use Rattle.search_engine.specs.Searches.{tree_of}
+use Rattle.search_engine.proofs.PartitionLemmas.{all-parts-rows, all-parts-work}
+use Rattle.search_engine.proofs.SearchLemmas.{items-known, walks-work, walks-frequent, walks-within}
+use Rattle.search_engine.proofs.mining.mine.Goals as goal
+
+pub mine_parts-requires-clause-alive : goal.mine_parts-requires-clause-alive
+mine_parts-requires-clause-alive g c κs within pivot held = (c.in_ok-seeds.ensures.alive pivot).0 held
+
+pub returns-then-is_split-clause-frequent : goal.returns-then-is_split-clause-frequent
+returns-then-is_split-clause-frequent g c =
+    let whole = c.hierarchy.ensures.whole in
+    let ends = rw c.hierarchy.ensures.hierarchy at c.items-items.ensures.within in
+    all-parts-rows (data_of c.args.job.now) c.args.job.now.ranking whole.ranks (pivots_in c.in_ok-seeds.seeds.items)
+    (record { rising = c.in_ok-seeds.ensures.rising; exact = c.in_ok-seeds.ensures.alive }) (items-known c.args.job.now whole ends)
+    c.in_ok-mined.mined.rows.items c.in_ok-mined.ensures.once c.in_ok-mined.ensures.rows
+
+pub returns-then-is_split-clause-work : goal.returns-then-is_split-clause-work
+returns-then-is_split-clause-work g c =
+    let whole = c.hierarchy.ensures.whole in
+    subst (λ (split : Bool). IsWorkFor split (data_of c.args.job.now) c.args.job.now.ranking.order c.in_ok-mined.mined.work) (sym c.if-is_split.true)
+    (all-parts-work (data_of c.args.job.now) c.args.job.now.ranking whole.ranks (pivots_in c.in_ok-seeds.seeds.items)
+    (record { rising = c.in_ok-seeds.ensures.rising; exact = c.in_ok-seeds.ensures.alive }) c.in_ok-mined.mined.work c.in_ok-mined.ensures.work)
+
+pub returns-clause-frequent : goal.returns-clause-frequent
+returns-clause-frequent g c =
+    let ends = rw c.hierarchy.ensures.hierarchy at c.items-items.ensures.within in
+    let (labels, covers, are, work) = c.in_ok-mined-2.ensures in
+    walks-frequent c.args.job.now c.hierarchy.ensures.whole c.in_ok-search.search c.in_ok-search.ensures.problem false c.in_ok-search.ensures.pivots
+    labels covers ends c.in_ok-mined-2.mined.rows.items are
+
+pub returns-clause-items : goal.returns-clause-items
+returns-clause-items g c =
+    let ends = rw c.hierarchy.ensures.hierarchy at c.items-items.ensures.within in
+    let (labels, covers, are, work) = c.in_ok-mined-2.ensures in
+    walks-within c.args.job.now c.hierarchy.ensures.whole c.in_ok-search.search c.in_ok-search.ensures.problem false c.in_ok-search.ensures.pivots
+    labels covers ends c.in_ok-mined-2.mined.rows.items are
+
+pub returns-clause-work : goal.returns-clause-work
+returns-clause-work g c =
+    let (labels, covers, are, work) = c.in_ok-mined-2.ensures in
+    let counted = walks-work c.args.job.now c.hierarchy.ensures.whole c.in_ok-search.search c.in_ok-search.ensures.problem false c.in_ok-search.ensures.pivots
+    labels covers (length labels) (length (tree_of c.in_ok-search.search).roots) refl refl in
+    subst (λ (split : Bool). IsWorkFor split (data_of c.args.job.now) c.args.job.now.ranking.order c.in_ok-mined-2.mined.work) (sym c.if-is_split.false)
+    (subst (λ (w : Work). IsWorkFor false (data_of c.args.job.now) c.args.job.now.ranking.order w) (sym work) counted)
