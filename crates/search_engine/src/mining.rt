@@ -102,7 +102,11 @@ fn mined_by<R: Threads + Wait + Sync, G: Gate>(
     ensures { IfOk result (λ mined. (labels : List (List ℕ))
         × Covers (tree_of search.now).roots (tree_of search.now).kids labels
         × (mined.rows.items ≡ filter_map (tree_of search.now).row labels)
-        × (mined.work ≡ record { nodes = length labels; parts = length (tree_of search.now).roots; candidates = 0 })) }
+        × (mined.work ≡ record {
+          nodes = length labels;
+          parts = length (tree_of search.now).roots;
+          candidates = 0;
+        })) }
 {
     // Each accessor of the job says that it is whole.
     let _support = job.support();

@@ -25,7 +25,8 @@ abbrev pub joined_of : NamedRow → List ℕ
 joined_of row = join_with_byte space row.pattern
 
 -- the line says the row with this support and the names at these spans
-pub record IsSaidBy (least : ℕ) (text : List ℕ) (support : ℕ) (spans : List Span) (joined : List ℕ) : Type 0 where
+pub record IsSaidBy (least : ℕ) (text : List ℕ) (support : ℕ) (spans : List Span) (joined : List ℕ)
+    : Type 0 where
   pub says : IsRowLine least text (record { pattern = texts_at text spans; support = support })
   pub within : All (IsWithin (length text)) spans
   pub joined_is : joined ≡ join_with_byte space (texts_at text spans)

@@ -21,7 +21,8 @@ use std::cmp::Ordering;
 use std::mem;
 use text_ports::{Files, LineVisitor, Span, TextFault, read_lines};
 
-/// The row before in the same file: its support, none before the first row, and its names joined by one space.
+/// The row before in the same file: its support, none before the first row, and its names joined by one
+/// space.
 #[derive(Drop)]
 pub(crate) struct Last {
     support: Option<u64>,
@@ -29,8 +30,8 @@ pub(crate) struct Last {
 }
 
 impl Last {
-    /// Whether a row with this support and these names, joined by one space, comes behind. Joined names compare
-    /// as names one by one do, since the space is less than each byte of a name.
+    /// Whether a row with this support and these names, joined by one space, comes behind. Joined names
+    /// compare as names one by one do, since the space is less than each byte of a name.
     fn is_before(&self, support: u64, names: &[u8]) -> bool
         ensures { IsTrue result ↔ IsBehind self.now.support self.now.names.items support names.now }
     {
@@ -88,9 +89,9 @@ impl LineVisitor for Merging {
     }
 }
 
-/// Adds the rows of a file of an output to those held, by the numbers of their names. A new name gets the next
-/// number. A support must be at least `support`. The file must be in the order of an answer, and no pattern may
-/// be held already. After a refusal the rows and the names of the lines before are held as well.
+/// Adds the rows of a file of an output to those held, by the numbers of their names. A new name gets the
+/// next number. A support must be at least `support`. The file must be in the order of an answer, and no
+/// pattern may be held already. After a refusal the rows and the names of the lines before are held as well.
 pub fn read_rows<F: Files>(
     alloc: Global,
     files: &mut F,
@@ -147,16 +148,19 @@ fn read_all<F: Files>(
     requires room { length merging.old.names ≤ most_items }
     requires distinct { AreDistinct merging.old.names }
     requires first { merging.old.last.support ≡ None }
-    ensures rows { (lines : List (List ℕ)) → AreRowsOfLines merging.old.least lines merging.old.names merging.old.rows
+    ensures rows { (lines : List (List ℕ))
+        → AreRowsOfLines merging.old.least lines merging.old.names merging.old.rows
         → OnOk result (IfSome (F.holds files.old name.now) (λ bytes.
         AreRowsOfLines merging.old.least (lines ++ lines_of bytes) merging.new.names merging.new.rows)) }
-    ensures accepted { (lines : List (List ℕ)) → AreRowsOfLines merging.old.least lines merging.old.names merging.old.rows
+    ensures accepted { (lines : List (List ℕ))
+        → AreRowsOfLines merging.old.least lines merging.old.names merging.old.rows
         → OnOk result (IfSome (F.holds files.old name.now) (λ bytes.
         (fault : MergeFault) → IsMergedFileRefusal merging.old.least lines bytes fault → ⊥)) }
     ensures refused { (lines : List (List ℕ)) (fault : MergeFault)
         → AreRowsOfLines merging.old.least lines merging.old.names merging.old.rows → result ≡ Err fault
         → fault ≢ MergeFault.ReadFault → fault ≢ MergeFault.NoMemory
-        → IfSome (F.holds files.old name.now) (λ bytes. IsMergedFileRefusal merging.old.least lines bytes fault) }
+        → IfSome (F.holds files.old name.now) (λ bytes.
+        IsMergedFileRefusal merging.old.least lines bytes fault) }
     ensures failed { result ≡ Err MergeFault.ReadFault → Rose (F.faults files.old) (F.faults files.new) }
     ensures kept_names { (added : List (List ℕ)) × (merging.new.names ≡ merging.old.names ++ added) }
     ensures kept_rows { (added : List Row) × (merging.new.rows ≡ merging.old.rows ++ added) }

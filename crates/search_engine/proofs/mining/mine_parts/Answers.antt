@@ -19,8 +19,8 @@ returns-clause-items g c =
     let ends = rw c.hierarchy.ensures.hierarchy at c.items-items.ensures.within in
     let (labels, covers, are, work) = c.in_ok-mined.ensures in
     λ row held. frequent-within c.args.job.now c.hierarchy.ensures.whole ends row
-        ((walks-parts-rows c.args.job.now c.hierarchy.ensures.whole c.by_seeds-search.result c.by_seeds-search.ensures.problem _ c.by_seeds-search.ensures.pivots c.requires.rising c.requires.alive
-        labels covers c.in_ok-mined.mined.rows.items are (items-known c.args.job.now c.hierarchy.ensures.whole ends) row).0 held).0
+    ((walks-parts-rows c.args.job.now c.hierarchy.ensures.whole c.by_seeds-search.result c.by_seeds-search.ensures.problem _ c.by_seeds-search.ensures.pivots c.requires.rising c.requires.alive
+    labels covers c.in_ok-mined.mined.rows.items are (items-known c.args.job.now c.hierarchy.ensures.whole ends) row).0 held).0
 
 pub returns-clause-work : goal.returns-clause-work
 returns-clause-work g c =
