@@ -7,8 +7,9 @@ use Rattle.mine_model.specs.declared.row.Row.{Row}
 use Rattle.mine_model.specs.Candidates.{IsFrequentItem}
 use Rattle.search_tree.specs.Cover.{Covers, down_to}
 use Rattle.mine_model.specs.Growth.{HasPatternBehind}
-use Rattle.mine_model.specs.Numbered.{tree_of as expression_of, AreFrequent}
-use Rattle.mine_model.specs.Pivots.{IsWithinPivot}
+use Rattle.mine_model.specs.Answer.{IsFrequent}
+use Rattle.mine_model.specs.Numbered.{tree_of as expression_of, PatternsDiffer, AreFrequent}
+use Rattle.mine_model.specs.Pivots.{IsWithinPivot, IsAliveLabel}
 use Rattle.search_tree.specs.SearchTree.{IsRowOf, AreKids, AreRootsOf, IsSearchTree}
 use Rattle.mine_model.specs.Support.{HasFrequency}
 use Rattle.mine_model.proofs.FrequencyLemmas.{frequent-items, frequencies-known, HasFrequency-within}
@@ -22,9 +23,9 @@ use Rattle.dfs_growth.specs.Nodes.{Prefix, label_at}
 use Rattle.dfs_growth.specs.Tree.{search_tree, roots_by, kids_by, row_by}
 use Rattle.dfs_growth.proofs.TreeLemmas.{search_tree-is}
 use Rattle.result_board.specs.Board.{HasRow}
-use Rattle.search_engine.specs.Partition.{ArePivotsFor, IsWorkFor}
+use Rattle.search_engine.specs.Partition.{HasPivotAmong, IsPartsWork, ArePivotsFor, IsWorkFor}
 use Rattle.search_engine.specs.Searches.{Search, tree_of}
-use Rattle.search_engine.proofs.PartitionLemmas.{partition-rows, partition-work}
+use Rattle.search_engine.proofs.PartitionLemmas.{parts-once, parts-rows, parts-work, partition-rows, partition-work}
 
 -- a seed with the pivot takes the sequence
 abbrev Takes : Problem → Option ℕ → ℕ → Type 0
@@ -80,6 +81,22 @@ walks-rows problem whole search same (pivot ∷ ranks) long =
     subst (λ (p : Problem). IsRowOf (data_of problem) problem.ranking.order pivot ranks (row_by p (pivot ∷ ranks))) (sym same)
     ((search_tree-is problem whole []).row pivot ranks)
 
+-- The items of a problem whose links lead to its items alone
+
+module _ (problem : Problem) (whole : IsWhole problem)
+    (ends : All (λ link. (link.child.0 < problem.hierarchy.items) × (link.parent.0 < problem.hierarchy.items)) problem.hierarchy.links) where
+  pub items-known : (w : Item) → (m : ℕ) × HasFrequency problem.hierarchy.links problem.sequences w m
+  items-known = frequencies-known problem.hierarchy.links problem.hierarchy.items ends problem.sequences problem.ranking.frequencies whole.items whole.ranked whole.ranks.exact
+
+  -- a frequent pattern has items of the problem
+  pub frequent-within : (row : Row) → IsFrequent (data_of problem) row.pattern row.support → AllByRecursion (λ (t : Item). t.0 < problem.hierarchy.items) row.pattern
+  frequent-within row is =
+      AllByRecursion-weaker (IsFrequentItem problem.hierarchy.links problem.sequences problem.threshold) (λ (t : Item). t.0 < problem.hierarchy.items)
+      (λ v frequent. HasFrequency-within problem.hierarchy.links problem.hierarchy.items ends problem.sequences v frequent.frequency whole.items frequent.exact
+      (omega (arith, whole.least, frequent.enough)))
+      row.pattern
+      (frequent-items problem.hierarchy.links problem.sequences items-known problem.threshold (expression_of problem.machine.expression) row.pattern row.support is.exact is.enough)
+
 -- a search of the problem, split by pivots or not
 module _ (problem : Problem) (whole : IsWhole problem) (search : Search) (same : search.problem ≡ problem) where
   pub walks-tree : IsSearchTree (data_of problem) problem.ranking.order search.pivots (tree_of search)
@@ -103,24 +120,37 @@ module _ (problem : Problem) (whole : IsWhole problem) (search : Search) (same :
 
     module _ (ends : All (λ link. (link.child.0 < problem.hierarchy.items) × (link.parent.0 < problem.hierarchy.items)) problem.hierarchy.links)
         (rows : List Row) (are : rows ≡ filter_map (tree_of search).row labels) where
-      known : (w : Item) → (m : ℕ) × HasFrequency problem.hierarchy.links problem.sequences w m
-      known = frequencies-known problem.hierarchy.links problem.hierarchy.items ends problem.sequences problem.ranking.frequencies whole.items whole.ranked whole.ranks.exact
-
       rows-for : (split : Bool) → ArePivotsFor split (data_of problem) problem.ranking.order search.pivots
           → AreFrequent (data_of problem) (filter_map (tree_of search).row labels)
       rows-for false one =
           search-rows (data_of problem) problem.ranking whole.ranks (tree_of search) (subst (λ p. IsSearchTree (data_of problem) problem.ranking.order p (tree_of search)) one walks-tree)
-          labels covers known
-      rows-for true alive = partition-rows (data_of problem) problem.ranking whole.ranks search.pivots alive (tree_of search) walks-tree labels covers known
+          labels covers (items-known problem whole ends)
+      rows-for true alive = partition-rows (data_of problem) problem.ranking whole.ranks search.pivots alive (tree_of search) walks-tree labels covers (items-known problem whole ends)
 
       pub walks-frequent : AreFrequent (data_of problem) rows
       walks-frequent = subst (AreFrequent (data_of problem)) (sym are) (rows-for split are_for)
 
       pub walks-within : (row : Row) → Contains rows row → AllByRecursion (λ (t : Item). t.0 < problem.hierarchy.items) row.pattern
-      walks-within row held =
-          let is = (walks-frequent.frequent row).0 held in
-          AllByRecursion-weaker (IsFrequentItem problem.hierarchy.links problem.sequences problem.threshold) (λ (t : Item). t.0 < problem.hierarchy.items)
-          (λ v frequent. HasFrequency-within problem.hierarchy.links problem.hierarchy.items ends problem.sequences v frequent.frequency whole.items frequent.exact
-          (omega (arith, whole.least, frequent.enough)))
-          row.pattern
-          (frequent-items problem.hierarchy.links problem.sequences known problem.threshold (expression_of problem.machine.expression) row.pattern row.support is.exact is.enough)
+      walks-within row held = frequent-within problem whole ends row ((walks-frequent.frequent row).0 held)
+
+-- a search of the problem by the pivots of seeds
+module _ (problem : Problem) (whole : IsWhole problem) (search : Search) (same : search.problem ≡ problem) (pivots : List ℕ) (are_pivots : search.pivots ≡ pivots)
+    (rising : AllPairs (λ low high. low < high) pivots) (each : (pivot : ℕ) → Contains pivots pivot → (1 ≤ pivot) × IsAliveLabel (data_of problem) problem.ranking.order pivot [])
+    (labels : List (List ℕ)) (covers : Covers (tree_of search).roots (tree_of search).kids labels) where
+  parts-tree : IsSearchTree (data_of problem) problem.ranking.order pivots (tree_of search)
+  parts-tree = subst (λ p. IsSearchTree (data_of problem) problem.ranking.order p (tree_of search)) are_pivots (walks-tree problem whole search same)
+
+  pub walks-parts-work : (work : Work) → work ≡ record { nodes = length labels; parts = length (tree_of search).roots; candidates = 0 }
+      → IsPartsWork (data_of problem) problem.ranking.order pivots work
+  walks-parts-work work is =
+      subst (IsPartsWork (data_of problem) problem.ranking.order pivots) (sym is) (parts-work (data_of problem) problem.ranking whole.ranks pivots rising each (tree_of search) parts-tree labels covers)
+
+  module _ (rows : List Row) (are : rows ≡ filter_map (tree_of search).row labels) where
+    pub walks-parts-once : PatternsDiffer rows
+    walks-parts-once = subst PatternsDiffer (sym are) (parts-once (data_of problem) problem.ranking whole.ranks pivots rising each (tree_of search) parts-tree labels covers)
+
+    pub walks-parts-rows : ((w : Item) → (m : ℕ) × HasFrequency problem.hierarchy.links problem.sequences w m) → (row : Row) → Contains rows row
+        ↔ (IsFrequent (data_of problem) row.pattern row.support × HasPivotAmong problem.ranking.order pivots row.pattern)
+    walks-parts-rows known row =
+        subst (λ (l : List Row). Contains l row ↔ (IsFrequent (data_of problem) row.pattern row.support × HasPivotAmong problem.ranking.order pivots row.pattern)) (sym are)
+        (parts-rows (data_of problem) problem.ranking whole.ranks pivots rising each (tree_of search) parts-tree labels covers known row)

@@ -4,12 +4,27 @@ use Rattle.mine_model.specs.declared.item.Item.{Item}
 use Rattle.mine_model.specs.declared.mined.Work.{Work}
 use Rattle.mine_model.specs.Answer.{Data}
 use Rattle.mine_model.specs.Growth.{IsSearchWork}
-use Rattle.mine_model.specs.Pivots.{label_of, IsAliveLabel}
+use Rattle.mine_model.specs.Pivots.{label_of, IsWithinPivot, IsAliveLabel}
 
 -- the pivots under whose bounds the empty prefix is alive, rising
 pub record AreAlivePivots (d : Data Item) (order : List Item) (pivots : List ℕ) : Type 0 where
   pub rising : AllPairs (λ low high. low < high) pivots
   pub exact : (pivot : ℕ) → Contains pivots pivot ↔ ((1 ≤ pivot) × IsAliveLabel d order pivot [])
+
+-- the pivot of the items is one of these
+abbrev pub HasPivotAmong : List Item → List ℕ → List Item → Type 0
+HasPivotAmong order pivots items = (pivot : ℕ) × Contains pivots pivot × IsWithinPivot order pivot items
+
+-- the work of a search by these pivots, all alive: its nodes are their alive labels, and each has a part
+pub record IsPartsWork (d : Data Item) (order : List Item) (pivots : List ℕ) (work : Work) : Type 0 where
+  pub labels : List (List ℕ)
+  pub once : AllPairs (λ first second. first ≢ second) labels
+  pub alive : (label : List ℕ) → Contains labels label
+      ↔ ((pivot : ℕ) × (ranks : List ℕ) × Contains pivots pivot × (label ≡ label_of pivot ranks)
+      × IsAliveLabel d order pivot ranks)
+  pub nodes : work.nodes ≡ length labels
+  pub parts : work.parts ≡ length pivots
+  pub candidates : work.candidates ≡ 0
 
 -- the work of a search by pivots: its nodes are the alive labels of pivots, and each alive pivot has a part
 pub record IsPartitionWork (d : Data Item) (order : List Item) (work : Work) : Type 0 where

@@ -13,7 +13,7 @@ mod workers;
 mod working;
 
 pub use laws::rows_of_the_trees_of_pivots_are_the_frequent_patterns;
-pub use mining::mine;
+pub use mining::{mine, mine_parts};
 pub use simulating::simulate;
 pub use steer::Steer;
 pub use workers::posted;

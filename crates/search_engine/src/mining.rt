@@ -1,17 +1,24 @@
 //! Mining by workers that steal.
 
-ghost use Rattle.std.specs.Prelude.{◌≡◌, ◌≤◌, ◌<◌, Contains, IfOk};
-ghost use Rattle.std.specs.List.{AllByRecursion};
+ghost use Rattle.std.specs.Prelude.{◌≡◌, ℕ, ◌≤◌, ◌<◌, ◌↔◌, List, [], All, AllPairs, Contains, length, IfOk};
+ghost use Rattle.std.specs.List.{AllByRecursion, filter_map};
 ghost use Rattle.mine_model.specs.declared.row.Row.{Row};
+ghost use Rattle.mine_model.specs.Answer.{IsFrequent};
+ghost use Rattle.search_tree.specs.Cover.{Covers};
 ghost use Rattle.mine_model.specs.Limits.{most_workers};
-ghost use Rattle.mine_model.specs.Numbered.{AreFrequent};
+ghost use Rattle.mine_model.specs.Numbered.{PatternsDiffer, AreFrequent};
+ghost use Rattle.mine_model.specs.Pivots.{IsAliveLabel};
 ghost use Rattle.mining_job.specs.Problems.{data_of};
-ghost use Rattle.search_engine.specs.Partition.{IsWorkFor};
+ghost use Rattle.mining_job.specs.Parts.{IsComplete};
+ghost use Rattle.pivot_partition.specs.Pivots.{pivots_in};
+ghost use Rattle.search_engine.specs.Partition.{HasPivotAmong, IsPartsWork, IsWorkFor};
+ghost use Rattle.search_engine.specs.Searches.{tree_of};
 
 use super::search::Search;
 use super::workers::posted;
 use mine_model::{Gate, Mined, NoMemory, Work};
-use mining_job::Job;
+use mining_job::{Job, PartSeed};
+use pivot_partition::split;
 use search_tree::Grow;
 use std::alloc::Global;
 use std::sync::Wait;
@@ -24,7 +31,7 @@ pub fn mine<R: Threads + Wait + Sync, G: Gate>(
     rt: &R,
     alloc: Global,
     job: &Job,
-    split: bool,
+    is_split: bool,
     workers: u32,
     gate: &G,
 ) -> Result<Mined, NoMemory>
@@ -34,14 +41,78 @@ pub fn mine<R: Threads + Wait + Sync, G: Gate>(
     ensures items { IfOk result (λ mined. (row : Row) → Contains mined.rows.items row
         → AllByRecursion (λ t. t.0 < job.now.hierarchy.items) row.pattern) }
     ensures work { IfOk result (λ mined.
-        IsWorkFor split (data_of job.now) job.now.ranking.order mined.work) }
+        IsWorkFor is_split (data_of job.now) job.now.ranking.order mined.work) }
 {
     // The contract of `items` says that no link leads out of the items, so neither does a pattern.
     let _items = job.hierarchy().items();
-    let search = Search::of(rt, alloc, job, split, workers)?;
+    if is_split {
+        let seeds = split(rt, alloc, job, workers)?;
+        let mined = mine_parts(rt, alloc, job, seeds, workers, gate)?;
+        return Ok(mined);
+    }
+    let search = Search::new(alloc, job)?;
+    let mined = mined_by(rt, alloc, job, &search, workers, gate)?;
+    Ok(mined)
+}
+
+/// The frequent patterns of a job whose pivots are those of the seeds, each once and in any order, with their
+/// supports, and the work of the search for them. Each worker has a thread of its own, where one can be made,
+/// and passes the gate before each node that it grows.
+pub fn mine_parts<R: Threads + Wait + Sync, G: Gate>(
+    rt: &R,
+    alloc: Global,
+    job: &Job,
+    seeds: Vec<PartSeed>,
+    workers: u32,
+    gate: &G,
+) -> Result<Mined, NoMemory>
+    requires complete { All (IsComplete job.now) seeds.items }
+    requires rising { AllPairs (λ low high. low < high) (pivots_in seeds.items) }
+    requires alive { (pivot : ℕ) → Contains (pivots_in seeds.items) pivot
+        → (1 ≤ pivot) × IsAliveLabel (data_of job.now) job.now.ranking.order pivot [] }
+    requires some { 1 ≤ workers }
+    requires few { workers ≤ most_workers }
+    ensures once { IfOk result (λ mined. PatternsDiffer mined.rows.items) }
+    ensures rows { IfOk result (λ mined. (row : Row) → Contains mined.rows.items row
+        ↔ (IsFrequent (data_of job.now) row.pattern row.support
+        × HasPivotAmong job.now.ranking.order (pivots_in seeds.items) row.pattern)) }
+    ensures items { IfOk result (λ mined. (row : Row) → Contains mined.rows.items row
+        → AllByRecursion (λ t. t.0 < job.now.hierarchy.items) row.pattern) }
+    ensures work { IfOk result (λ mined.
+        IsPartsWork (data_of job.now) job.now.ranking.order (pivots_in seeds.items) mined.work) }
+{
+    let _items = job.hierarchy().items();
+    let search = Search::by_seeds(job, seeds);
+    let mined = mined_by(rt, alloc, job, &search, workers, gate)?;
+    Ok(mined)
+}
+
+// The rows of the labels of the search's tree, and how many labels and roots there are.
+fn mined_by<R: Threads + Wait + Sync, G: Gate>(
+    rt: &R,
+    alloc: Global,
+    job: &Job,
+    search: &Search,
+    workers: u32,
+    gate: &G,
+) -> Result<Mined, NoMemory>
+    requires problem { search.now.problem ≡ job.now }
+    requires some { 1 ≤ workers }
+    requires few { workers ≤ most_workers }
+    ensures { IfOk result (λ mined. (labels : List (List ℕ))
+        × Covers (tree_of search.now).roots (tree_of search.now).kids labels
+        × (mined.rows.items ≡ filter_map (tree_of search.now).row labels)
+        × (mined.work ≡ record {
+          nodes = length labels;
+          parts = length (tree_of search.now).roots;
+          candidates = 0;
+        })) }
+{
+    // Each accessor of the job says that it is whole.
+    let _support = job.support();
     let roots = search.roots(alloc)?;
     let parts = roots.len() as u64;
-    let board = posted(rt, alloc, &search, job, job, roots, workers, gate)?;
+    let board = posted(rt, alloc, search, job, job, roots, workers, gate)?;
     let (rows, nodes) = board.into_parts();
     Ok(Mined {
         rows,

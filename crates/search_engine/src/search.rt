@@ -1,19 +1,19 @@
 //! The search by prefixes of a job.
-ghost use Rattle.std.specs.Prelude.{◌≡◌, ℕ, ◌≤◌, [], ◌∷◌, map, All, IfOk};
+ghost use Rattle.std.specs.Prelude.{◌≡◌, [], ◌∷◌, map, All, IfOk};
 ghost use Rattle.mining_job.specs.declared.part_seed.PartSeed.{PartSeed as Seed};
 ghost use Rattle.mining_job.specs.Problems.{Problem, IsWhole, data_of};
 ghost use Rattle.mining_job.specs.Parts.{pivot_of, IsComplete};
-ghost use Rattle.search_engine.specs.Partition.{AreAlivePivots, ArePivotsFor};
+ghost use Rattle.pivot_partition.specs.Pivots.{pivots_in};
+ghost use Rattle.search_engine.specs.Partition.{ArePivotsFor};
 
 use dfs_growth::{Node, expand, roots, whole};
 use mine_model::NoMemory;
 use mining_job::{Job, PartSeed};
-use pivot_partition::{split, split_alone};
+use pivot_partition::split_alone;
 use search_tree::{Grow, Grown};
 use snapshot_project::Room;
 use std::alloc::Global;
 use std::marker::Model;
-use std::thread::Threads;
 
 /// A job with the seeds of the roots of its search tree.
 #[derive(Drop)]
@@ -73,47 +73,17 @@ impl<'a> Search<'a> {
         Ok(Search { job, seeds })
     }
 
-    /// The search by pivots: it has a seed for each pivot whose sequences weigh enough. So many threads look
-    /// for them.
-    fn by_pivots<R: Threads + Sync>(
-        rt: &R,
-        alloc: Global,
-        job: &'a Job,
-        threads: u32,
-    ) -> Result<Search<'a>, NoMemory>
-        requires least { 1 ≤ threads }
-        requires most { threads ≤ 64 }
-        ensures problem { IfOk result (λ search. search.problem ≡ job.now) }
-        ensures pivots { IfOk result (λ search.
-            AreAlivePivots (data_of job.now) job.now.ranking.order search.pivots) }
+    /// The search by the pivots of these seeds.
+    pub(crate) fn by_seeds(job: &'a Job, seeds: Vec<PartSeed>) -> Search<'a>
+        requires { All (IsComplete job.now) seeds.items }
+        ensures problem { result.problem ≡ job.now }
+        ensures pivots { result.pivots ≡ pivots_in seeds.items }
     {
         let _support = job.support();
-        let seeds = split(rt, alloc, job, threads)?;
-        Ok(Search { job, seeds })
+        Search { job, seeds }
     }
 
-    /// The search of the job, split by pivots or not. So many threads look for the pivots.
-    pub(crate) fn of<R: Threads + Sync>(
-        rt: &R,
-        alloc: Global,
-        job: &'a Job,
-        is_split: bool,
-        threads: u32,
-    ) -> Result<Search<'a>, NoMemory>
-        requires least { 1 ≤ threads }
-        requires most { threads ≤ 64 }
-        ensures problem { IfOk result (λ search. search.problem ≡ job.now) }
-        ensures pivots { IfOk result (λ search.
-            ArePivotsFor is_split (data_of job.now) job.now.ranking.order search.pivots) }
-    {
-        if is_split {
-            Search::by_pivots(rt, alloc, job, threads)
-        } else {
-            Search::new(alloc, job)
-        }
-    }
-
-    /// The same search, whose pivots are looked for in this thread.
+    /// The search of the job, split by pivots or not. The pivots are looked for in this thread.
     pub(crate) fn alone(alloc: Global, job: &'a Job, is_split: bool) -> Result<Search<'a>, NoMemory>
         ensures problem { IfOk result (λ search. search.problem ≡ job.now) }
         ensures pivots { IfOk result (λ search.
