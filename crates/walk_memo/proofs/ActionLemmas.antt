@@ -1,11 +1,10 @@
 -- The actions that a loop over states writes.
-use Rattle.std.proofs.Common.{◌≡◌, ℕ, zero, suc, ◌-◌, ◌<◌, ◌≤◌, ◌↔◌, inl, inr, Bool, true, false, eqb, IsTrue, List, [], ◌∷◌, ◌++◌, map, drop, length, get_or, arith, refl, sym, subst, append_assoc, eq-eqb}
-use Rattle.std.specs.List.{Contains, AllPairs, slice_range}
+use Rattle.std.proofs.Common.{◌≡◌, ℕ, zero, suc, ◌<◌, ◌↔◌, inl, inr, Bool, true, false, eqb, IsTrue, List, [], ◌∷◌, ◌++◌, map, length, get_or, arith, refl, sym, subst, append_assoc, eq-eqb}
+use Rattle.std.specs.List.{Contains, AllPairs}
 use Rattle.std.specs.List.Sorted.{IsStrictlyIncreasing}
 use Rattle.std.specs.Int.{bit_at}
 use Rattle.std.proofs.lemmas.Bool.{eqb-true, cases_Bool}
-use Rattle.std.proofs.lemmas.List.{append-nil, length-map, map-append, length-append, take-append-le, drop-append-le, length-drop, take_all}
-use Rattle.std.proofs.Math.Seq.{drop-append_seam}
+use Rattle.std.proofs.lemmas.List.{append-nil, length-map, map-append}
 use Rattle.std.proofs.lemmas.List.Elements.{Contains-append_right}
 use Rattle.std.proofs.lemmas.List.Kept.{AllPairs-from_increasing}
 use Rattle.mine_model.proofs.ListLemmas.{Contains-by, Contains-from}
@@ -101,16 +100,3 @@ written-all targets move done left before now so_far none =
         );
       },
     )
-
--- ---- the actions of one step among all
-
-pub range-kept : {A : Type 0} (xs more : List A) (first last : ℕ) → first ≤ last → last ≤ length xs → slice_range (xs ++ more) first last ≡ slice_range xs first last
-range-kept xs more first last ordered within =
-    let inside : first ≤ length xs = omega arith in
-    let short : last - first ≤ length (drop first xs) = omega (arith, length-drop first xs) in
-    rw (drop-append-le first xs more inside, take-append-le (last - first) (drop first xs) more short) refl
-
-pub range-last : {A : Type 0} (xs more : List A) (first last : ℕ) → first ≡ length xs → last ≡ length (xs ++ more) → slice_range (xs ++ more) first last ≡ more
-range-last xs more first last from to =
-    let long : length more ≤ last - first = omega (arith, length-append xs more) in
-    rw (from, drop-append_seam xs more) (take_all (last - length xs) more (omega (arith, length-append xs more)))

@@ -7,7 +7,7 @@ use Rattle.std.proofs.lemmas.Bool.{cases_Bool, and_parts, eqb-true}
 use Rattle.std.proofs.lemmas.Option.{slice_get-map, slice_get_within, same_Some}
 use Rattle.indexmap.specs.IndexSet.{insert_key}
 use Rattle.std.proofs.lemmas.Map.Made.{AllPairs-from_IsDistinct}
-use Rattle.mine_model.proofs.ListLemmas.{apart_by_image, Contains-cases, Contains-none}
+use Rattle.mine_model.proofs.ListLemmas.{slice_range-append, apart_by_image, Contains-cases, Contains-none}
 use Rattle.mine_model.proofs.ElementLemmas.{get-left, get_snoc}
 use Rattle.state_bits.specs.Members.{Has}
 use Rattle.state_bits.specs.Neighbours.{AreNeighbours}
@@ -21,7 +21,6 @@ use Rattle.walk_memo.specs.Cells.{HasCell}
 use Rattle.walk_memo.specs.Steps.{IsAfter, AreWritten}
 use Rattle.walk_memo.specs.Memos.{MemoValue, IsStep, IsJoined, Keeps, most_sets}
 use Rattle.walk_memo.specs.Kept.{IsMemo, IsStepAt, IsJoinAt, AreSets, AreRows}
-use Rattle.walk_memo.proofs.ActionLemmas.{range-kept}
 
 -- ---- what an insertion into a set adds
 
@@ -85,9 +84,6 @@ sets-insert rows sets after set are inserts within = elim (cases_Bool (list_any 
 
 -- ---- what was kept stays right while a memo grows
 
-pub Keeps-nothing : (memo : MemoValue) → Keeps memo memo
-Keeps-nothing memo = record { sets = ([], sym (append-nil memo.sets)); actions = ([], sym (append-nil memo.actions)) }
-
 module _ (before after : MemoValue) (rows : after.rows ≡ before.rows) (moves : after.moves ≡ before.moves) (keeps : Keeps before after) where
   pub get-kept : (number set : ℕ) → slice_get before.sets number ≡ Some set → slice_get after.sets number ≡ Some set
   get-kept number set is = let (more, grown) = keeps.sets in rw grown (get-left before.sets more number set is)
@@ -96,7 +92,7 @@ module _ (before after : MemoValue) (rows : after.rows ≡ before.rows) (moves :
   IsStep-kept move set step is =
       let (more, grown) = keeps.actions in
       let range : slice_range after.actions step.first step.last ≡ slice_range before.actions step.first step.last =
-      rw grown (range-kept before.actions more step.first step.last is.ordered is.within) in
+      rw grown (slice_range-append before.actions more step.first step.last is.ordered is.within) in
       record {
         after = is.after;
         numbered = get-kept step.next is.after is.numbered;
