@@ -1,4 +1,4 @@
--- What a source says by the bytes of its files. Made input has no file, and its count of sequences settles it.
+-- What a source says by the bytes of its files. Made input has none, and its count of sequences settles it.
 use Rattle.std.specs.Prelude.{ℕ, Bool, List}
 use Rattle.mine_model.specs.declared.fault.Fault.{Fault}
 use Rattle.mine_model.specs.Text.{lines_of}
