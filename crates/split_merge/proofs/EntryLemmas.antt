@@ -1,29 +1,23 @@
 -- Rows as entries of a map from patterns to supports.
-use Rattle.std.proofs.Common.{◌≡◌, ℕ, ◌==◌, inl, inr, Bool, true, false, cond, is_some, Option, Some, None, List, [], ◌∷◌, ◌++◌, map, refl, sym, ap, ◌∙◌, subst, true≢false}
+use Rattle.std.proofs.Common.{◌≡◌, ℕ, inl, inr, Bool, true, false, cond, is_some, Option, Some, None, List, [], ◌∷◌, ◌++◌, map, refl, sym, ap, ◌∙◌, subst, true≢false}
 use Rattle.std.specs.Bool.{Decides}
 use Rattle.std.specs.Map.{lookup}
 use Rattle.std.specs.Cmp.Lexicographic.{pointwise}
 use Rattle.std.specs.declared.alloc.Global.{Global}
 use Rattle.std.specs.declared.vec.Vec.{Vec}
-use Rattle.std.proofs.lemmas.Bool.{eqb-true, eq-eqb}
 use Rattle.std.proofs.lemmas.List.{map-append}
 use Rattle.std.proofs.lemmas.Slice.Eq.{slice_eq-Decides}
 use Rattle.indexmap.specs.IndexMap.{insert_entry}
 use Rattle.indexmap.proofs.MapLemmas.{absent_from_lookup, insert_entry-absent}
 use Rattle.mine_model.specs.declared.item.Item.{Item}
 use Rattle.mine_model.specs.declared.row.Row.{Row}
+use Rattle.mine_model.proofs.ApartLemmas.{item_eq, item_eq-Decides}
 use Rattle.mine_model.proofs.ListLemmas.{Contains-cases, Contains-first, Contains-other, Contains-none}
 use Rattle.split_merge.specs.Rows.{HasPattern}
 use Rattle.split_merge.specs.Entries.{row_of}
 
-abbrev pub item_eq : Item → Item → Bool
-item_eq a b = a.0 == b.0
-
-item-decides : (a b : Item) → Decides (item_eq a b) (a ≡ b)
-item-decides a b = ((λ same. let is : a.0 ≡ b.0 = eqb-true a.0 b.0 same in λ i. record { 0 = is i }), (λ same. eq-eqb a.0 b.0 (ap (λ (t : Item). t.0) same)))
-
 items-decide : (xs ys : List Item) → Decides (pointwise item_eq xs ys) (xs ≡ ys)
-items-decide xs ys = slice_eq-Decides item-decides xs ys (pointwise item_eq xs ys) refl
+items-decide xs ys = slice_eq-Decides item_eq-Decides xs ys (pointwise item_eq xs ys) refl
 
 abbrev Entry : Type 0
 Entry = Vec Item Global × ℕ

@@ -14,6 +14,7 @@ use Rattle.mine_model.specs.Numbered.{PatternsDiffer}
 use Rattle.mine_model.specs.Refusal.{HasMoreNames, sequence_of, sequences_of_lines, items_of}
 use Rattle.mine_model.specs.Support.{Sequence}
 use Rattle.mine_model.specs.Text.{lines_of, fields_of, bad_byte, long_name, IsSoundLine}
+use Rattle.mine_model.proofs.AncestryLemmas.{Item-same}
 use Rattle.mine_model.proofs.AnswerLemmas.{ComesBefore-chain}
 use Rattle.mine_model.proofs.ListLemmas.{Contains-cases, Contains-first, Contains-other, Contains-none, Contains-by, Contains-from, of_both, AllByRecursion-contained}
 use Rattle.mine_model.proofs.NameLemmas.{GrowBy-more, no_more_names, distinct_fit}
@@ -43,7 +44,7 @@ same-items names distinct (x ∷ xs) (y ∷ ys) p q same =
     let rest : map (name_of names) xs ≡ map (name_of names) ys = cc in
     let number : x.0 ≡ y.0 = distinct x.0 y.0 p.0 q.0 first in
     let others = same-items names distinct xs ys p.1 q.1 rest in
-    let one : x ≡ y = λ i. record { 0 = number i } in
+    let one : x ≡ y = Item-same x y number in
     λ i. one i ∷ others i
 
 module _ (old names new : List (List ℕ)) (grown : GrowBy old names new) where
