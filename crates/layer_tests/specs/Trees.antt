@@ -1,4 +1,5 @@
--- The tree of the tests of schedules: a kid adds one rank to its parent's label, and a label with no kids has a row.
+-- The tree of the tests of schedules: a kid adds one rank to its parent's label, and a label with no kids has
+-- a row.
 use Rattle.std.specs.Prelude.{ℕ, cond, Option, Some, None, List, [], ◌∷◌, map}
 use Rattle.std.specs.Str.{bytes_eq}
 use Rattle.mine_model.specs.declared.row.Row.{Row}

@@ -1,4 +1,4 @@
-use Rattle.std.proofs.Common.{◌<◌, ◌≤◌, length, get_or, subst, arith, All}
+use Rattle.std.proofs.Common.{◌<◌, get_or, subst, arith, All}
 use Rattle.std.proofs.lemmas.List.{take_all}
 use Rattle.std.proofs.lemmas.List.Elements.{All-more}
 use Rattle.mine_model.specs.declared.item.Item.{Item}
