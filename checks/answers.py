@@ -115,8 +115,8 @@ BAD_REPEAT = (("a{,}", 2), ("a{1", 2), ("a{1,2", 2), ("a{}", 2), ("a{1,2,3}", 2)
 UNKNOWN = (("(!zz)", 3), ("(zz)", 2), ("('')", 2), ("''", 1), ("(a)[b]", 5), ("a y 'z' y", 3), ("a" * 4096, 1))
 REPEAT_LIMIT = (("a{1025}", 2), ("a{1025,1}", 2), ("a{,99999999999999999999}", 2), (")a{1025}", 3))
 TOO_DEEP = (("[" * 129 + "a" + "]" * 129, 129), ("a" + "?" * 129, 130), ("a" + " +" * 129, 259))
-LEAVES = (("[a{32}]{33}", 1056), ("a{1024}b", 1025), ("[a{1024}]{977}", 1000000), ("[[[a{1024}]{1024}]{1024}]{1024}", 1000000),
-          ("a " * 1025, 1025), ("." * 4096, 4096))
+LEAVES = (("[a{32}]{33}", 1056), ("a{1024}b", 1025), ("[a{1024}]{977}", 1000000),
+          ("[[[a{1024}]{1024}]{1024}]{1024}", 1000000), ("a " * 1025, 1025), ("." * 4096, 4096))
 for expressions, status, told in ((UNEXPECTED, 3, "unexpected"), (BAD_TOKEN, 3, "bad token"), (BAD_REPEAT, 3, "bad repeat"),
                                   (UNKNOWN, 3, "unknown name"), (REPEAT_LIMIT, 4, "repeat over 1024"),
                                   (TOO_DEEP, 4, "nested over 128")):
@@ -134,7 +134,8 @@ HIERARCHIES = (("x y\ny z\nz x\n", "line 3: cycle"), ("x x\n", "line 1: cycle"),
                ("x x\n\x01", "line 2 column 1: bad byte"), ("a\x01b\n", "line 1 column 2: bad byte"))
 for hierarchy, told in HIERARCHIES:
     leaves(["--support", "1", "--hierarchy", "h", "(.)", "f"], hierarchy, "a\x01\n", (3, "", f"hierarchy: {told}"))
-leaves(["--support", "1", "--hierarchy", "h", "(zz)", "f"], "a b\n", "\x7f\n", (3, "", "sequences: line 1 column 1: bad byte"))
+leaves(["--support", "1", "--hierarchy", "h", "(zz)", "f"], "a b\n", "\x7f\n",
+       (3, "", "sequences: line 1 column 1: bad byte"))
 BAD_BYTES = (("a\x01b\n", 1, 2), ("a\r\r\n", 1, 2), ("a\rb", 1, 2), ("\ufeff\x01", 1, 1), ("a\nb \x7f\x01\n", 2, 3),
              ("\r\n\0", 2, 1), ("\r\r", 1, 1), ("a\ufeff\x0b", 1, 5), ("a\n\ufeff\x7f", 2, 4))
 for sequences, line, column in BAD_BYTES:
@@ -170,7 +171,8 @@ OPTIONS = ("--workers 0", "--workers 65", "--workers 18446744073709551617", "--w
            "--engine", "--engine count --engine count", "--stats --stats", "--stats=true", "--engine count --simulate 7",
            "--engine count --simulate 0", "--simulate 18446744073709551616", "--simulate -1", "--simulate=", "--simulate x",
            "--simulate 7 --simulate 7", "--simulate", "--other", "--hierarchy", "--hierarchy h --hierarchy h",
-           "--weighted --weighted", "--weighted=true", "--max-gap 1", "--min-length 1", "--max-length 5", "--generalize", "g")
+           "--weighted --weighted", "--weighted=true", "--max-gap 1", "--min-length 1", "--max-length 5", "--generalize",
+           "g")
 RULES = ("", "--max-gap 1001", "--max-gap -1", "--max-gap=", "--max-gap", "--max-gap 1 --max-gap 1", "--generalize",
          "--max-gap 1 --min-length 0", "--max-gap 1 --min-length 1001 --max-length 1001", "--max-gap 1 --min-length 6",
          "--max-gap 1 --min-length 3 --max-length 2", "--max-gap 1 --min-length", "--max-gap 1 --max-length 0",

@@ -1,4 +1,4 @@
-//! Tests of what lies between the words and files of a run and its items, and between its rows and their bytes.
+//! Tests of what lies between words or files and items, and between rows and their bytes.
 #![tactic(auto)]
 
 #[cfg(test)]

@@ -32,8 +32,8 @@ fn ends<R: Threads + Wait + Sync>(
     )
 }
 
-// Five calls are those of the hierarchy, and fifteen those of the sequences: each file is opened once, and not
-// read behind its end.
+// Five calls are those of the hierarchy, and fifteen those of the sequences: each file is opened once, and
+// not read behind its end.
 #[test]
 fn a_read_that_fails_names_its_file(rt: HostRuntime) -> Result<(), Fail> {
     for call in 1..=21u64 {
