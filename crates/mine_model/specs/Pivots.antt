@@ -1,5 +1,5 @@
--- Bounds on the ranks of a pattern, that of a pivot among them, and the labels that are alive within one. From the
--- article on pivots.
+-- Bounds on the ranks of a pattern, that of a pivot among them, and the labels that are alive within one.
+-- From the article on pivots.
 use Rattle.std.specs.Prelude.{ℕ, zero, suc, ◌-◌, ◌≤◌, Option, Some, None, IfSome, List, ◌∷◌, length, Contains}
 use Rattle.std.specs.List.{AllByRecursion, slice_index_or}
 use Rattle.mine_model.specs.declared.item.Item.{Item}

@@ -1,5 +1,5 @@
-//! What is proved of the grammar of expressions: a machine that reads tokens from left to right reads what the
-//! grammar says, and a text reads as at most one tree.
+//! What is proved of the grammar of expressions: a machine that reads tokens from left to right reads what
+//! the grammar says, and a text reads as at most one tree.
 #![tactic(auto)]
 
 mod laws;

@@ -34,8 +34,8 @@ fn holds_as_many_names_as_it_says(rt: HostRuntime) -> Result<(), Fail> {
     Ok(())
 }
 
-/// The numbers below 10,000 that make, with an `n` before them, names whose searches all begin at one slot, in
-/// a table of up to 256 slots: the mixed numbers of their keys end in the byte 7.
+/// The numbers below 10,000 that make, with an `n` before them, names whose searches all begin at one slot,
+/// in a table of up to 256 slots: the mixed numbers of their keys end in the byte 7.
 const CROWD: &[u32] = &[
     173, 295, 606, 728, 900, 1695, 1829, 1982, 2231, 2286, 2573, 2860, 3164, 3451, 3757, 3793,
     4042, 4097, 4348, 4635, 4922, 4977, 5226, 5513, 5568, 5800, 5819, 5855, 6104, 6159, 7190, 7783,

@@ -1,5 +1,5 @@
-//! The tree that a search by prefixes walks: what it is, that a search covers it, and the trait by which it is
-//! grown.
+//! The tree that a search by prefixes walks: what it is, that a search covers it, and the trait by which it
+//! is grown.
 #![tactic(auto)]
 
 mod cover_laws;

@@ -45,8 +45,8 @@ pub record Keeps (before after : MemoValue) : Type 0 where
   pub sets : (more : List ℕ) × (after.sets ≡ before.sets ++ more)
   pub actions : (more : List Action) × (after.actions ≡ before.actions ++ more)
 
--- The memo after a call. Where it had no room, it may have been begun again: all sets but the empty one, whose
--- number stays 0, may then have lost their numbers.
+-- The memo after a call. Where it had no room, it may have been begun again: all sets but the empty one,
+-- whose number stays 0, may then have lost their numbers.
 pub record Follows (before after : MemoValue) : Type 0 where
   pub rows : after.rows ≡ before.rows
   pub moves : after.moves ≡ before.moves

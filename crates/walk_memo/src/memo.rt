@@ -258,7 +258,8 @@ impl<'a, const W: usize> Memo<'a, W> {
     // Forgets all but the empty set.
     fn forget(&mut self)
         requires width { W ≤ 17 }
-        ensures { self.new ≡ record { rows = self.old.rows; moves = self.old.moves; sets = 0 ∷ []; actions = [] } }
+        ensures { self.new
+            ≡ record { rows = self.old.rows; moves = self.old.moves; sets = 0 ∷ []; actions = [] } }
     {
         self.sets.truncate(1);
         self.actions.clear();
