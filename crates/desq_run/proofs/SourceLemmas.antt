@@ -13,7 +13,7 @@ use Rattle.command_line.specs.Options.{rows}
 use Rattle.command_line.specs.Words.{Source, read, embed, make, Command, IsCommand, GivesSource}
 use Rattle.desq_run.specs.Ends.{Input, data_of, IsAnswerTo, IsAnswerText}
 use Rattle.made_input.specs.Summary.{IsSummary}
-use Rattle.desq_run.specs.Said.{links_said, sequences_said, written_of}
+use Rattle.desq_run.specs.Said.{links_said, sequences_said, output_of}
 use Rattle.desq_run.specs.Sources.{SaysTree}
 use Rattle.desq_run.specs.Inputs.{HasRanges, IsRead}
 
@@ -86,7 +86,7 @@ summary-forth input count expression text own (rows, is, same) =
       here.1,
       rows,
       subst (λ source. IsAnswer (data_by source input (tree_by (λ (u : Use). u.name) here.0)) rows) own here.2,
-      same ∙ ap (λ source. written_of source rows) own,
+      same ∙ ap (λ source. output_of source rows) own,
     )
 
 pub summary-back : (input : Input) (count : ℕ) (expression text : List ℕ) → input.command.source ≡ make count expression
@@ -96,7 +96,7 @@ summary-back input count expression text own (tree, reads, rows, answer, same) =
     subst (λ source. IsAnswer (data_by source input (tree_by (λ (u : Use). u.name) tree)) rows) (sym own) answer in (
       rows,
       subst (λ source. IsAnswerTo source input rows) (sym own) (tree, reads, here),
-      same ∙ ap (λ source. written_of source rows) (sym own),
+      same ∙ ap (λ source. output_of source rows) (sym own),
     )
 
 -- an expression that was parsed is read

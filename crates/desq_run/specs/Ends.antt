@@ -19,7 +19,7 @@ use Rattle.command_line.specs.declared.words.Engine.TheVariants.{Count, Dfs, Piv
 use Rattle.command_line.specs.Words.{Source, read, embed, make, Command, IsCommand, IsUsage, file_of}
 use Rattle.mine_model.specs.PartitionWork.{IsBytewiseBefore, IsPartitionWork}
 use Rattle.desq_run.specs.Sources.{IsSourceRefusal, HasUse, IsUnknownIn, SaysTree}
-use Rattle.desq_run.specs.Said.{names_said, links_said, sequences_said, RefusesHierarchy, RefusesSequences, written_of}
+use Rattle.desq_run.specs.Said.{names_said, links_said, sequences_said, RefusesHierarchy, RefusesSequences, output_of}
 
 -- a command, and what its files hold; of a file that is not named, nothing
 pub record Input : Type 0 where
@@ -85,7 +85,7 @@ IsAnswerTo (make count expression) input answer = (tree : Tree Use) × ReadsAs e
 -- the text is what is written of the answer
 abbrev pub IsAnswerText : Input → List ℕ → Type 0
 IsAnswerText input text = (answer : List NamedRow) × IsAnswerTo input.command.source input answer
-    × (text ≡ written_of input.command.source answer)
+    × (text ≡ output_of input.command.source answer)
 
 -- the work is that of a run of the engine over the data, where Ties says which of two items of one frequency
 -- ranks first

@@ -43,7 +43,7 @@ RefusesSequences (embed rule file) weighted known bytes fault = IsSequencesRefus
 RefusesSequences (make count expression) weighted known bytes fault = ⊥
 
 -- what is written of an answer: its text, and of one on made input the summary
-abbrev pub written_of : Source → List NamedRow → List ℕ
-written_of (read expression file) answer = text_of answer
-written_of (embed rule file) answer = text_of answer
-written_of (make count expression) answer = summary_of count answer
+abbrev pub output_of : Source → List NamedRow → List ℕ
+output_of (read expression file) answer = text_of answer
+output_of (embed rule file) answer = text_of answer
+output_of (make count expression) answer = summary_of count answer

@@ -11,7 +11,7 @@ ghost use Rattle.made_input.specs.Summary.{summary_of};
 ghost use Rattle.command_line.specs.Words.{IsCommand, NamesFile, IsNamed};
 ghost use Rattle.command_line.specs.Commands.{source_said, command_said};
 ghost use Rattle.desq_run.specs.Ends.{Input, IsInput, IsAccepted, IsAnswerText, Ends};
-ghost use Rattle.desq_run.specs.Said.{written_of};
+ghost use Rattle.desq_run.specs.Said.{output_of};
 ghost use Rattle.desq_run.specs.Inputs.{HasRanges, IsMined};
 
 use super::inputs::{Inputs, read_inputs};
@@ -151,12 +151,12 @@ fn write_answer<O: Sink>(
 ) -> Result<(), Fault>
     requires named { All (λ row. All (HasName answer.now.names) row.pattern) answer.now.rows.items }
     ensures written { OnOk result (IfSome (O.written out.old) (λ before.
-        O.written out.new ≡ Some (before ++ written_of (source_said source.now)
+        O.written out.new ≡ Some (before ++ output_of (source_said source.now)
         (map (named_row answer.now.names) answer.now.rows.items)))) }
     ensures cut { result ≡ Err Write → IfSome (O.written out.old) (λ before.
-        (n : ℕ) × (n < length (written_of (source_said source.now)
+        (n : ℕ) × (n < length (output_of (source_said source.now)
         (map (named_row answer.now.names) answer.now.rows.items)))
-        × (O.written out.new ≡ Some (before ++ take n (written_of (source_said source.now)
+        × (O.written out.new ≡ Some (before ++ take n (output_of (source_said source.now)
         (map (named_row answer.now.names) answer.now.rows.items))))) }
     ensures unchanged { OnErr result (result ≢ Err Write → O.written out.new ≡ O.written out.old) }
     ensures fails { IfErr result (λ fault. (fault ≡ Write) ⊎ (fault ≡ OutOfMemory)) }

@@ -4,7 +4,7 @@ use Rattle.mine_model.specs.Names.{named_row}
 use Rattle.command_line.specs.Words.{Command}
 use Rattle.command_line.specs.Commands.{command_said}
 use Rattle.desq_run.specs.Ends.{Ends, IsWork, done, no_command, write_fault, no_memory}
-use Rattle.desq_run.specs.Said.{written_of}
+use Rattle.desq_run.specs.Said.{output_of}
 use Rattle.desq_run.proofs.EndLemmas.{same_command}
 use Rattle.desq_run.proofs.SourceLemmas.{has-ranges}
 use Rattle.desq_run.proofs.RowLemmas.{is-work}
@@ -35,8 +35,8 @@ returns-clause-written g c = λ input is_input.
     let command = command_said c.in-Some.command in
     let mined = c.in_ok-mined.ensures.mined words is in
     let answer = map (named_row c.in_ok-mined.mined.names) c.in_ok-mined.mined.rows.items in (
-      written_of command.source answer,
-      (answer, mined.answer input is_input, ap (λ (d : Command). written_of d.source answer) (same_command words holds command mined.source input is_input)),
+      output_of command.source answer,
+      (answer, mined.answer input is_input, ap (λ (d : Command). output_of d.source answer) (same_command words holds command mined.source input is_input)),
       c.in_ok-write_answer.ensures.written,
     )
 
@@ -63,8 +63,8 @@ returns-in_err-write_answer-clause-cut g c = λ failed input is_input.
     let command = command_said c.in-Some.command in
     let mined = c.in_ok-mined.ensures.mined words is in
     let answer = map (named_row c.in_ok-mined.mined.names) c.in_ok-mined.mined.rows.items in (
-      written_of command.source answer,
-      (answer, mined.answer input is_input, ap (λ (d : Command). written_of d.source answer) (same_command words holds command mined.source input is_input)),
+      output_of command.source answer,
+      (answer, mined.answer input is_input, ap (λ (d : Command). output_of d.source answer) (same_command words holds command mined.source input is_input)),
       c.in_err-write_answer.ensures.cut (ap Err e),
     )
 
