@@ -3,5 +3,6 @@ pub mod TreeLemmas
 pub mod DepthLemmas
 pub mod GrowthLemmas
 pub mod ShiftLemmas
+pub mod PivotLemmas
 pub mod SearchTreeLemmas
 pub mod SearchAnswerLemmas

@@ -27,7 +27,7 @@ use Rattle.search_tree.proofs.TreeLemmas.{cover_once, cover_members}
 use Rattle.search_tree.proofs.DepthLemmas.{short_covers}
 use Rattle.search_tree.proofs.GrowthLemmas.{kids_of, kids_grow, kids_apart}
 
-one_pivot : (p q : ℕ) (ranks others : List ℕ) → label_of p ranks ≡ label_of q others → p ≡ q
+pub one_pivot : (p q : ℕ) (ranks others : List ℕ) → label_of p ranks ≡ label_of q others → p ≡ q
 one_pivot p q ranks others same = cc
 
 module _ (d : Data Item) (order : List Item) where

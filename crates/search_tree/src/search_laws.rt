@@ -1,16 +1,16 @@
 //! Laws of the search by prefixes, whatever walks the tree. Each is the contract of a function that does
 //! nothing.
 
-ghost use Rattle.std.specs.Prelude.{◌≡◌, ℕ, ◌≤◌, List, [], ◌∷◌, ◌++◌, length};
+ghost use Rattle.std.specs.Prelude.{◌≡◌, ◌≢◌, ℕ, ◌≤◌, List, [], ◌∷◌, ◌++◌, length, AllPairs};
 ghost use Rattle.std.specs.List.{filter_map};
 ghost use Rattle.mine_model.specs.declared.item.Item.{Item};
 ghost use Rattle.mine_model.specs.Support.{HasFrequency};
 ghost use Rattle.mine_model.specs.Answer.{Data};
-ghost use Rattle.mine_model.specs.Ranks.{Ranking, AreRanks};
+ghost use Rattle.mine_model.specs.Ranks.{Ranking, AreRanked, AreRanks};
 ghost use Rattle.mine_model.specs.Growth.{IsAlive, AreFrequentItems, IsSearchWork};
 ghost use Rattle.mine_model.specs.Numbered.{AreFrequent};
 ghost use Rattle.search_tree.specs.Cover.{Covers};
-ghost use Rattle.mine_model.specs.Pivots.{IsAliveLabel};
+ghost use Rattle.mine_model.specs.Pivots.{IsWithinPivot, label_of, IsAliveLabel};
 ghost use Rattle.search_tree.specs.SearchTree.{SearchTree, IsSearchTree};
 
 /// What begins an alive prefix is alive, among the patterns of frequent items and within the bound of a
@@ -47,4 +47,16 @@ pub fn rows_of_the_search_tree_are_the_frequent_patterns()
         → 1 ≤ d.threshold → AreRanks d.links d.sequences d.threshold ranking
         → IsSearchTree d ranking.order (0 ∷ []) tree → Covers tree.roots tree.kids labels
         → IsSearchWork d (record { nodes = length labels; parts = length tree.roots; candidates = 0 }) }
+{}
+
+/// A pattern of ranked items that is not empty has exactly one pivot, and labels of different pivots differ: so
+/// the trees of the pivots share no label, and each pattern is a row of one of them at the most.
+pub fn each_pattern_has_one_pivot()
+    ensures some { (order items : List Item) (ranks : List ℕ) → items ≢ [] → AreRanked order items ranks
+        → (pivot : ℕ) × (1 ≤ pivot) × IsWithinPivot order pivot items }
+    ensures one { (order items : List Item) (first second : ℕ) → AllPairs (λ v w. v ≢ w) order
+        → 1 ≤ first → 1 ≤ second → IsWithinPivot order first items → IsWithinPivot order second items
+        → first ≡ second }
+    ensures labels { (first second : ℕ) (ranks others : List ℕ)
+        → label_of first ranks ≡ label_of second others → first ≡ second }
 {}
