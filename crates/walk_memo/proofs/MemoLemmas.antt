@@ -108,6 +108,7 @@ module _ (before after : MemoValue) (rows : after.rows ≡ before.rows) (moves :
   pub IsMemo-grow : (width : ℕ) (steps : Cells Step) (joins : Cells ℕ) (most : ℕ) → IsMemo width before steps joins most → AreSets before.rows after.sets
       → IsMemo width after steps joins most
   IsMemo-grow width steps joins most is sets = record {
+    narrow = is.narrow;
     rows_are = subst (AreRows width) (sym rows) is.rows_are;
     sets_are = subst (λ (rs : List ℕ). AreSets rs after.sets) (sym rows) sets;
     move_columns = is.move_columns ∙ ap length (sym moves);
@@ -146,6 +147,7 @@ module _ (width : ℕ) (memo : MemoValue) (steps : Cells Step) (joins : Cells �
       → ((r k : ℕ) (v : Step) → k < steps.columns → HasCell after r k v → (((r ≡ number) × (k ≡ of) × (v ≡ step)) ⊎ HasCell steps r k v))
       → IsMemo width memo after joins most
   IsMemo-keep_step after number of step columns right cells = record {
+    narrow = is.narrow;
     rows_are = is.rows_are;
     sets_are = is.sets_are;
     move_columns = columns ∙ is.move_columns;
@@ -162,6 +164,7 @@ module _ (width : ℕ) (memo : MemoValue) (steps : Cells Step) (joins : Cells �
       → ((r k : ℕ) (v : ℕ) → k < joins.columns → HasCell after r k v → (((r ≡ number) × (k ≡ state) × (v ≡ joined)) ⊎ HasCell joins r k v))
       → IsMemo width memo steps after most
   IsMemo-keep_join after number state joined columns right cells = record {
+    narrow = is.narrow;
     rows_are = is.rows_are;
     sets_are = is.sets_are;
     move_columns = is.move_columns;
@@ -217,10 +220,11 @@ HasCell-none {T} cells row column value none held =
     let inside : row * cells.columns + column < length cells.cells.items = slice_get_within cells.cells.items (row * cells.columns + column) (Some value) held in
     omega (arith, ap length none)
 
-pub IsMemo-new : (width : ℕ) (memo : MemoValue) (steps : Cells Step) (joins : Cells ℕ) (most : ℕ) → AreRows width memo.rows → memo.sets ≡ 0 ∷ []
+pub IsMemo-new : (width : ℕ) (memo : MemoValue) (steps : Cells Step) (joins : Cells ℕ) (most : ℕ) → width ≤ 17 → AreRows width memo.rows → memo.sets ≡ 0 ∷ []
     → steps.columns ≡ length memo.moves → joins.columns ≡ length memo.rows → steps.cells.items ≡ [] → joins.cells.items ≡ [] → most ≡ most_sets memo.rows memo.moves
     → IsMemo width memo steps joins most
-IsMemo-new width memo steps joins most rows sets move_columns state_columns no_steps no_joins is = record {
+IsMemo-new width memo steps joins most narrow rows sets move_columns state_columns no_steps no_joins is = record {
+  narrow = narrow;
   rows_are = rows;
   sets_are = AreSets-one memo.rows memo.sets sets;
   move_columns = move_columns;

@@ -32,6 +32,7 @@ pub record AreRows (width : ℕ) (rows : List ℕ) : Type 0 where
 
 pub record IsMemo (width : ℕ) (memo : MemoValue) (steps : Cells Step) (joins : Cells ℕ) (most : ℕ)
     : Type 0 where
+  pub narrow : width ≤ 17
   pub rows_are : AreRows width memo.rows
   pub sets_are : AreSets memo.rows memo.sets
   pub move_columns : steps.columns ≡ length memo.moves

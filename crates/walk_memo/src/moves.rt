@@ -24,7 +24,7 @@ impl<const W: usize> Model for Moves<W> {
 
     ghost view = { λ m. map move_sets m.moves.keys };
 
-    ghost invariant = { λ m. length m.moves.keys < 2 ^ 32 };
+    ghost invariant = { λ m. (W ≤ 17) × (length m.moves.keys < 2 ^ 32) };
 }
 
 impl<const W: usize> Moves<W> {
