@@ -10,6 +10,10 @@ mod hierarchies;
 #[cfg(test)]
 mod lines;
 #[cfg(test)]
+mod making;
+#[cfg(test)]
+mod merges;
+#[cfg(test)]
 mod names;
 #[cfg(test)]
 mod one_file;

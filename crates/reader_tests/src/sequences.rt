@@ -4,10 +4,10 @@ ghost use Rattle.std.specs.Prelude.{◌<◌};
 
 use super::one_file::one_file;
 use item_names::Names;
-use mine_model::SequenceFault::{
+use mine_model::{Db, Item};
+use sequence_reader::SequenceFault::{
     BadByte, BadWeight, TooLarge, TooLong, TooManyItems, TooManySequences,
 };
-use mine_model::{Db, Item};
 use sequence_reader::{SequenceFault, read};
 use std::alloc::{AllocError, Global};
 use std::test::Fail;

@@ -44,7 +44,14 @@ const COMMANDS: &[(&str, &str)] = &[
          max_length: 1000, generalize: true }, file: \"f\" }, \
          hierarchy: None, weighted: false, engine: Dfs, workers: 4, seed: None, stats: false })",
     ),
+    (
+        "--generated 0007 --support 1 (.)",
+        "Some(Command { support: 1, source: Make { count: 7, expression: \"(.)\" }, \
+         hierarchy: None, weighted: false, engine: Dfs, workers: 4, seed: None, stats: false })",
+    ),
     ("--support 2 (a)", "None"),
+    ("--support 1 --generated 1000001 (.)", "None"),
+    ("--support 1 --generated 3 (.) f", "None"),
     ("--support 0 (a) f", "None"),
     ("--support 2 --workers 65 (a) f", "None"),
     ("--support 2 --engine count --simulate 7 (a) f", "None"),

@@ -53,6 +53,22 @@ const ANSWERS: &[Case] = &[
         "",
     ),
     (
+        "--support 7 --generated 7 .*(top^=).* --stats",
+        "",
+        "",
+        0,
+        "generated 7 patterns 1 support 7 longest 1\n",
+        "desq: nodes 2 parts 1 candidates 0\n",
+    ),
+    (
+        "--support 6 --generated 5 (.)",
+        "",
+        "",
+        0,
+        "generated 5 patterns 0 support 0 longest 0\n",
+        "",
+    ),
+    (
         "--support 2 --generalize --max-gap 0 --max-length 1 --hierarchy h f",
         "x P Q\nP R\n",
         "x\nx\n",
