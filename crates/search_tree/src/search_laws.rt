@@ -49,8 +49,8 @@ pub fn rows_of_the_search_tree_are_the_frequent_patterns()
         → IsSearchWork d (record { nodes = length labels; parts = length tree.roots; candidates = 0 }) }
 {}
 
-/// A pattern of ranked items that is not empty has exactly one pivot, and labels of different pivots differ: so
-/// the trees of the pivots share no label, and each pattern is a row of one of them at the most.
+/// A pattern of ranked items that is not empty has exactly one pivot, and labels of different pivots differ:
+/// so the trees of the pivots share no label, and each pattern is a row of one of them at the most.
 pub fn each_pattern_has_one_pivot()
     ensures some { (order items : List Item) (ranks : List ℕ) → items ≢ [] → AreRanked order items ranks
         → (pivot : ℕ) × (1 ≤ pivot) × IsWithinPivot order pivot items }

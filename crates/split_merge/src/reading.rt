@@ -91,7 +91,7 @@ impl LineVisitor for Merging {
 
 /// Adds the rows of a file of an output to those held, by the numbers of their names. A new name gets the
 /// next number. A support must be at least `support`. The file must be in the order of an answer, and no
-/// pattern may be held already. After a refusal the rows and the names of the lines before are held as well.
+/// pattern may be held already. After a refusal rows and names of the lines before may be held as well.
 pub fn read_rows<F: Files>(
     alloc: Global,
     files: &mut F,
