@@ -101,12 +101,10 @@ pub fn read_rows<F: Files>(
     held: &mut MergedRows,
 ) -> Result<(), MergeFault>
     requires may { IsTrue (F.may files.old name.now) }
-    ensures rows { (lines : List (List ℕ)) → AreRowsOfLines support lines names.old held.old
-        → OnOk result (IfSome (F.holds files.old name.now) (λ bytes.
-        AreRowsOfLines support (lines ++ lines_of bytes) names.new held.new)) }
     ensures accepted { (lines : List (List ℕ)) → AreRowsOfLines support lines names.old held.old
-        → OnOk result (IfSome (F.holds files.old name.now) (λ bytes.
-        (fault : MergeFault) → IsMergedFileRefusal support lines bytes fault → ⊥)) }
+        → OnOk result (OfBytes (F.holds files.old name.now) (λ bytes.
+        AreRowsOfLines support (lines ++ lines_of bytes) names.new held.new
+        × ((fault : MergeFault) → IsMergedFileRefusal support lines bytes fault → ⊥))) }
     ensures refused { (lines : List (List ℕ)) (fault : MergeFault)
         → AreRowsOfLines support lines names.old held.old → result ≡ Err fault
         → fault ≢ MergeFault.ReadFault → fault ≢ MergeFault.NoMemory
@@ -148,14 +146,11 @@ fn read_all<F: Files>(
     requires room { length merging.old.names ≤ most_items }
     requires distinct { AreDistinct merging.old.names }
     requires first { merging.old.last.support ≡ None }
-    ensures rows { (lines : List (List ℕ))
-        → AreRowsOfLines merging.old.least lines merging.old.names merging.old.rows
-        → OnOk result (IfSome (F.holds files.old name.now) (λ bytes.
-        AreRowsOfLines merging.old.least (lines ++ lines_of bytes) merging.new.names merging.new.rows)) }
     ensures accepted { (lines : List (List ℕ))
         → AreRowsOfLines merging.old.least lines merging.old.names merging.old.rows
-        → OnOk result (IfSome (F.holds files.old name.now) (λ bytes.
-        (fault : MergeFault) → IsMergedFileRefusal merging.old.least lines bytes fault → ⊥)) }
+        → OnOk result (OfBytes (F.holds files.old name.now) (λ bytes.
+        AreRowsOfLines merging.old.least (lines ++ lines_of bytes) merging.new.names merging.new.rows
+        × ((fault : MergeFault) → IsMergedFileRefusal merging.old.least lines bytes fault → ⊥))) }
     ensures refused { (lines : List (List ℕ)) (fault : MergeFault)
         → AreRowsOfLines merging.old.least lines merging.old.names merging.old.rows → result ≡ Err fault
         → fault ≢ MergeFault.ReadFault → fault ≢ MergeFault.NoMemory

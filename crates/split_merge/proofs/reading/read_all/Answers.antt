@@ -1,24 +1,22 @@
-use Rattle.std.proofs.Common.{◌≡◌, ap, sym, ◌∙◌, subst, Err, IfSome, ◌++◌}
+use Rattle.std.proofs.Common.{◌≡◌, ap, sym, ◌∙◌, subst, Err, IfSome}
 use Rattle.mine_model.specs.Text.{lines_of}
 use Rattle.split_merge.specs.declared.faults.MergeFault.{MergeFault}
 use Rattle.split_merge.specs.declared.faults.MergeFault.TheVariants.{BadByte, NameTooLong}
 use Rattle.split_merge.specs.Merging.{IsMergedFileRefusal}
-use Rattle.split_merge.specs.Rows.{AreRowsOfLines}
 use Rattle.split_merge.proofs.TakingLemmas.{whole_taken, whole_accepted, stopped_bad, stopped_long, refused_line, keeps-all, keeps-refused}
 use Rattle.text_ports.proofs.Told.{of_told}
 use Rattle.split_merge.proofs.reading.read_all.Goals as goal
 
-pub returns-in-Ok-clause-rows : goal.returns-in-Ok-clause-rows
-returns-in-Ok-clause-rows g c lines are =
-    let (bytes, read, (took, count)) = c.in-Ok.ensures.taken in
-    of_told (g.F.Files.holds c.args.files.now c.args.name.now) (λ b. AreRowsOfLines c.args.merging.now.least (lines ++ lines_of b) c.read_lines.new.visitor.names c.read_lines.new.visitor.rows) bytes read
-    (whole_taken c.args.merging.now c.read_lines.new.visitor c.requires.room c.requires.distinct c.requires.first lines are (lines_of bytes) took)
-
 pub returns-in-Ok-clause-accepted : goal.returns-in-Ok-clause-accepted
 returns-in-Ok-clause-accepted g c lines are =
-    let (bytes, read, (took, count)) = c.in-Ok.ensures.taken in
-    of_told (g.F.Files.holds c.args.files.now c.args.name.now) (λ b. (fault : MergeFault) → IsMergedFileRefusal c.args.merging.now.least lines b fault → ⊥) bytes read
-    (whole_accepted c.args.merging.now c.read_lines.new.visitor c.requires.room c.requires.distinct c.requires.first lines are bytes read.few took)
+    let (bytes, read, (took, count)) = c.in-Ok.ensures.taken in (
+      bytes,
+      read,
+      (
+        whole_taken c.args.merging.now c.read_lines.new.visitor c.requires.room c.requires.distinct c.requires.first lines are (lines_of bytes) took,
+        whole_accepted c.args.merging.now c.read_lines.new.visitor c.requires.room c.requires.distinct c.requires.first lines are bytes read.few took,
+      ),
+    )
 
 pub returns-in-Ok-clause-kept_names : goal.returns-in-Ok-clause-kept_names
 returns-in-Ok-clause-kept_names g c =
