@@ -38,7 +38,8 @@ fn made_hierarchy(alloc: Global, names: &Names) -> Result<Hierarchy, NoMemory>
         items: MADE_ITEMS,
         rows: all_links(alloc)?,
     };
-    // The rows have no cycle and few ancestors, so only memory can be wanting.
+    // The rows have no cycle, which is a law, and at most 421 ancestors, so only
+    // memory can be wanting.
     match close(alloc, edges, names) {
         Ok(hierarchy) => Ok(hierarchy),
         Err(_) => Err(NoMemory),

@@ -1,5 +1,5 @@
-/// What may be written at a place: an edge leads into the state and writes, and behind it more can be
-/// written, the path can end, or both.
+/// What may be written at a place: an edge leads into the state and writes; whether behind it more can be
+/// written; whether the path can end there.
 #[derive(Clone, Copy, Debug, PartialEq, Eq)]
 pub struct Action {
     pub state: u16,
