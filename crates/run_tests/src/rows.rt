@@ -53,12 +53,12 @@ const ANSWERS: &[Case] = &[
         "",
     ),
     (
-        "--support 7 --generated 7 .*(top^=).* --stats",
+        "--support 7 --generated 7 .*(top^=).*",
         "",
         "",
         0,
         "generated 7 patterns 1 support 7 longest 1\n",
-        "desq: nodes 2 parts 1 candidates 0\n",
+        "",
     ),
     (
         "--support 6 --generated 5 (.)",
