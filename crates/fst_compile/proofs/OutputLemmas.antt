@@ -65,9 +65,3 @@ IsKeptSoFar-all links t w all out index so_far over within are v = (
       let (k, below, found) = (are v).1 up in
       subst (λ (x : Item). Contains out x) found (so_far.kept k v (omega arith) (rw found above))),
 )
-
-pub only_one : (v x : Item) → Contains (v ∷ []) x ↔ (x ≡ v)
-only_one v x = (
-  (λ held. elim (Contains-cases v [] x held) [ inl same ↦ same | inr none ↦ absurd (Contains-none x none) ]),
-  (λ same. rw same (Contains-first v [])),
-)
