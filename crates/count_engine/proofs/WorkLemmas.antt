@@ -26,9 +26,6 @@ use Rattle.count_engine.specs.Hands.{AreHandsOf, IsDone, AreListsOf, pairs_told}
 use Rattle.count_shards.proofs.BlockSums.{sums_more, sums_reordered, sums_laid}
 use Rattle.count_engine.proofs.ShareLemmas.{all_shares_of, shares_are_all, share_with, sums-flat}
 
-Results : Type 0
-Results = List (Result Done NoMemory)
-
 -- what was given back at each place is what the worker of that number did, from this number on
 abbrev pub AreDone : Problem → Shards → ℕ → ℕ → List (Result Done NoMemory) → Type 0
 AreDone problem shards workers from results =
