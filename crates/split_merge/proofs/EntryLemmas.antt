@@ -16,9 +16,6 @@ use Rattle.mine_model.proofs.ListLemmas.{Contains-cases, Contains-first, Contain
 use Rattle.split_merge.specs.Rows.{HasPattern}
 use Rattle.split_merge.specs.Entries.{row_of}
 
-items-decide : (xs ys : List Item) → Decides (pointwise item_eq xs ys) (xs ≡ ys)
-items-decide xs ys = slice_eq-Decides item_eq-Decides xs ys (pointwise item_eq xs ys) refl
-
 abbrev Entry : Type 0
 Entry = Vec Item Global × ℕ
 
@@ -32,7 +29,7 @@ patterns entries = map (λ (row : Row). row.pattern) (map row_of entries)
 -- a look-up finds exactly the patterns of the rows
 pub found-decides : (pattern : List Item) (entries : List Entry) → Decides (is_some (lookup (is_key pattern) entries)) (HasPattern (map row_of entries) pattern)
 found-decides pattern [] = ((λ wrong. absurd (true≢false (sym wrong))), (λ held. absurd (Contains-none pattern held)))
-found-decides pattern (entry ∷ entries) = by (is_key pattern entry.0) (items-decide pattern entry.0.items) (found-decides pattern entries)
+found-decides pattern (entry ∷ entries) = by (is_key pattern entry.0) (slice_eq-Decides item_eq-Decides pattern entry.0.items (is_key pattern entry.0) refl) (found-decides pattern entries)
   where
     by : (test : Bool) → Decides test (pattern ≡ entry.0.items) → Decides (is_some (lookup (is_key pattern) entries)) (HasPattern (map row_of entries) pattern)
         → Decides (is_some (cond test (Some entry.1) (lookup (is_key pattern) entries))) (HasPattern (map row_of (entry ∷ entries)) pattern)
