@@ -1,7 +1,7 @@
 -- From what was read and found by numbers to the answer by names.
-use Rattle.std.proofs.Common.{◌≡◌, ℕ, ◌<◌, ◌≤◌, ◌↔◌, List, [], ◌∷◌, ◌++◌, map, length, Contains, subst, arith, length-append}
+use Rattle.std.proofs.Common.{◌≡◌, ℕ, ◌<◌, ◌≤◌, ◌↔◌, List, ◌++◌, map, length, Contains, subst, arith, length-append}
 use Rattle.std.specs.List.{AllByRecursion}
-use Rattle.std.proofs.lemmas.List.Elements.{All-contains}
+use Rattle.std.proofs.lemmas.List.Elements.{All-weaker, recursion_from_All}
 use Rattle.mine_model.specs.declared.item.Item.{Item}
 use Rattle.mine_model.specs.declared.row.Row.{Row}
 use Rattle.mine_model.specs.Hierarchy.{Link}
@@ -10,7 +10,6 @@ use Rattle.mine_model.specs.Support.{Sequence}
 use Rattle.mine_model.specs.Answer.{Data, Rises, IsAnswer, IsFrequent}
 use Rattle.mine_model.specs.Names.{name_of, HasName, AreDistinct, named_row, sequence_by}
 use Rattle.mine_model.specs.Ancestry.{Ancestry}
-use Rattle.mine_model.proofs.ListLemmas.{Contains-first, Contains-other}
 use Rattle.mine_model.specs.declared.mined.Work.{Work}
 use Rattle.mine_model.specs.Counted.{HasPairs}
 use Rattle.mine_model.specs.Growth.{IsSearchWork}
@@ -24,10 +23,6 @@ use Rattle.desq_run.specs.Ends.{Input, data_of, IsWorkOf}
 use Rattle.desq_run.specs.Inputs.{IsHierarchySaid, IsDatabaseSaid, AreLinksWithin}
 use Rattle.desq_run.proofs.LinkLemmas.{names-rename}
 use Rattle.mine_model.proofs.PartitionWorkLemmas.{partition-names}
-
-each-contained : {X : Type 0} (P : X → Type 0) (xs : List X) → ((x : X) → Contains xs x → P x) → AllByRecursion P xs
-each-contained P [] each = tt
-each-contained P (x ∷ xs) each = (each x (Contains-first x xs), each-contained P xs (λ y inside. each y (Contains-other x xs y inside)))
 
 -- the rows found by numbers, in order, are the answer by names
 pub rows-answer : (input : Input) (tree : Tree (List ℕ)) (known added : List (List ℕ)) (h : Ancestry) (db : List (Sequence Item)) (e : Tree Item) (rows : List Row)
@@ -47,9 +42,9 @@ rows-answer input tree known added h db e rows distinct read within is_db number
     let d : Data Item = record { links = h.links; sequences = db; expression = e; threshold = input.command.threshold } in
     let few : h.items ≤ length names = rw length-append (let items : h.items ≡ length known = read.items in omega (arith, items)) in
     let links_named : AllByRecursion (λ (link : Link Item). HasName names link.child × HasName names link.parent) h.links =
-    each-contained (λ (link : Link Item). HasName names link.child × HasName names link.parent) h.links (λ link inside.
-    let both = All-contains (λ (l : Link Item). (l.child.0 < h.items) × (l.parent.0 < h.items)) h.links link within inside in
-    (omega (arith, both.0, few), omega (arith, both.1, few))) in
+    recursion_from_All (λ (link : Link Item). HasName names link.child × HasName names link.parent) h.links
+    (All-weaker (λ (link : Link Item). (link.child.0 < h.items) × (link.parent.0 < h.items)) (λ (link : Link Item). HasName names link.child × HasName names link.parent)
+    (λ link both. (omega (arith, both.0, few), omega (arith, both.1, few))) h.links within) in
     let answer : IsAnswer (named_data names (links_said input.command.source input.hierarchy) d) (map (named_row names) rows) =
     answer-named names (links_said input.command.source input.hierarchy) d (names-rename input.command.source input.hierarchy known added h distinct read within)
     (record { links = links_named; sequences = numbered; expression = named }) some rows frequent rises in
