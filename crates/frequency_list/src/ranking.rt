@@ -22,7 +22,7 @@ pub(crate) fn ranked(
         ↔ ((w.0 < length frequencies.now) × (support ≤ slice_index frequencies.now w.0))) }
     ensures sorted { IfOk result (λ order. AllPairs (ComesBefore frequencies.now names.now) order.items) }
 {
-    // Names differ, so no two items have the same name.
+    // For the proof alone: names differ, so no two items have the same name.
     let _count = names.count();
     let mut order = frequent(alloc, frequencies, support)?;
     order.sort_unstable_by(|first, second| compare(frequencies, names, *first, *second));
