@@ -203,9 +203,6 @@ module _ (problem : Problem) where
 
 -- Seeds, pivot after pivot
 
-abbrev pub pivot_in : PartSeed → ℕ
-pivot_in seed = pivot_of seed.pivot
-
 -- of the pivots below this one those that are alive have seeds
 pub record AreSeedsBelow (problem : Problem) (seeds : List PartSeed) (pivot : ℕ) : Type 0 where
   pub complete : All (IsComplete problem) seeds
@@ -226,7 +223,7 @@ module _ (problem : Problem) where
   pub seeds-push : (seeds : List PartSeed) (seed : PartSeed) (pivot : ℕ) → IsComplete problem seed → pivot_of seed.pivot ≡ pivot
       → ((1 ≤ pivot) × IsAliveLabel (data_of problem) problem.ranking.order pivot []) → AreSeedsBelow problem seeds pivot → AreSeedsBelow problem (seeds ++ seed ∷ []) (pivot + 1)
   seeds-push seeds seed pivot complete is alive before =
-      let pivots : pivots_in (seeds ++ seed ∷ []) ≡ pivots_in seeds ++ pivot ∷ [] = map-append pivot_in seeds (seed ∷ []) ∙ ap (λ p. pivots_in seeds ++ p ∷ []) is in
+      let pivots : pivots_in (seeds ++ seed ∷ []) ≡ pivots_in seeds ++ pivot ∷ [] = map-append (λ (s : PartSeed). pivot_of s.pivot) seeds (seed ∷ []) ∙ ap (λ p. pivots_in seeds ++ p ∷ []) is in
       record {
         complete = All-push (IsComplete problem) seeds seed before.complete complete;
         rising = rw pivots (all_pairs_push (λ low high. low < high) (pivots_in seeds) pivot before.rising
