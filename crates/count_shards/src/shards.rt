@@ -113,8 +113,8 @@ impl Shards {
             → AllByRecursion (λ t. t.0 < job.now.hierarchy.items) row.pattern) }
     {
         let Shards { mut locks } = self;
-        // For the proof alone: the contract of `items` says that no link leads out of the items, so neither does
-        // a pattern.
+        // For the proof alone: the contract of `items` says that no link leads out of the items, so neither
+        // does a pattern.
         let _items = job.hierarchy().items();
         let mut lists = columns::<Pass<Shard>>(alloc, passes, locks.len())?;
         let mut rows = Vec::new(alloc);

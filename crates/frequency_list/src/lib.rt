@@ -37,7 +37,8 @@ pub fn count<R: Threads + Sync>(
     ensures ranks { IfOk result (λ ranks. AreRanks hierarchy.now.links db.now support ranks) }
     ensures ties { IfOk result (λ ranks. AreTiesByName names.now ranks) }
 {
-    // For the proof alone: no link leads out of the items, so what is no item of the hierarchy is not frequent.
+    // For the proof alone: no link leads out of the items, so what is no item of the hierarchy is not
+    // frequent.
     let _items = hierarchy.items();
     let frequencies = frequencies(rt, alloc, hierarchy, db)?;
     let order = ranked(alloc, frequencies.as_slice(), support, names)?;

@@ -29,7 +29,8 @@ pub(crate) fn tally(
     ensures sums { IfOk result (λ sums.
         AreFrequencies hierarchy.now.links (slice_range db.now from to) sums.items) }
 {
-    // For the proof alone: no sequence weighs more than its limit, and there are not too many, so no sum wraps.
+    // For the proof alone: no sequence weighs more than its limit, and there are not too many, so no sum
+    // wraps.
     let _sequences = db.sequences();
     let items = hierarchy.items() as usize;
     let mut sums = vec![in alloc; 0u64; items]?;

@@ -14,7 +14,8 @@ pub(crate) fn weights(alloc: Global, job: &Job, parts: &[Vec<Pair>]) -> Result<V
     ensures long { IfOk result (λ sums. length sums.items ≡ length job.now.ranking.order + 1) }
     ensures weights { IfOk result (λ sums. AreWeights job.now (all_of parts.now) sums.items) }
 {
-    // For the proof alone: no sequence weighs more than its limit, and there are not too many, so no sum wraps.
+    // For the proof alone: no sequence weighs more than its limit, and there are not too many, so no sum
+    // wraps.
     let _sequences = job.db().sequences();
     let top = job.ranks().count();
     let mut sums = vec![in alloc; 0u64; top as usize + 1]?;
