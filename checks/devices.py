@@ -1,8 +1,8 @@
 #!/usr/bin/env python3
 """What stands at the ends of a run may be anything: files that are folders, devices, pipes or that grow;
 streams that are closed, full, cut or lose their reader; calls of the system that fail or are interrupted, one
-by one; ends behind which more would come; limits of the process; signals. Each run is done with the whole answer, or ends with the status and
-message of what failed, and never tells what is half written as done.
+by one; ends behind which more would come; limits of the process; signals. Each run is done with the whole
+answer, or ends with the status and message of what failed, and never tells what is half written as done.
 
 Calls fail by a library that is put before the C library: it counts the calls that are named by letters, and
 gives a fault to those from one number to another. It also cuts reads and writes, and lets a file grow or
@@ -122,7 +122,7 @@ LONG_ANSWER = b"1\t" + b" ".join([b"a"] * LONG) + b"\n"
 ENDLESS = 1 << 62
 # An interrupted call is made 64 times, and is a fault then.
 TRIES = 64
-# So many item expressions in a row, or open brackets, have room in a stack of 256 KiB.
+# A stack of 256 KiB has room for so many item expressions in a row, choices, brackets or signs of repetition.
 IN_A_ROW = 128
 
 kinds, running = running_example()
@@ -515,8 +515,10 @@ def limits():
         rows.ends(f"a stack of 256 KiB, {by}", within(resource.RLIMIT_STACK, 256 << 10, *words), DONE)
         rows.ends(f"a stack without a limit, {by}",
                   within(resource.RLIMIT_STACK, resource.RLIM_INFINITY, *words), DONE)
-        for name, expression in (("captures", "(a)" * IN_A_ROW), ("choices", f"[{'|'.join(['(a)'] * IN_A_ROW)}]*"),
-                                 ("a capture and open brackets", f"{'[' * 127}(a)*{']' * 127}")):
+        for name, expression in (("captures in a row", "(a)" * IN_A_ROW),
+                                 ("choices", f"[{'|'.join(['(a)'] * IN_A_ROW)}]*"),
+                                 ("captures, each in the next", f"{'(' * IN_A_ROW}a{')' * IN_A_ROW}*"),
+                                 ("signs of repetition", f"(a){'*' * IN_A_ROW}")):
             rows.ends(f"{IN_A_ROW} {name} in a stack of 256 KiB, {by}",
                       within(resource.RLIMIT_STACK, 256 << 10, "--support", "1", *search, expression, in_a_row),
                       (0, b"1\t" + b" ".join([b"a"] * IN_A_ROW) + b"\n", b""))
@@ -566,13 +568,18 @@ def address_space():
               if within(resource.RLIMIT_AS, size, "--support", "0")[0] in (2, 7))
     least = next(loaded, 64 << 20)
     line = write("line", b"a " * 10_000)
+    pairs = write("pairs", "".join(f"x{number:04d} y{number:04d}\n" for number in range(4_000)))
     small = [*range(0, 1 << 20, 32 << 10)]
     large = [more << 20 for more in (1, 2, 3, 4, 6, 8, 16, 64, 128, 256, 512)]
     for search, by in searches():
         for name, words, done, sizes in (
                 ("the running example", example(*search), DONE, [*small, *large]),
                 ("a long line", ["--support", "1", *search, "(a)*", line],
-                 (0, b"1\t" + b" ".join([b"a"] * 10_000) + b"\n", b""), [0, *large, 4 << 30])):
+                 (0, b"1\t" + b" ".join([b"a"] * 10_000) + b"\n", b""), [0, *large, 4 << 30]),
+                ("a root with 4,000 kids, each with a kid", ["--support", "1", *search, "(.)(.)", pairs],
+                 (0, b"".join(b"1\tx%04d y%04d\n" % (number, number) for number in range(4_000)), b""), [0, *large]),
+                ("made input", ["--support", "9000", *search, "--generated", "9000", ".*(top^=).*"],
+                 (0, b"generated 9000 patterns 1 support 9000 longest 1\n", b""), [0, *large])):
             wrong, ends = [], set()
             for more in sizes:
                 ran = within(resource.RLIMIT_AS, least + more, *words)

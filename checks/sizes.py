@@ -99,7 +99,7 @@ os.remove(million)
 # As many ancestors as may be: a chain of 8,191, of which the lowest stands below all. And as many parents of one item.
 chain = [named(number) for number in range(8_191)]
 above, lowest = write("chain", lines_of(zip(chain[1:], chain))), write("lowest", chain[-1] + "\n")
-by_each("33,550,336 ancestors", 1, ["--hierarchy", above, "(.^)", lowest], answer(([name], 1) for name in chain), ("dfs",), numbers=("4",))
+by_each("33,550,336 ancestors", 1, ["--hierarchy", above, "(.^)", lowest], answer(([name], 1) for name in chain), ("dfs",))
 for search in (["count", "--workers", "1"], ["dfs", "--workers", "64"], ["pivot"]):
     rows.ends(f"the highest of 33,550,336 ancestors, by {' '.join(search)}",
               run("--support", "1", "--engine", *search, "--hierarchy", above, f"({chain[0]}^=)", lowest),
