@@ -15,9 +15,9 @@ MOST_BYTES, MOST_NAMES, MOST_SEQUENCES, MOST_ITEMS = 67_108_864, 1_048_576, 4_19
 rows = Rows()
 
 
-def refuses(name, words, status, message):
+def refuses(name, words, status, message, **options):
     """A row: a run of these words has this status and message, and writes nothing."""
-    rows.ends(name, run("--support", "1", *words), (status, b"", f"desq: {message}\n".encode()))
+    rows.ends(name, run("--support", "1", *words, **options), (status, b"", f"desq: {message}\n".encode()))
 
 
 def of_size(path, size):
@@ -26,14 +26,14 @@ def of_size(path, size):
     return path
 
 
-def names(count, between="\n"):
-    """So many names, each with this behind it."""
-    return "".join(f"{number:x}{between}" for number in range(count))
+def names(count):
+    """So many names, each in a line."""
+    return "".join(f"{number:x}\n" for number in range(count))
 
 
 # In an expression: a text of each kind, in the order in which they are looked for, and which byte of it is told.
-KINDS = ((",", 1, 3, "bad token"), ("a{2,1}", 2, 3, "bad repeat"), ("a{1025}", 2, 4, "repeat over 1024"), ("()", 2, 3, "unexpected"),
-         ("[" * 129 + "a" + "]" * 129, 129, 4, "nested over 128"))
+KINDS = ((",", 1, 3, "bad token"), ("a{2,1}", 2, 3, "bad repeat"), ("a{1025}", 2, 4, "repeat over 1024"),
+         ("()", 2, 3, "unexpected"), ("[" * 129 + "a" + "]" * 129, 129, 4, "nested over 128"))
 LEAVES = "a{1024}a"
 absent = f"{WORK}/absent"
 expressions = []
@@ -94,6 +94,15 @@ for options, path, status, told in of_sequences:
     refuses(f"usage, and sequences: {told}", ["--hierarchy", never, *options, "(a)", path, "--help"], *USAGE)
     refuses(f"sequences: {told}, and an unknown name", [*options, "(z)", path], status, f"sequences: {told}")
 
+# What is refused is no fault of an output that takes nothing, and no fault of standard input that is closed.
+for (status, message), words in ((USAGE, []), ((3, "expression: column 3: unexpected"), ["(a", "-"]),
+                                 ((3, "hierarchy: line 3: cycle"), ["--hierarchy", f"{WORK}/cycle", "(a)", "-"]),
+                                 ((3, "sequences: line 2 column 2: bad byte"), ["(a)", f"{WORK}/bad_byte"]),
+                                 (unknown, ["(z)", lines])):
+    with open("/dev/full", "wb") as full:
+        refuses(f"{message}, and an output that is full", words, status, message, stdout=full)
+    refuses(f"{message}, and no input and no output", words, status, message, preexec_fn=lambda: [os.close(0), os.close(1)])
+
 # In one file: its size before what stands in it. The lines in their order, and in a line the bytes before what it is as a whole,
 # and then too many sequences, its weight, its length and its names. A cycle behind all lines, and too many ancestors behind a
 # cycle.
@@ -122,7 +131,8 @@ OF_SEQUENCES = (
     ("", f"{silent}{long_name}\n", 4, f"line {MOST_SEQUENCES + 1} column 256: name over 255 bytes"),
     ("", f"{silent}{many_items}\n", 4, MANY_SEQUENCES), ("", f"{full}{silent[MOST_NAMES:]}z\n", 4, MANY_SEQUENCES),
     ("--weighted", "1\n" * MOST_SEQUENCES + "a\n", 4, MANY_SEQUENCES), ("", f"{silent}\na\x01\n", 4, MANY_SEQUENCES),
-    ("", f"{many_items}\n{silent}", 4, f"line 1: {MANY_ITEMS}"), ("", f"{full}z\n{silent}", 4, f"line {MOST_NAMES + 1}: {MANY_NAMES}"),
+    ("", f"{many_items}\n{silent}", 4, f"line 1: {MANY_ITEMS}"),
+    ("", f"{full}z\n{silent}", 4, f"line {MOST_NAMES + 1}: {MANY_NAMES}"),
     ("--weighted", "a\n" + "1\n" * MOST_SEQUENCES, 3, "line 1 column 1: bad weight"),
     ("--weighted", " a a\x01\n", 3, "line 1 column 5: bad byte"),
     ("--weighted", f" a {long_name}\n", 4, "line 1 column 259: name over 255 bytes"),
@@ -137,15 +147,17 @@ OF_SEQUENCES = (
     ("", f"{full}z\n{many_items}\n", 4, f"line {MOST_NAMES + 1}: {MANY_NAMES}"))
 for text, status, message in OF_BOTH + OF_HIERARCHY:
     above = write("text", text)
-    refuses(f"a hierarchy of {text[:12]!r} .. {text[-12:]!r}", ["--hierarchy", above, "(a)", never], status, f"hierarchy: {message}")
+    refuses(f"a hierarchy of {text[:12]!r} .. {text[-12:]!r}", ["--hierarchy", above, "(a)", never], status,
+            f"hierarchy: {message}")
 for option, text, status, message in (*(("", *row) for row in OF_BOTH), *OF_SEQUENCES):
     refuses(f"sequences of {text[:12]!r} .. {text[-12:]!r}", [*option.split(), "(a)", write("text", text)], status,
             f"sequences: {message}")
-refuses("a name more than there may be, of which the hierarchy has most", ["--hierarchy", write("above", full), "(a)", write("text", "0\nz\n")],
-        4, f"sequences: line 2: {MANY_NAMES}")
+refuses("a name more than there may be, of which the hierarchy has all others",
+        ["--hierarchy", write("above", full), "(a)", write("text", "0\nz\n")], 4, f"sequences: line 2: {MANY_NAMES}")
 for text in ("a\x01\n", f"{long_name}\n", "x x\n", "a\n"):
     large = of_size(write("large", text), MOST_BYTES + 1)
     refuses(f"a hierarchy of {text[:12]!r}, and too large", ["--hierarchy", large, "(a)", never], 4,
             f"hierarchy: more than {MOST_BYTES} bytes")
-    refuses(f"sequences of {text[:12]!r}, and too large", ["--weighted", "(a)", large], 4, f"sequences: more than {MOST_BYTES} bytes")
+    refuses(f"sequences of {text[:12]!r}, and too large", ["--weighted", "(a)", large], 4,
+            f"sequences: more than {MOST_BYTES} bytes")
 rows.finish()
