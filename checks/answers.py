@@ -263,6 +263,16 @@ for options, plain, ends in COMMANDS:
         words = placed(shuffled)
         rows.ends(f"in another order: {words}", run(*words, cwd=WORK), ends)
 
+# Many words, and long ones.
+for name, words in (("20,000 words", ["a"] * 20_000), ("20,000 flags", ["--stats"] * 20_000),
+                    ("20,000 signs of the end of options", ["--"] * 20_000),
+                    ("an option of 100,000 bytes", [f"--{'a' * 100_000}", "(a)", "f"])):
+    rows.ends(name, run("--support", "1", *words, cwd=WORK), (2, b"", USAGE))
+rows.ends("a number of 100,001 digits", run("--support", f"{'0' * 100_000}2", PAIRS, lines), (0, b"2\ta b\n", b""))
+rows.ends("an expression of 100,000 bytes", run("--support", "1", "(a" * 50_000, lines),
+          (4, b"", b"desq: expression: more than 4096 bytes\n"))
+rows.ends("a file name of 100,000 bytes", run("--support", "1", "(a)", "f" * 100_000), (5, b"", READ_FAULT))
+
 # Behind `--` they are words like others.
 write("--help", "--help\n")
 for words, answer in ((["--support", "1", "--", "(--help)", "--help"], b"1\t--help\n"),

