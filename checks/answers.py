@@ -1,6 +1,8 @@
 #!/usr/bin/env python3
 """Words, files and ends of the real program: status, output and message of each, byte for byte."""
+import itertools
 import os
+import random
 import subprocess
 import sys
 
@@ -81,6 +83,8 @@ ANSWERS = (
     ("1", "('it''s')('.')", "", "it's .\n", "1\tit's .\n"),
     ("1", "(a)[b]", "", "a b\n", "1\ta\n"),
     ("2", "(a)(b)", "", "\ufeffa b\r\na b", "2\ta b\n"),
+    ("1", "[" * 128 + "a" + "]" * 128, "", "a\n", ""),
+    ("1", "(" * 128 + "a" + ")" * 128, "", "a\n", "1\ta\n"),
 )
 WEIGHED = (
     ("4", ".*(a)(b).*", "3 a b\n2 a c\n1 a b\n", "4\ta b\n"),
@@ -99,12 +103,36 @@ def leaves(words, hierarchy, sequences, wanted):
               (status, out.encode(), f"desq: {err}\n".encode() if err else b""))
 
 
-for engine in ("count", "dfs", "pivot"):
+SEARCHES = [["--engine", engine, "--workers", workers] for engine in ("count", "dfs", "pivot") for workers in ("1", "4", "64")]
+for search in SEARCHES:
     for support, expression, hierarchy, sequences, answer in ANSWERS:
-        leaves(["--engine", engine, "--support", support, "--hierarchy", "h", expression, "f"], hierarchy, sequences,
-               (0, answer, ""))
+        leaves([*search, "--support", support, "--hierarchy", "h", expression, "f"], hierarchy, sequences, (0, answer, ""))
     for support, expression, sequences, answer in WEIGHED:
-        leaves(["--engine", engine, "--weighted", "--support", support, expression, "f"], "", sequences, (0, answer, ""))
+        leaves([*search, "--weighted", "--support", support, expression, "f"], "", sequences, (0, answer, ""))
+
+
+def answer_of(sequences):
+    """The answer to `.*(A)[(.^)|.]*(b).*` with the threshold 2, where a1 and a2 are below A: of each pair of an item below A and
+    a b behind it, the item, then any of those between, each as it stands or as what is above it, and the b."""
+    supports = {}
+    for line in sequences.split("\n"):
+        items, generated = line.split(), set()
+        for first, last in itertools.combinations(range(len(items)), 2):
+            if items[first] in ("a1", "a2") and items[last] == "b":
+                between = [["", item, "A"] if item in ("a1", "a2") else ["", item] for item in items[first + 1:last]]
+                generated.update((items[first], *filter(None, written), "b") for written in itertools.product(*between))
+        for pattern in generated:
+            supports[pattern] = supports.get(pattern, 0) + 1
+    ordered = sorted((-support, pattern) for pattern, support in supports.items() if support >= 2)
+    return "".join(f"{-support}\t{' '.join(pattern)}\n" for support, pattern in ordered)
+
+
+# The sequences cut behind each byte. A cut name is another name, and without a b the expression names an unknown item.
+for search in SEARCHES:
+    for length in range(len(EXAMPLE) + 1):
+        cut = EXAMPLE[:length]
+        leaves([*search, "--support", "2", "--hierarchy", "h", ".*(A)[(.^)|.]*(b).*", "f"], KINDS, cut,
+               (0, answer_of(cut), "") if "b" in cut else (3, "", "expression: column 16: unknown name"))
 
 # What is refused: expressions with their columns, files with their lines.
 UNEXPECTED = (("", 1), (" ", 2), ("()", 2), ("[]", 2), ("a|", 3), ("|a", 1), ("a||b", 3), ("(a", 3), ("(a]", 3), ("a)", 2),
@@ -179,9 +207,76 @@ RULES = ("", "--max-gap 1001", "--max-gap -1", "--max-gap=", "--max-gap", "--max
          "--max-gap 1 --min-length 1 --min-length 1", "--max-gap 1 --max-length 1001", "--max-gap 1 --max-length",
          "--max-gap 1 --max-length 5 --max-length 5", "--max-gap 1 --generalize --generalize",
          "--max-gap 1 --generalize=true")
-OTHERS = ("--help", "-h", "--version", "--support 2", "(a) f", "--support 2 (a)", "(a) f --support", "--support 2 -a f",
-          "--engine --support 1 (a) f", "--support 2 --max-gap 1")
+OTHERS = ("--support 2", "--support 2 -- (a) f --stats", "-- (a) f --support 2", "(a) f", "--support 2 (a)", "(a) f --support",
+          "--support 2 -a f", "--engine --support 1 (a) f", "--support 2 --max-gap 1")
 for words in (*(f"{number} (a) f" for number in NUMBERS), *(f"--support 2 (a) f {option}" for option in OPTIONS),
               *(f"--support 2 f {rule}".rstrip() for rule in RULES), *OTHERS):
     rows.ends(f"no command: {words}", run(*words.split(" "), cwd=WORK), (2, b"", USAGE))
+
+# Each option stands anywhere, and none twice. Three commands have all options, and a flag is one without a value.
+write("h", "a A\n")
+write("f", "2 a b\n3 a b\n")
+COMMANDS = (
+    ({"support": "5", "hierarchy": "h", "weighted": "", "engine": "dfs", "workers": "3", "simulate": "7", "stats": ""},
+     ["(A^=)(b)", "f"], (0, b"5\tA b\n", b"desq: nodes 3 parts 1 candidates 0\n")),
+    ({"max-gap": "0", "support": "5", "min-length": "2", "generalize": "", "max-length": "2", "weighted": "", "hierarchy": "h"},
+     ["f"], (0, b"5\tA b\n5\ta b\n", b"")),
+    ({"support": "7", "stats": "", "generated": "7", "engine": "pivot", "workers": "2", "simulate": "7"}, [".*(top^=).*"],
+     (0, b"generated 7 patterns 1 support 7 longest 1\n", b"desq: nodes 2 parts 1 candidates 0\n")))
+HELP = ("--help", "-h", "--version", "-V", "--help=x", "--stats=x", "--no-stats")
+
+
+def forms(option, value):
+    """An option with its value as a word of its own, and behind an equals sign; a flag alone."""
+    return [[f"--{option}", value], [f"--{option}={value}"]] if value else [[f"--{option}"]]
+
+
+def placed(parts, more=None, place=0):
+    """The words of these parts, with one more at a place."""
+    return sum(parts[:place] + ([more] if more else []) + parts[place:], [])
+
+
+for word in HELP:
+    rows.ends(f"{word} alone", run(word), (2, b"", USAGE))
+rng = random.Random(7)
+for options, plain, ends in COMMANDS:
+    parts = {option: forms(option, value)[0] for option, value in options.items()}
+    whole = [*list(parts.values())[:3], *([word] for word in plain), *list(parts.values())[3:]]
+    for option, value in options.items():
+        others = [part for part in whole if part != parts[option]]
+        for form in forms(option, value):
+            for place in range(len(others) + 1):
+                words = placed(others, form, place)
+                rows.ends(f"--{option} at place {place}: {words}", run(*words, cwd=WORK), ends)
+            for place in range(len(whole) + 1):
+                words = placed(whole, form, place)
+                rows.ends(f"--{option} twice: {words}", run(*words, cwd=WORK), (2, b"", USAGE))
+    for word in HELP:
+        for place in range(len(whole) + 1):
+            words = placed(whole, [word], place)
+            rows.ends(f"{word} is no word of a command: {words}", run(*words, cwd=WORK), (2, b"", USAGE))
+    for _ in range(40):
+        shuffled = [rng.choice(forms(*option)) for option in options.items()]
+        rng.shuffle(shuffled)
+        for word, place in zip(plain[::-1], sorted(rng.choices(range(len(shuffled) + 1), k=len(plain)))[::-1]):
+            shuffled.insert(place, [word])
+        words = placed(shuffled)
+        rows.ends(f"in another order: {words}", run(*words, cwd=WORK), ends)
+
+# Many words, and long ones.
+for name, words in (("20,000 words", ["a"] * 20_000), ("20,000 flags", ["--stats"] * 20_000),
+                    ("20,000 signs of the end of options", ["--"] * 20_000),
+                    ("an option of 100,000 bytes", [f"--{'a' * 100_000}", "(a)", "f"])):
+    rows.ends(name, run("--support", "1", *words, cwd=WORK), (2, b"", USAGE))
+rows.ends("a number of 100,001 digits", run("--support", f"{'0' * 100_000}2", PAIRS, lines), (0, b"2\ta b\n", b""))
+rows.ends("an expression of 100,000 bytes", run("--support", "1", "(a" * 50_000, lines),
+          (4, b"", b"desq: expression: more than 4096 bytes\n"))
+rows.ends("a file name of 100,000 bytes", run("--support", "1", "(a)", "f" * 100_000), (5, b"", READ_FAULT))
+
+# Behind `--` they are words like others.
+write("--help", "--help\n")
+for words, answer in ((["--support", "1", "--", "(--help)", "--help"], b"1\t--help\n"),
+                      (["--support", "1", "(--help)", "--", "--help"], b"1\t--help\n"),
+                      (["--support", "1", "--", "--help", "--help"], b"")):
+    rows.ends(f"behind two signs: {words}", run(*words, cwd=WORK), (0, answer, b""))
 rows.finish()

@@ -1,8 +1,8 @@
 #!/usr/bin/env python3
 """What stands at the ends of a run may be anything: files that are folders, devices, pipes or that grow;
 streams that are closed, full, cut or lose their reader; calls of the system that fail or are interrupted, one
-by one; limits of the process; signals. Each run is done with the whole answer, or ends with the status and
-message of what failed, and never tells what is half written as done.
+by one; ends behind which more would come; limits of the process; signals. Each run is done with the whole
+answer, or ends with the status and message of what failed, and never tells what is half written as done.
 
 Calls fail by a library that is put before the C library: it counts the calls that are named by letters, and
 gives a fault to those from one number to another. It also cuts reads and writes, and lets a file grow or
@@ -12,6 +12,7 @@ import contextlib
 import errno
 import fcntl
 import os
+import pty
 import resource
 import signal
 import socket
@@ -121,6 +122,8 @@ LONG_ANSWER = b"1\t" + b" ".join([b"a"] * LONG) + b"\n"
 ENDLESS = 1 << 62
 # An interrupted call is made 64 times, and is a fault then.
 TRIES = 64
+# A stack of 256 KiB has room for so many item expressions in a row, choices, brackets or signs of repetition.
+IN_A_ROW = 128
 
 kinds, running = running_example()
 long = write("long", b"a " * LONG + b"\n")
@@ -365,21 +368,21 @@ def lost_readers():
 def failing_calls():
     """Opens, reads, writes, closes and starts of threads that fail or are interrupted, one by one."""
     # Cut by four bytes, the hierarchy takes an open and four reads, the sequences an open and fourteen.
-    for engine in WORKS:
-        words = example("--engine", engine)
+    for search, by in searches():
+        words = example(*search)
         for call in range(1, 21):
-            faults(f"call {call} of those that open and read fails, by {engine}", words,
+            faults(f"call {call} of those that open and read fails, {by}", words,
                    READ_FAULT["hierarchy" if call <= 5 else "sequences"], 1, named="or", first=call, CUT=4)
         # The system is then asked in a file of its own how many processors there are.
-        rows.ends(f"each later call of those that open and read fails, by {engine}",
+        rows.ends(f"each later call of those that open and read fails, {by}",
                   faulty(words, named="or", first=21, last=ENDLESS, CUT=4)[0], DONE)
         for call in (*range(1, 27), 27):
             wanted = (6, ANSWER[:call - 1], WRITE_FAULT) if call <= 26 else DONE
-            faults(f"write {call} of single bytes fails, by {engine}", words, wanted, call <= 26,
+            faults(f"write {call} of single bytes fails, {by}", words, wanted, call <= 26,
                    named="1", first=call, CUT=1)
-        told = WORKS[engine]
-        for call in range(1, len(told) + 1):
-            faults(f"write {call} of the line of --stats fails, by {engine}", [*words, "--stats"],
+        told = WORKS[search[1]]
+        for call in range(1, len(told) + 1 if search[3] == "4" else 2):
+            faults(f"write {call} of the line of --stats fails, {by}", [*words, "--stats"],
                    (0, ANSWER, told[:call - 1]), 1, named="2", first=call, CUT=1)
     usage = b"desq: usage: desq --support N [options] EXPR [FILE]\n"
     for call in range(1, len(usage) + 1):
@@ -396,6 +399,13 @@ def failing_calls():
         for call in (1, 2, 26):
             faults(f"write {call} of single bytes answers {name}", words,
                    (6, ANSWER[:call - 1], WRITE_FAULT), 1, named="1", first=call, fault=fault, CUT=1)
+    # Each of these files is read by two reads of 4,096 bytes at most, and by one that finds its end.
+    malformed = write("malformed", b"\x01\n" * 3_000)
+    for call in (2, 3, 4):
+        faults(f"read {call - 1} of a malformed hierarchy fails", example(hierarchy=malformed),
+               READ_FAULT["hierarchy"], 1, named="or", first=call)
+        faults(f"read {call - 1} of malformed sequences fails", ["--support", "1", "(a)", malformed],
+               READ_FAULT["sequences"], 1, named="or", first=call)
     for call in (1, 2):
         faults(f"open {call} is interrupted 1,000 times", words, DONE, 1_000,
                named="o", first=call, last=call + 999, fault=errno.EINTR)
@@ -431,6 +441,70 @@ def failing_calls():
                           f"{met} faults and {shown(ran)}")
 
 
+def read_to_the_end():
+    """A file is opened once and read to its end, and not behind it, however its bytes are cut."""
+    words = example()
+    for cut in range(1, len(first_bytes[running]) + 2):
+        # Of the reads of a file the last finds its end.
+        above, below = (-(-len(first_bytes[path]) // cut) + 1 for path in (kinds, running))
+        for name, call, which in (("the read that finds the end of the hierarchy", 1 + above, "hierarchy"),
+                                  ("the open of the sequences behind it", 2 + above, "sequences"),
+                                  ("the read that finds their end", 2 + above + below, "sequences")):
+            faults(f"{name} fails, by {cut} bytes at a time", words, READ_FAULT[which], 1,
+                   named="or", first=call, CUT=cut)
+        rows.ends(f"each call of those that open and read behind that fails, by {cut} bytes at a time",
+                  faulty(words, named="or", first=3 + above + below, last=ENDLESS, CUT=cut)[0], DONE)
+
+
+def typed(text, words, rest):
+    """What a run leaves for which this is typed at a terminal, and what it leaves there of the rest. Behind an
+    end a terminal gives what is typed then, and waits for more: a run that reads on has no end."""
+    typing, terminal = pty.openpty()
+    os.write(typing, text + rest)
+    words = [os.ttyname(terminal) if word == "terminal" else word for word in words]
+    ran = run(*words, stdin=terminal)
+    os.set_blocking(terminal, False)
+    left = b""
+    with contextlib.suppress(BlockingIOError):
+        while piece := os.read(terminal, 4_096):
+            left += piece
+    os.close(typing)
+    os.close(terminal)
+    return ran, left
+
+
+def terminals():
+    """Ends that are typed at a terminal, each by a byte of its own."""
+    end, more = b"\x04", b"a1 b\n"
+    above, below = first_bytes[kinds], first_bytes[running]
+    for search, by in searches():
+        for name, text, words in (
+                ("the sequences", below + end, example(*search, sequences="-")),
+                ("the sequences, by the name of the terminal", below + end,
+                 example(*search, sequences="terminal")),
+                ("sequences whose last line has no end of its own", below[:-1] + end + end,
+                 example(*search, sequences="-")),
+                ("the hierarchy", above + end, example(*search, hierarchy="-")),
+                ("the hierarchy, and behind its end the sequences", above + end + below + end,
+                 example(*search, hierarchy="-", sequences="-"))):
+            rows.ends(f"{name} typed at a terminal, of which no more is read, {by}", typed(text, words, more),
+                      (DONE, more))
+
+
+def made_input():
+    """Made input opens and reads nothing, and its summary is cut where a write fails."""
+    summary = b"generated 7 patterns 1 support 7 longest 1\n"
+    for search, by in searches():
+        words = ["--support", "7", *search, "--generated", "7", ".*(top^=).*"]
+        rows.ends(f"made input where nothing can be opened or read, {by}",
+                  faulty(words, named="or", last=ENDLESS)[0], (0, summary, b""))
+        rows.ends(f"made input, and no input, {by}", without([0], *words), (0, summary, b""))
+        rows.ends(f"made input, and no output, {by}", without([1], *words), (6, b"", WRITE_FAULT))
+        for call in range(1, len(summary) + 1 if search[3] == "4" else 2):
+            faults(f"write {call} of the summary of made input fails, {by}", words,
+                   (6, summary[:call - 1], WRITE_FAULT), 1, named="1", first=call, CUT=1)
+
+
 def within(kind, most, *words, **options):
     """What a run leaves in which this limit of the process is so much, or what may be had at most."""
     greatest = resource.getrlimit(kind)[1]
@@ -441,12 +515,20 @@ def within(kind, most, *words, **options):
 
 def limits():
     """Descriptors, sizes of files, stack and address space."""
+    in_a_row = write("in_a_row", b"a " * IN_A_ROW)
     for search, by in searches():
         words = example(*search)
         rows.ends(f"four descriptors, {by}", within(resource.RLIMIT_NOFILE, 4, *words), DONE)
         rows.ends(f"a stack of 256 KiB, {by}", within(resource.RLIMIT_STACK, 256 << 10, *words), DONE)
         rows.ends(f"a stack without a limit, {by}",
                   within(resource.RLIMIT_STACK, resource.RLIM_INFINITY, *words), DONE)
+        for name, expression in (("captures in a row", "(a)" * IN_A_ROW),
+                                 ("choices", f"[{'|'.join(['(a)'] * IN_A_ROW)}]*"),
+                                 ("captures, each in the next", f"{'(' * IN_A_ROW}a{')' * IN_A_ROW}*"),
+                                 ("signs of repetition", f"(a){'*' * IN_A_ROW}")):
+            rows.ends(f"{IN_A_ROW} {name} in a stack of 256 KiB, {by}",
+                      within(resource.RLIMIT_STACK, 256 << 10, "--support", "1", *search, expression, in_a_row),
+                      (0, b"1\t" + b" ".join([b"a"] * IN_A_ROW) + b"\n", b""))
         for name, action, wanted in (
                 ("the signal of it ends the run", signal.SIG_DFL, (-signal.SIGXFSZ, ANSWER[:10], b"")),
                 ("the signal of it is ignored", signal.SIG_IGN, (6, ANSWER[:10], WRITE_FAULT))):
@@ -465,20 +547,24 @@ def limits():
         resource.prlimit(ran.pid, resource.RLIMIT_NOFILE, (3, 3))
         pipe.write(first_bytes[kinds])
     rows.ends("no descriptor is left for the sequences", ended(ran), READ_FAULT["sequences"])
-    # The deepest expressions: dots in a repetition that is there no time, choices, signs of repetition, and
-    # dots that are too many, but are counted and dropped. Each runs in the default stack. In a small one it
-    # may end by a signal.
+    # The deepest expressions: dots in a repetition that is there no time, items, choices, signs of repetition,
+    # and dots that are too many, but are counted and dropped. Each runs in half of the default stack. In a
+    # small one it may end by a signal.
     deep = {"4,091 dots": ("[" + "." * 4_091 + "]{0}", (0, b"", b"")),
+            "1,024 items": ("a " * 1_024, (0, b"", b"")),
             "1,024 choices": ("|".join("a" * 1_024), (0, b"", b"")),
             "128 signs of repetition": ("a" + "?" * 128, (0, b"", b"")),
             "4,096 dots": ("." * 4_096, (4, b"", b"desq: expression: 4096 leaves, over 1024\n"))}
     one = write("one", b"a\n")
     for name, (expression, wanted) in deep.items():
         words = ["--support", "1", expression, one]
-        rows.ends(f"{name} in a stack of 8 MiB", within(resource.RLIMIT_STACK, 8 << 20, *words), wanted)
-        ran = within(resource.RLIMIT_STACK, 64 << 10, *words)
-        rows.hold(f"{name} in a stack of 64 KiB: done, or ended by the signal with nothing written",
-                  ran in (wanted, (-signal.SIGSEGV, b"", b"")), shown(ran))
+        for mebibytes in (4, 8):
+            rows.ends(f"{name} in a stack of {mebibytes} MiB",
+                      within(resource.RLIMIT_STACK, mebibytes << 20, *words), wanted)
+        for kibibytes in (64, 256):
+            ran = within(resource.RLIMIT_STACK, kibibytes << 10, *words)
+            rows.hold(f"{name} in a stack of {kibibytes} KiB: done, or ended by the signal with nothing written",
+                      ran in (wanted, (-signal.SIGSEGV, b"", b"")), shown(ran))
     address_space()
 
 
@@ -489,13 +575,18 @@ def address_space():
               if within(resource.RLIMIT_AS, size, "--support", "0")[0] in (2, 7))
     least = next(loaded, 64 << 20)
     line = write("line", b"a " * 10_000)
+    pairs = write("pairs", "".join(f"x{number:04d} y{number:04d}\n" for number in range(4_000)))
     small = [*range(0, 1 << 20, 32 << 10)]
     large = [more << 20 for more in (1, 2, 3, 4, 6, 8, 16, 64, 128, 256, 512)]
     for search, by in searches():
         for name, words, done, sizes in (
                 ("the running example", example(*search), DONE, [*small, *large]),
                 ("a long line", ["--support", "1", *search, "(a)*", line],
-                 (0, b"1\t" + b" ".join([b"a"] * 10_000) + b"\n", b""), [0, *large, 4 << 30])):
+                 (0, b"1\t" + b" ".join([b"a"] * 10_000) + b"\n", b""), [0, *large, 4 << 30]),
+                ("a root with 4,000 kids, each with a kid", ["--support", "1", *search, "(.)(.)", pairs],
+                 (0, b"".join(b"1\tx%04d y%04d\n" % (number, number) for number in range(4_000)), b""), [0, *large]),
+                ("made input", ["--support", "9000", *search, "--generated", "9000", ".*(top^=).*"],
+                 (0, b"generated 9000 patterns 1 support 9000 longest 1\n", b""), [0, *large])):
             wrong, ends = [], set()
             for more in sizes:
                 ran = within(resource.RLIMIT_AS, least + more, *words)
@@ -526,15 +617,19 @@ def signals():
     for number in (signal.SIGINT, signal.SIGTERM):
         name = signal.Signals(number).name
         for search, by in searches():
-            for when, words in (("reads", example(*search, sequences=below)),
-                                ("mines", ["--support", "1", *search, ".*(.)[.*(.)]{1,6}.*", many]),
-                                ("writes", ["--support", "1", *search, "(a)*", long])):
+            mines = ["--support", "1", *search, ".*(.)[.*(.)]{1,6}.*"]
+            runs = [("reads", example(*search, sequences=below)), ("mines", [*mines, many]),
+                    ("mines made input", [*mines, "--generated", "1000000"]),
+                    ("writes", ["--support", "1", *search, "(a)*", long])]
+            if search[1] != "count":
+                runs.append(("mines simulated", [*mines, "--simulate", "7", many]))
+            for when, words in runs:
                 ran = started(words, preexec_fn=default_signals)
                 begun, pipe = b"", None
                 if when == "reads":
                     pipe = feed(ran, below)
                     pipe.write(first_bytes[running])
-                elif when == "mines":
+                elif when.startswith("mines"):
                     give_up = time.monotonic() + SECONDS
                     while ran.poll() is None and used_ticks(ran.pid) < 5 and time.monotonic() < give_up:
                         time.sleep(0.005)
@@ -556,7 +651,8 @@ def signals():
                           f"status {ran.returncode}, {len(text)} bytes and {shown([told])}")
 
 
-for part in (odd_files, streams, lost_readers, failing_calls, limits, signals):
+for part in (odd_files, streams, lost_readers, failing_calls, read_to_the_end, terminals, made_input, limits,
+             signals):
     part()
 for path, text in first_bytes.items():
     with open(path, "rb") as file:

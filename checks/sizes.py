@@ -33,10 +33,10 @@ def within(space):
     return {"preexec_fn": lambda: resource.setrlimit(resource.RLIMIT_AS, (space, space))} if space else {}
 
 
-def by_each(name, support, words, wanted, engines=ENGINES, space=None):
-    """A row for each engine, with one worker and with four."""
+def by_each(name, support, words, wanted, engines=ENGINES, space=None, numbers=("1", "4")):
+    """A row for each engine, with one worker and with four, or with other numbers of workers."""
     for engine in engines:
-        for workers in ("1", "4"):
+        for workers in numbers:
             rows.ends(f"{name}, by {engine} with {workers}",
                       run("--support", str(support), "--engine", engine, "--workers", workers, *words, **within(space)),
                       (0, wanted, b""))
@@ -96,11 +96,18 @@ million = write("million", lines_of([f"{16 * number + place:x}" for place in ran
 by_each("1,048,576 names, within 512 MB", 1, [".*(fffff).*", million], b"1\tfffff\n", space=SPACE)
 os.remove(million)
 
-# As many ancestors as may be: a chain of 8,191, of which the lowest stands below all.
+# As many ancestors as may be: a chain of 8,191, of which the lowest stands below all. And as many parents of one item.
 chain = [named(number) for number in range(8_191)]
-above = write("chain", lines_of(zip(chain[1:], chain)))
-by_each("33,550,336 ancestors", 1, ["--hierarchy", above, "(.^)", write("lowest", chain[-1] + "\n")],
-        answer(([name], 1) for name in chain), ("dfs",))
+above, lowest = write("chain", lines_of(zip(chain[1:], chain))), write("lowest", chain[-1] + "\n")
+by_each("33,550,336 ancestors", 1, ["--hierarchy", above, "(.^)", lowest], answer(([name], 1) for name in chain), ("dfs",))
+for search in (["count", "--workers", "1"], ["dfs", "--workers", "64"], ["pivot"]):
+    rows.ends(f"the highest of 33,550,336 ancestors, by {' '.join(search)}",
+              run("--support", "1", "--engine", *search, "--hierarchy", above, f"({chain[0]}^=)", lowest),
+              (0, answer([([chain[0]], 1)]), b""))
+parents = [f"p{number}" for number in range(10_000)]
+by_each("10,000 parents of one item", 1,
+        ["--hierarchy", write("parents", lines_of([["x", *parents]])), "(.^)", write("below", "x\n")],
+        answer(([name], 1) for name in ["x", *parents]), numbers=("1", "4", "64"))
 
 # Long names, which the table of names finds by a hash and not by their bytes.
 long_names = [named(number) + "x" * 40 for number in range(100_000)]
