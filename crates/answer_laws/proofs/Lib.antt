@@ -1,0 +1,4 @@
+pub mod ListingLemmas
+pub mod OutputLemmas
+pub mod SortLemmas
+pub mod ExistenceLemmas
