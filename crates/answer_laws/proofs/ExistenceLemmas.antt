@@ -7,7 +7,7 @@ use Rattle.mine_model.specs.Answer.{Data, IsFrequent, NamedRow, IsAnswer}
 use Rattle.mine_model.proofs.OnceLemmas.{same_list_or_not}
 use Rattle.mine_model.proofs.SupportLemmas.{Counts-unique}
 use Rattle.mine_model.proofs.AliveLemmas.{WeighAtLeast-counted, WeighAtLeast-some}
-use Rattle.answer_laws.proofs.ListingLemmas.{Decided, decided-not, decided-both, AreTold, lists-told, Listing, listing-decides, listing-like, listing-one, listing-list, listing-where, listing-from}
+use Rattle.answer_laws.proofs.ListingLemmas.{Decided, decided-not, decided-both, IsDiscrete, lists-discrete, Listing, listing-decides, listing-like, listing-one, listing-list, listing-where, listing-from}
 use Rattle.answer_laws.proofs.OutputLemmas.{patterns}
 use Rattle.answer_laws.proofs.SortLemmas.{sorted-rows}
 
@@ -27,10 +27,10 @@ counted-some Has sequences n count some =
     WeighAtLeast-some Has sequences n some ((WeighAtLeast-counted Has sequences n n count).1 (omega arith))
 
 -- each pattern has a support
-pub supported : {A : Type 0} → AreTold A → (d : Data A) (pattern : List A) → (n : ℕ) × HasSupport d.links d.expression d.sequences pattern n
-supported {A} told d pattern =
+pub supported : {A : Type 0} → IsDiscrete A → (d : Data A) (pattern : List A) → (n : ℕ) × HasSupport d.links d.expression d.sequences pattern n
+supported {A} discrete d pattern =
     counted (λ items. IsPatternOf d.links d.expression items pattern)
-    (λ items. listing-decides (lists-told A told) (IsPatternOf d.links d.expression items) (patterns told d.links d.expression items) pattern) d.sequences
+    (λ items. listing-decides (lists-discrete A discrete) (IsPatternOf d.links d.expression items) (patterns discrete d.links d.expression items) pattern) d.sequences
 
 module _ (d : Data (List ℕ)) where
   -- a sequence has the pattern
@@ -69,7 +69,7 @@ module _ (d : Data (List ℕ)) where
     row_with = listing-like (λ row. IsEnough × (row ≡ made)) (IsRowOf pattern) forth back
         (listing-where IsEnough (λ row. row ≡ made)
         (decided-both (pattern ≢ []) (d.threshold ≤ n)
-        (decided-not (pattern ≡ []) (lists-told (List ℕ) same_list_or_not pattern [])) (reaches n)) (listing-one made))
+        (decided-not (pattern ≡ []) (lists-discrete (List ℕ) same_list_or_not pattern [])) (reaches n)) (listing-one made))
 
   row_of : (pattern : List (List ℕ)) → Listing (IsRowOf pattern)
   row_of pattern = let (n, exact) = supported same_list_or_not d pattern in row_with pattern n exact

@@ -22,24 +22,24 @@ pub decided-like : (P Q : Type 0) → (P → Q) → (Q → P) → Decided P → 
 decided-like P Q forth back (inl p) = inl (forth p)
 decided-like P Q forth back (inr never) = inr (λ q. never (back q))
 
--- things are the same, or are not
-abbrev pub AreTold : Type 0 → Type 0
-AreTold X = (x y : X) → Decided (x ≡ y)
+-- two of the things are the same, or they are not
+abbrev pub IsDiscrete : Type 0 → Type 0
+IsDiscrete X = (x y : X) → Decided (x ≡ y)
 
-pub lists-told : (X : Type 0) → AreTold X → AreTold (List X)
-lists-told X told [] [] = inl refl
-lists-told X told [] (y ∷ ys) = inr (λ e. absurd (cc))
-lists-told X told (x ∷ xs) [] = inr (λ e. absurd (cc))
-lists-told X told (x ∷ xs) (y ∷ ys) = decided-like ((x ≡ y) × (xs ≡ ys)) (x ∷ xs ≡ y ∷ ys)
+pub lists-discrete : (X : Type 0) → IsDiscrete X → IsDiscrete (List X)
+lists-discrete X discrete [] [] = inl refl
+lists-discrete X discrete [] (y ∷ ys) = inr (λ e. absurd (cc))
+lists-discrete X discrete (x ∷ xs) [] = inr (λ e. absurd (cc))
+lists-discrete X discrete (x ∷ xs) (y ∷ ys) = decided-like ((x ≡ y) × (xs ≡ ys)) (x ∷ xs ≡ y ∷ ys)
     (λ both i. both.0 i ∷ both.1 i) (λ e. (cc, cc))
-    (decided-both (x ≡ y) (xs ≡ ys) (told x y) (lists-told X told xs ys))
+    (decided-both (x ≡ y) (xs ≡ ys) (discrete x y) (lists-discrete X discrete xs ys))
 
-pub decided-contained : {X : Type 0} → AreTold X → (xs : List X) (y : X) → Decided (Contains xs y)
-decided-contained told [] y = inr (λ held. Contains-none y held)
-decided-contained told (x ∷ xs) y = decided-like ((y ≡ x) ⊎ Contains xs y) (Contains (x ∷ xs) y)
+pub decided-contained : {X : Type 0} → IsDiscrete X → (xs : List X) (y : X) → Decided (Contains xs y)
+decided-contained discrete [] y = inr (λ held. Contains-none y held)
+decided-contained discrete (x ∷ xs) y = decided-like ((y ≡ x) ⊎ Contains xs y) (Contains (x ∷ xs) y)
     (λ either. elim either [ inl same ↦ subst (Contains (x ∷ xs)) (sym same) (Contains-first x xs) | inr later ↦ Contains-other x xs y later ])
     (λ held. Contains-cases x xs y held)
-    (by (told y x) (decided-contained told xs y))
+    (by (discrete y x) (decided-contained discrete xs y))
   where
     by : Decided (y ≡ x) → Decided (Contains xs y) → Decided ((y ≡ x) ⊎ Contains xs y)
     by (inl same) later = inl (inl same)
@@ -51,9 +51,9 @@ pub record Listing {X : Type 0} (P : X → Type 0) : Type 0 where
   pub things : List X
   pub exact : (x : X) → Contains things x ↔ P x
 
-pub listing-decides : {X : Type 0} → AreTold X → (P : X → Type 0) → Listing P → (x : X) → Decided (P x)
-listing-decides told P listing x =
-    decided-like (Contains listing.things x) (P x) (listing.exact x).0 (listing.exact x).1 (decided-contained told listing.things x)
+pub listing-decides : {X : Type 0} → IsDiscrete X → (P : X → Type 0) → Listing P → (x : X) → Decided (P x)
+listing-decides discrete P listing x =
+    decided-like (Contains listing.things x) (P x) (listing.exact x).0 (listing.exact x).1 (decided-contained discrete listing.things x)
 
 pub listing-like : {X : Type 0} (P Q : X → Type 0) → ((x : X) → P x → Q x) → ((x : X) → Q x → P x) → Listing P → Listing Q
 listing-like P Q forth back listing = record {

@@ -11,7 +11,7 @@ use Rattle.mine_model.proofs.ListLemmas.{Contains-cases, Contains-first, Contain
 use Rattle.mine_model.proofs.WalkLemmas.{IsAncestor-chain, IsAncestor-more}
 use Rattle.mine_model.proofs.GenerationLemmas.{IsAncestor-none}
 use Rattle.mine_model.proofs.AboveLemmas.{Generates-shorter}
-use Rattle.answer_laws.proofs.ListingLemmas.{Decided, decided-not, AreTold, lists-told, Listing, listing-decides, listing-like, listing-none, listing-one, listing-either, listing-where, listing-from, listing-kept, listing-upto}
+use Rattle.answer_laws.proofs.ListingLemmas.{Decided, decided-not, IsDiscrete, lists-discrete, Listing, listing-decides, listing-like, listing-none, listing-one, listing-either, listing-where, listing-from, listing-kept, listing-upto}
 
 -- Ancestors
 
@@ -46,7 +46,7 @@ module _ {A : Type 0} (links : List (Link A)) (link : Link A) where
             (IsAncestor-chain (link ∷ links) link.parent link.child t (link.parent ∷ [], (Contains-first link links, refl)) (more link.child t both.0))
       ]
 
-module _ {A : Type 0} (told : AreTold A) where
+module _ {A : Type 0} (discrete : IsDiscrete A) where
   -- an item and what stands above it
   pub ancestors : (links : List (Link A)) (t : A) → Listing (λ w. IsAncestor links w t)
   ancestors [] t = listing-like (λ w. w ≡ t) (λ w. IsAncestor [] w t) (λ w same. ([], sym same)) (λ w above. sym (IsAncestor-none w t above)) (listing-one t)
@@ -56,7 +56,7 @@ module _ {A : Type 0} (told : AreTold A) where
       (over-back links link t) (λ w above. over-forth links link t above.0 w above.1)
       (listing-either (λ w. IsAncestor links w t) (λ w. IsAncestor links link.child t × IsAncestor links w link.parent) above
       (listing-where (IsAncestor links link.child t) (λ w. IsAncestor links w link.parent)
-      (listing-decides told (λ w. IsAncestor links w t) above link.child) (ancestors links link.parent)))
+      (listing-decides discrete (λ w. IsAncestor links w t) above link.child) (ancestors links link.parent)))
 
 -- Joined parts
 
@@ -93,14 +93,14 @@ module _ {A : Type 0} (P Q : List A → List A → Type 0) where
 
 -- Turns
 
-module _ {A : Type 0} (told : AreTold A) (P : List A → List A → Type 0) where
+module _ {A : Type 0} (discrete : IsDiscrete A) (P : List A → List A → Type 0) where
   -- what is taken and written in so many turns
   abbrev pub InTurns : ℕ → List A → List A → Type 0
   InTurns zero input output = (input ≡ []) × (output ≡ [])
   InTurns (suc n) input output = InTwo P (InTurns n) input output
 
   pub in_turns : ((input : List A) → Listing (P input)) → (n : ℕ) (input : List A) → Listing (InTurns n input)
-  in_turns each zero input = listing-where (input ≡ []) (λ output. output ≡ []) (lists-told A told input []) (listing-one [])
+  in_turns each zero input = listing-where (input ≡ []) (λ output. output ≡ []) (lists-discrete A discrete input []) (listing-one [])
   in_turns each (suc n) input = joined P (InTurns n) each (in_turns each n) input
 
   abbrev AreTurns : List A → List A → List (Turn A) → Type 0
@@ -207,27 +207,27 @@ module _ {A : Type 0} (told : AreTold A) (P : List A → List A → Type 0) wher
 
 -- Expressions
 
-module _ {A : Type 0} (told : AreTold A) (links : List (Link A)) where
+module _ {A : Type 0} (discrete : IsDiscrete A) (links : List (Link A)) where
   above : (t w : A) → Decided (IsAncestor links w t)
-  above t w = listing-decides told (λ w. IsAncestor links w t) (ancestors told links t) w
+  above t w = listing-decides discrete (λ w. IsAncestor links w t) (ancestors discrete links t) w
 
   matches : (l : Leaf A) (t : A) → Decided (Matches links l t)
   matches (under w) t = above t w
-  matches (exact w) t = told t w
+  matches (exact w) t = discrete t w
   matches (climb w) t = above t w
   matches (forced w) t = above t w
   matches any t = inl tt
   matches any_climb t = inl tt
   matches (not_under w) t = decided-not (IsAncestor links w t) (above t w)
-  matches (not_exact w) t = decided-not (t ≡ w) (told t w)
+  matches (not_exact w) t = decided-not (t ≡ w) (discrete t w)
 
   may_write : (l : Leaf A) (t : A) → Listing (MayWrite links l t)
   may_write (under w) t = listing-one t
   may_write (exact w) t = listing-one w
-  may_write (climb w) t = listing-kept (λ v. IsAncestor links v t) (λ v. IsAncestor links w v) (λ v. above v w) (ancestors told links t)
+  may_write (climb w) t = listing-kept (λ v. IsAncestor links v t) (λ v. IsAncestor links w v) (λ v. above v w) (ancestors discrete links t)
   may_write (forced w) t = listing-one w
   may_write any t = listing-one t
-  may_write any_climb t = ancestors told links t
+  may_write any_climb t = ancestors discrete links t
   may_write (not_under w) t = listing-one t
   may_write (not_exact w) t = listing-one t
 
@@ -258,7 +258,7 @@ module _ {A : Type 0} (told : AreTold A) (links : List (Link A)) where
   outputs (alt left right) captured input =
       listing-either (Generates links left captured input) (Generates links right captured input) (outputs left captured input) (outputs right captured input)
   outputs (rep inner least most) captured input =
-      repeated told (Generates links inner captured) (nothing inner captured) (outputs inner captured) least most input
+      repeated discrete (Generates links inner captured) (nothing inner captured) (outputs inner captured) least most input
   outputs (cap inner) captured input = outputs inner true input
 
   pub patterns : (tree : Tree A) (sequence : List A) → Listing (IsPatternOf links tree sequence)
@@ -266,4 +266,4 @@ module _ {A : Type 0} (told : AreTold A) (links : List (Link A)) where
       listing-like (λ pattern. Generates links tree false sequence pattern × (pattern ≢ [])) (IsPatternOf links tree sequence)
       (λ pattern both. (both.1, both.0)) (λ pattern both. (both.1, both.0))
       (listing-kept (Generates links tree false sequence) (λ pattern. pattern ≢ [])
-      (λ pattern. decided-not (pattern ≡ []) (lists-told A told pattern [])) (outputs tree false sequence))
+      (λ pattern. decided-not (pattern ≡ []) (lists-discrete A discrete pattern [])) (outputs tree false sequence))
