@@ -1,0 +1,12 @@
+-- the words of the promise
+pub mod Runs
+pub mod ProofLines
+pub mod Proofs
+pub mod Judging
+-- what the proofs keep
+pub mod Steps
+pub mod Pieces
+pub mod Reading
+pub mod Checking
+pub mod Standing
+pub mod Taking
