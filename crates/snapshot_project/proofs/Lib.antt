@@ -23,3 +23,4 @@ pub mod SearchLemmas
 pub mod CountLemmas
 pub mod EnoughLemmas
 pub mod NextLemmas
+pub mod OpenLaws

@@ -1,5 +1,5 @@
 -- Lists of snapshots of a prefix, with all from which more can be written.
-use Rattle.std.proofs.Common.{◌≡◌, ◌↔◌, ℕ, zero, suc, ◌+◌, ◌≤◌, ◌<◌, inl, inr, IsTrue, false, Some, List, [], ◌∷◌, ◌++◌, length, map, drop, refl, sym, ap, ◌∙◌, subst, arith}
+use Rattle.std.proofs.Common.{◌≡◌, ◌↔◌, ℕ, zero, suc, ◌+◌, ◌≤◌, ◌<◌, inl, inr, Bool, IsTrue, false, Option, Some, None, List, [], ◌∷◌, ◌++◌, length, map, drop, refl, sym, ap, ◌∙◌, subst, arith}
 use Rattle.std.specs.List.{AllPairs, AllByRecursion, Contains, slice_get}
 use Rattle.std.proofs.lemmas.Bool.{cases_lt}
 use Rattle.std.proofs.lemmas.Option.{slice_get-get_or, slice_get_within}
@@ -17,7 +17,7 @@ use Rattle.snapshot_project.specs.declared.snapshot.Snapshot.{Snapshot}
 use Rattle.snapshot_project.specs.declared.hit.Hit.{Hit}
 use Rattle.snapshot_project.specs.Aims.{sees, goes}
 use Rattle.snapshot_project.specs.Hits.{AreHits, HasHit, HasEnd}
-use Rattle.snapshot_project.specs.Snapshots.{HasSnapshot, WritesOn, IsSnapshotOf, IsOpen, ComesBefore, SnapshotList, AreSnapshots}
+use Rattle.snapshot_project.specs.Snapshots.{HasSnapshot, WritesOn, IsSnapshotOf, IsOpen, ComesBefore, SnapshotList, MayGoOn, AreSnapshots}
 use Rattle.snapshot_project.specs.Extensions.{sequences_of, GrowsBehind, GeneratesWithin, IsSupportOf, NothingFollows}
 use Rattle.snapshot_project.specs.Live.{WritesNext, OpensNext, AreSnapshotsOf, IsGroup}
 use Rattle.snapshot_project.proofs.NeedLemmas.{needed-none, needed-longer}
@@ -26,6 +26,11 @@ use Rattle.snapshot_project.proofs.LiveLemmas.{longer-first, longer-next}
 use Rattle.snapshot_project.proofs.OpenLemmas.{open-goes, writes-begins}
 use Rattle.snapshot_project.proofs.ExtensionLemmas.{ranked-allowed, grows-shorter, grows-next, generates-next, generates-none}
 use Rattle.snapshot_project.proofs.WalkLemmas.{sees-tells}
+
+-- where nothing that is needed was seen, a path goes on by what it writes
+goes-unseen : (need : Option ℕ) → goes false need ≡ false
+goes-unseen None = refl
+goes-unseen (Some need) = refl
 
 -- the list without what is said of ranks
 pub snapshots-of : (part : GridList) (ranks : List ℕ) (list : SnapshotList) (are : AreSnapshots part ranks list) → AreSnapshotsOf part are.prefix list.snapshots
@@ -205,6 +210,13 @@ module _ (part : GridList) (whole : IsWhole part.problem) where
     right = λ snapshot held.
         let (known, first, start, completes) = (exact snapshot).0 held in
         (known, (snapshot-start part.problem part.bound (items_of part.problem snapshot.sequence) snapshot.position snapshot.state).1 (first, start, completes));
+    on = λ snapshot held.
+        let (known, first, start, completes) = (exact snapshot).0 held in
+        let items = items_of part.problem snapshot.sequence in
+        let unseen_goes : goes list.seen part.bound.need ≡ false = ap (λ (b : Bool). goes b part.bound.need) unseen ∙ goes-unseen part.bound.need in
+        subst (Completes part.problem part.bound (drop snapshot.position items) snapshot.state) (sym unseen_goes)
+        (subst (λ (q : ℕ). Completes part.problem part.bound (drop snapshot.position items) q false) (sym start)
+        (subst (λ (k : ℕ). Completes part.problem part.bound (drop k items) 0 false) (sym first) completes));
     all = λ snapshot is on.
         let (known, has) = is in
         let (first, start, completes) = (snapshot-start part.problem part.bound (items_of part.problem snapshot.sequence) snapshot.position snapshot.state).0 has in
@@ -239,10 +251,11 @@ module _ (part : GridList) (whole : IsWhole part.problem) where
     snapshots-by : (longer : SnapshotList) → longer.seen ≡ sees list.seen part.bound.need rank → IsSupportOf part (ranks ++ rank ∷ []) longer.support
         → AllPairs ComesBefore longer.snapshots
         → ((snapshot : Snapshot) → Contains longer.snapshots snapshot → IsSnapshotOf part (are.prefix ++ w ∷ []) snapshot)
+        → ((snapshot : Snapshot) → Contains longer.snapshots snapshot → MayGoOn part (sees list.seen part.bound.need rank) snapshot)
         → ((snapshot : Snapshot) → IsSnapshotOf part (are.prefix ++ w ∷ []) snapshot → IsOpen part (are.prefix ++ w ∷ []) snapshot
         → Contains longer.snapshots snapshot)
         → AreSnapshots part (ranks ++ rank ∷ []) longer
-    snapshots-by longer says support rising right all =
+    snapshots-by longer says support rising right on all =
         let tells = sees-tells (HoldsNeeded part.problem.ranking part.bound.need are.prefix) part.bound.need list.seen rank are.seen in
         let holds = needed-longer part.problem whole part.bound.need are.prefix w rank has in
         record {
@@ -252,6 +265,7 @@ module _ (part : GridList) (whole : IsWhole part.problem) where
           seen = ((λ seen. holds.1 (tells.0 (sym says ∙ seen))), (λ needed. says ∙ tells.1 (holds.0 needed)));
           rising = rising;
           right = right;
+          on = λ snapshot held. subst (λ (b : Bool). MayGoOn part b snapshot) (sym says) (on snapshot held);
           all = all;
           support = support;
         }
@@ -266,6 +280,8 @@ module _ (part : GridList) (whole : IsWhole part.problem) where
         (λ snapshot held.
         let (known, opens) = (exact snapshot).0 held in
         (known, opens-to snapshot.sequence snapshot.position snapshot.state opens))
+        (λ snapshot held.
+        let (known, (before, is, writes, completes)) = (exact snapshot).0 held in completes)
         (λ snapshot (known, at) on.
         (exact snapshot).1 (known, opens-from (items_of part.problem snapshot.sequence) snapshot.position snapshot.state at on))
 
@@ -274,6 +290,7 @@ module _ (part : GridList) (whole : IsWhole part.problem) where
         → longer.snapshots ≡ [] → NothingFollows part (ranks ++ rank ∷ []) → AreSnapshots part (ranks ++ rank ∷ []) longer
     snapshots-last longer says support none nothing = snapshots-by longer says support
         (subst (AllPairs ComesBefore) (sym none) (λ i j d less inside. absurd (omega (arith, inside))))
+        (λ snapshot held. absurd (Contains-none snapshot (subst (λ (l : List Snapshot). Contains l snapshot) none held)))
         (λ snapshot held. absurd (Contains-none snapshot (subst (λ (l : List Snapshot). Contains l snapshot) none held)))
         (λ snapshot (known, at) on.
         let ranked = ranked-push part.problem.ranking.order are.prefix ranks w rank are.ranked has in

@@ -1,11 +1,11 @@
 -- the words of the promise
 pub mod Runs
+pub mod Aims
 pub mod Snapshots
 pub mod Extensions
 -- what the proofs keep
 pub mod Live
 pub mod Parts
-pub mod Aims
 pub mod Hits
 pub mod Spans
 pub mod Joins

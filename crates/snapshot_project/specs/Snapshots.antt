@@ -10,6 +10,7 @@ use Rattle.sequence_grids.specs.Grids.{GridList, Completes, IsAllowed, HoldsNeed
 use Rattle.snapshot_project.specs.declared.snapshot.Snapshot.{Snapshot}
 use Rattle.snapshot_project.specs.Runs.{IsRun, IsStep}
 use Rattle.snapshot_project.specs.Extensions.{IsSupportOf}
+use Rattle.snapshot_project.specs.Aims.{goes}
 
 -- a path from the start over these items ends in the state and writes the prefix, and its last edge wrote the
 -- prefix's last item
@@ -74,8 +75,14 @@ pub record SnapshotList : Type 0 where
   pub support : ℕ
   pub snapshots : List Snapshot
 
--- The snapshots are snapshots of the prefix with these ranks, which the bound allows, each once; none is left
--- out from which more can be written.
+-- from the snapshot a path still has to go on: it writes more, or, where what is needed was seen, completes
+abbrev pub MayGoOn : GridList → Bool → Snapshot → Type 0
+MayGoOn part seen snapshot =
+    Completes part.problem part.bound (drop snapshot.position (items_of part.problem snapshot.sequence))
+    snapshot.state (goes seen part.bound.need)
+
+-- The snapshots are snapshots of the prefix with these ranks, which the bound allows, each once, and each may
+-- go on; none is left out from which more can be written.
 pub record AreSnapshots (part : GridList) (ranks : List ℕ) (list : SnapshotList) : Type 0 where
   pub prefix : List Item
   pub ranked : AreRanked part.problem.ranking.order prefix ranks
@@ -83,6 +90,7 @@ pub record AreSnapshots (part : GridList) (ranks : List ℕ) (list : SnapshotLis
   pub seen : IsTrue list.seen ↔ HoldsNeeded part.problem.ranking part.bound.need prefix
   pub rising : AllPairs ComesBefore list.snapshots
   pub right : (snapshot : Snapshot) → Contains list.snapshots snapshot → IsSnapshotOf part prefix snapshot
+  pub on : (snapshot : Snapshot) → Contains list.snapshots snapshot → MayGoOn part list.seen snapshot
   pub all : (snapshot : Snapshot) → IsSnapshotOf part prefix snapshot → IsOpen part prefix snapshot
       → Contains list.snapshots snapshot
   pub support : IsSupportOf part ranks list.support

@@ -10,6 +10,7 @@ mod filing;
 mod grouping;
 mod hit;
 mod joining;
+mod laws;
 mod next_rank;
 mod part;
 mod room;
@@ -23,6 +24,9 @@ mod walking;
 
 pub use advancing::{advance, advance_all};
 pub use extending::next_ranks;
+pub use laws::{
+    open_snapshots_are_where_longer_patterns_begin, snapshots_that_lack_nothing_are_open,
+};
 pub use next_rank::NextRank;
 pub use part::Part;
 pub use room::Room;
