@@ -1,5 +1,5 @@
 -- How a run ends, from what its parts answer; and what follows from how it ended.
-use Rattle.std.proofs.Common.{◌≡◌, ◌⊎◌, ◌↔◌, inl, inr, ℕ, List, [], ◌∷◌, ◌++◌, Option, Some, IfSome, Result, Ok, Err, OnOk, Contains, refl, sym, ap, ◌∙◌, subst, arith}
+use Rattle.std.proofs.Common.{◌≡◌, ◌⊎◌, ◌↔◌, inl, inr, ℕ, List, [], ◌∷◌, ◌++◌, Option, Some, IfSome, Result, Ok, Err, OnOk, OnErr, ◌≢◌, Contains, refl, sym, ap, ◌∙◌, subst, arith}
 use Rattle.mine_model.specs.declared.item.Item.{Item}
 use Rattle.mine_model.specs.declared.fault.Fault.{Fault}
 use Rattle.mine_model.specs.declared.fault.Fault.TheVariants.{Usage, BadToken, BadRepeat, Unexpected, Unknown, BadByte, BadWeight, Cycle, ExprTooLong, RepeatLimit, TooDeep, TooManyLeaves, TooLarge, NameTooLong, TooManyItems, TooManyAncestors, TooManySequences, SequenceTooLong, Read, Write, NoMemory}
@@ -19,7 +19,7 @@ use Rattle.command_line.specs.Words.{Source, read, embed, make, Command, IsComma
 use Rattle.command_line.proofs.CommandLemmas.{IsCommand-unique, IsUsage-excludes}
 use Rattle.desq_run.specs.Sources.{IsSourceRefusal, IsUnknownIn}
 use Rattle.desq_run.specs.Said.{RefusesHierarchy, RefusesSequences}
-use Rattle.desq_run.specs.Ends.{Input, IsInput, bytes_named, hierarchy_names, known_names, IsFirstRefusal, IsAccepted, HasSource, IsOfKind, IsOfFiles, Ends, done, no_command, refused_source, refused_file, read_fault, write_fault, no_memory}
+use Rattle.desq_run.specs.Ends.{Input, IsInput, bytes_named, hierarchy_names, known_names, IsFirstRefusal, IsAccepted, HasSource, IsOfKind, IsOfFiles, AcceptsHierarchy, RefusesNoOther, NeedsNoFile, Ends, done, no_command, refused_source, refused_file, read_fault, write_fault, no_memory}
 use Rattle.desq_run.specs.Inputs.{IsHierarchySaid, IsDatabaseSaid, IsRead}
 use Rattle.desq_run.proofs.LinkLemmas.{Contains-both, Contains-front, Contains-back}
 use Rattle.desq_run.proofs.SameRefusals.{HoldSame, sequences-alike, unknown-alike}
@@ -127,12 +127,19 @@ module _ (words : List (List ℕ)) (holds : List ℕ → Option (List ℕ)) (c :
         no_source input is,
         inl (subst (λ (d : Command). RefusesHierarchy d.source input.hierarchy fault) (same_command input is)
             (IfSome-at (λ bytes. RefusesHierarchy c.source bytes fault) (bytes_named holds c.hierarchy) input.hierarchy refused (hierarchy_at input is))),
-      )) of_files
+      ))
+      (λ bytes other told also. hierarchy-once c.source bytes other fault also
+      (IfSome-at (λ bytes. RefusesHierarchy c.source bytes fault) (bytes_named holds c.hierarchy) bytes refused told)) of_files
 
   module _ (known : List (List ℕ)) (h : Ancestry) (read : IfSome (bytes_named holds c.hierarchy) (λ bytes. IsHierarchySaid c.source bytes known h)) where
     pub read_at : (input : Input) → IsInput words holds input → IsHierarchySaid input.command.source input.hierarchy known h
     read_at input is = subst (λ (d : Command). IsHierarchySaid d.source input.hierarchy known h) (same_command input is)
         (IfSome-at (λ bytes. IsHierarchySaid c.source bytes known h) (bytes_named holds c.hierarchy) input.hierarchy read (hierarchy_at input is))
+
+    -- nothing of the hierarchy is refused
+    pub accepts : AcceptsHierarchy holds c
+    accepts bytes fault told refused =
+        (IfSome-at (λ bytes. IsHierarchySaid c.source bytes known h) (bytes_named holds c.hierarchy) bytes read told).accepted fault refused
 
     known_same : (input : Input) → IsInput words holds input → HoldSame known (hierarchy_names input)
     known_same input is = (read_at input is).held
@@ -151,7 +158,7 @@ module _ (words : List (List ℕ)) (holds : List ℕ → Option (List ℕ)) (c :
                 subst (λ (d : Command). RefusesSequences d.source d.weighted known input.sequences fault) (same_command input is) here in
                 (sequences-alike input.command.source input.command.weighted known (hierarchy_names input) input.sequences (known_same input is) fault).0 there),
           ),
-        )) of_files
+        )) (λ bytes other told also. absurd (accepts bytes other told also)) of_files
 
     module _ (names : List (List ℕ)) (db : List (Sequence Item)) (found : IfSome (bytes_named holds (file_of c.source)) (λ bytes. IsDatabaseSaid c.source c.weighted bytes known names db)) where
       pub found_at : (input : Input) → IsInput words holds input → IsDatabaseSaid input.command.source input.command.weighted input.sequences known names db
@@ -194,6 +201,7 @@ module _ (words : List (List ℕ)) (holds : List ℕ → Option (List ℕ)) (c :
                 inr (no_sequences input is, (unknown_at input is fault).1 unknown),
               ),
             ))
+            (λ bytes other told also. absurd (accepts bytes other told also))
             (let (u, inside, same) = unknown-use names [] uses fault unknown in inr (u, is_read.used u inside, same))
 
         -- where no name is unknown nothing is refused
@@ -212,24 +220,24 @@ other_status s n (inr four) same not_three not_four = not_four (sym same ∙ fou
 
 module _ (words : List (List ℕ)) (holds : List ℕ → Option (List ℕ)) where
   pub usage-ended : (outcome : Result (Option Work) Fault) → Ends words holds outcome → status_of outcome ≡ 2 → IsUsage words
-  usage-ended _ (done c told has asked ends) status = absurd (omega (arith, status))
+  usage-ended _ (done c told has asked accepts ends) status = absurd (omega (arith, status))
   usage-ended _ (no_command usage) status = usage
   usage-ended _ (refused_source c fault is refused) status =
       absurd (other_status (fault_status fault) 2 (source-status c.source fault refused) status (λ e. omega (arith, e)) (λ e. omega (arith, e)))
-  usage-ended _ (refused_file c fault has refused malformed) status =
+  usage-ended _ (refused_file c fault has refused no_other malformed) status =
       absurd (other_status (fault_status fault) 2 (files-status c fault malformed) status (λ e. omega (arith, e)) (λ e. omega (arith, e)))
-  usage-ended _ (read_fault c file has names) status = absurd (omega (arith, status))
-  usage-ended _ (write_fault c has accepted) status = absurd (omega (arith, status))
+  usage-ended _ (read_fault c file has names accepts) status = absurd (omega (arith, status))
+  usage-ended _ (write_fault c has accepts accepted) status = absurd (omega (arith, status))
   usage-ended _ no_memory status = absurd (omega (arith, status))
 
   -- words of no command end so, unless memory ran out
   pub ended-usage : (outcome : Result (Option Work) Fault) → Ends words holds outcome → IsUsage words → (status_of outcome ≡ 2) ⊎ (status_of outcome ≡ 7)
-  ended-usage _ (done c told has asked ends) usage = absurd (IsUsage-excludes words c usage has.0)
+  ended-usage _ (done c told has asked accepts ends) usage = absurd (IsUsage-excludes words c usage has.0)
   ended-usage _ (no_command is) usage = inl refl
   ended-usage _ (refused_source c fault is refused) usage = absurd (IsUsage-excludes words c usage is)
-  ended-usage _ (refused_file c fault has refused malformed) usage = absurd (IsUsage-excludes words c usage has.0)
-  ended-usage _ (read_fault c file has names) usage = absurd (IsUsage-excludes words c usage has.0)
-  ended-usage _ (write_fault c has accepted) usage = absurd (IsUsage-excludes words c usage has.0)
+  ended-usage _ (refused_file c fault has refused no_other malformed) usage = absurd (IsUsage-excludes words c usage has.0)
+  ended-usage _ (read_fault c file has names accepts) usage = absurd (IsUsage-excludes words c usage has.0)
+  ended-usage _ (write_fault c has accepts accepted) usage = absurd (IsUsage-excludes words c usage has.0)
   ended-usage _ no_memory usage = inr refl
 
   -- a command whose source is refused ends so, unless memory ran out
@@ -241,59 +249,81 @@ module _ (words : List (List ℕ)) (holds : List ℕ → Option (List ℕ)) wher
       contradicts d has = has.1 fault (subst (λ (e : Command). IsSourceRefusal e.source fault) (IsCommand-unique words c d is has.0) refused)
 
       by : (outcome : Result (Option Work) Fault) → Ends words holds outcome → (status_of outcome ≡ fault_status fault) ⊎ (status_of outcome ≡ 7)
-      by _ (done d told has asked ends) = absurd (contradicts d has)
+      by _ (done d told has asked accepts ends) = absurd (contradicts d has)
       by _ (no_command usage) = absurd (IsUsage-excludes words c usage is)
       by _ (refused_source d other is_d refused_d) =
           let here : IsSourceRefusal d.source fault = subst (λ (e : Command). IsSourceRefusal e.source fault) (IsCommand-unique words c d is is_d) refused in
           inl (ap fault_status (source-unique d.source other fault refused_d here))
-      by _ (refused_file d other has refused_d malformed) = absurd (contradicts d has)
-      by _ (read_fault d file has names) = absurd (contradicts d has)
-      by _ (write_fault d has accepted) = absurd (contradicts d has)
+      by _ (refused_file d other has refused_d no_other malformed) = absurd (contradicts d has)
+      by _ (read_fault d file has names accepts) = absurd (contradicts d has)
+      by _ (write_fault d has accepts accepted) = absurd (contradicts d has)
       by _ no_memory = inr refl
+
+  -- a hierarchy that is refused ends the run so, unless memory ran out or a fault of reading came
+  pub ended-hierarchy : (outcome : Result (Option Work) Fault) → Ends words holds outcome → (c : Command) (bytes : List ℕ) (fault : Fault) → HasSource words c
+      → bytes_named holds c.hierarchy ≡ Some bytes → RefusesHierarchy c.source bytes fault
+      → (status_of outcome ≡ fault_status fault) ⊎ (status_of outcome ≡ 7) ⊎ (status_of outcome ≡ 5)
+  ended-hierarchy _ ended c bytes fault has told refused = by _ ended
+    where
+      accepted : (d : Command) → HasSource words d → AcceptsHierarchy holds d → ⊥
+      accepted d has_d accepts =
+          subst (AcceptsHierarchy holds) (IsCommand-unique words d c has_d.0 has.0) accepts bytes fault told refused
+
+      by : (outcome : Result (Option Work) Fault) → Ends words holds outcome
+          → (status_of outcome ≡ fault_status fault) ⊎ (status_of outcome ≡ 7) ⊎ (status_of outcome ≡ 5)
+      by _ (done d work has_d asked accepts ends) = absurd (accepted d has_d accepts)
+      by _ (no_command usage) = absurd (IsUsage-excludes words c usage has.0)
+      by _ (refused_source d other is_d refused_d) =
+          absurd (has.1 other (subst (λ (e : Command). IsSourceRefusal e.source other) (IsCommand-unique words d c is_d has.0) refused_d))
+      by _ (refused_file d other has_d first no_other malformed) =
+          inl (ap fault_status (sym (subst (λ (e : Command). RefusesNoOther holds e other) (IsCommand-unique words d c has_d.0 has.0) no_other bytes fault told refused)))
+      by _ (read_fault d file has_d names accepts) = inr (inr refl)
+      by _ (write_fault d has_d accepts all) = absurd (accepted d has_d accepts)
+      by _ no_memory = inr (inl refl)
 
   module _ (input : Input) (is : IsInput words holds input) where
     -- what is malformed or beyond a limit is the first refusal
     pub refusal-ended : (outcome : Result (Option Work) Fault) → Ends words holds outcome → (status_of outcome ≡ 3) ⊎ (status_of outcome ≡ 4)
         → (fault : Fault) × IsFirstRefusal input fault × (fault_status fault ≡ status_of outcome)
-    refusal-ended _ (done c told has asked ends) (inl e) = absurd (omega (arith, e))
-    refusal-ended _ (done c told has asked ends) (inr e) = absurd (omega (arith, e))
+    refusal-ended _ (done c told has asked accepts ends) (inl e) = absurd (omega (arith, e))
+    refusal-ended _ (done c told has asked accepts ends) (inr e) = absurd (omega (arith, e))
     refusal-ended _ (no_command usage) (inl e) = absurd (omega (arith, e))
     refusal-ended _ (no_command usage) (inr e) = absurd (omega (arith, e))
     refusal-ended _ (refused_source c fault is_c refused) status =
         (fault, inl (subst (λ (d : Command). IsSourceRefusal d.source fault) (IsCommand-unique words c input.command is_c is.said) refused), refl)
-    refusal-ended _ (refused_file c fault has refused malformed) status = (fault, refused input is, refl)
-    refusal-ended _ (read_fault c file has names) (inl e) = absurd (omega (arith, e))
-    refusal-ended _ (read_fault c file has names) (inr e) = absurd (omega (arith, e))
-    refusal-ended _ (write_fault c has accepted) (inl e) = absurd (omega (arith, e))
-    refusal-ended _ (write_fault c has accepted) (inr e) = absurd (omega (arith, e))
+    refusal-ended _ (refused_file c fault has refused no_other malformed) status = (fault, refused input is, refl)
+    refusal-ended _ (read_fault c file has names accepts) (inl e) = absurd (omega (arith, e))
+    refusal-ended _ (read_fault c file has names accepts) (inr e) = absurd (omega (arith, e))
+    refusal-ended _ (write_fault c has accepts accepted) (inl e) = absurd (omega (arith, e))
+    refusal-ended _ (write_fault c has accepts accepted) (inr e) = absurd (omega (arith, e))
     refusal-ended _ no_memory (inl e) = absurd (omega (arith, e))
     refusal-ended _ no_memory (inr e) = absurd (omega (arith, e))
 
     -- the first refusal ends the run, unless memory ran out or a fault of reading came
     pub ended-refusal : (outcome : Result (Option Work) Fault) → Ends words holds outcome → (fault : Fault) → IsFirstRefusal input fault
         → (status_of outcome ≡ fault_status fault) ⊎ (status_of outcome ≡ 7) ⊎ (status_of outcome ≡ 5)
-    ended-refusal _ (done c told has asked ends) fault refused = absurd ((ends input is).0 fault refused)
+    ended-refusal _ (done c told has asked accepts ends) fault refused = absurd ((ends input is).0 fault refused)
     ended-refusal _ (no_command usage) fault refused = absurd (IsUsage-excludes words input.command usage is.said)
     ended-refusal _ (refused_source c other is_c refused_c) fault refused =
         let here : IsFirstRefusal input other =
         inl (subst (λ (d : Command). IsSourceRefusal d.source other) (IsCommand-unique words c input.command is_c is.said) refused_c) in
         inl (ap fault_status (first-unique input other fault here refused))
-    ended-refusal _ (refused_file c other has refused_c malformed) fault refused =
+    ended-refusal _ (refused_file c other has refused_c no_other malformed) fault refused =
         inl (ap fault_status (first-unique input other fault (refused_c input is) refused))
-    ended-refusal _ (read_fault c file has names) fault refused = inr (inr refl)
-    ended-refusal _ (write_fault c has accepted) fault refused = absurd (accepted input is fault refused)
+    ended-refusal _ (read_fault c file has names accepts) fault refused = inr (inr refl)
+    ended-refusal _ (write_fault c has accepts accepted) fault refused = absurd (accepted input is fault refused)
     ended-refusal _ no_memory fault refused = inr (inl refl)
 
     -- where nothing is refused the run is done, or a fault of reading or writing came, or memory ran out
     pub ended-accepted : (outcome : Result (Option Work) Fault) → Ends words holds outcome → IsAccepted input
         → (status_of outcome ≡ 0) ⊎ (status_of outcome ≡ 5) ⊎ (status_of outcome ≡ 6) ⊎ (status_of outcome ≡ 7)
-    ended-accepted _ (done c told has asked ends) all = inl refl
+    ended-accepted _ (done c told has asked accepts ends) all = inl refl
     ended-accepted _ (no_command usage) all = absurd (IsUsage-excludes words input.command usage is.said)
     ended-accepted _ (refused_source c fault is_c refused) all =
         absurd (all fault (inl (subst (λ (d : Command). IsSourceRefusal d.source fault) (IsCommand-unique words c input.command is_c is.said) refused)))
-    ended-accepted _ (refused_file c fault has refused malformed) all = absurd (all fault (refused input is))
-    ended-accepted _ (read_fault c file has names) all = inr (inl refl)
-    ended-accepted _ (write_fault c has accepted) all = inr (inr (inl refl))
+    ended-accepted _ (refused_file c fault has refused no_other malformed) all = absurd (all fault (refused input is))
+    ended-accepted _ (read_fault c file has names accepts) all = inr (inl refl)
+    ended-accepted _ (write_fault c has accepts accepted) all = inr (inr (inl refl))
     ended-accepted _ no_memory all = inr (inr (inr refl))
 
 -- what holds where a run is done
@@ -371,22 +401,33 @@ if-unwritten (Err (Read file)) P p status = absurd (omega (arith, status))
 if-unwritten (Err Write) P p status = p refl
 if-unwritten (Err NoMemory) P p status = absurd (omega (arith, status))
 
+-- what holds where a run is not done and the answer was not begun
+pub if-failed : (outcome : Result (Option Work) Fault) (P : Type 0) → OnErr outcome (outcome ≢ Err Write → P) → status_of outcome ≢ 0 → status_of outcome ≢ 6 → P
+if-failed (Ok x) P p not_zero not_six = absurd (not_zero refl)
+if-failed (Err fault) P p not_zero not_six = p (λ same. not_six (ap status_of same))
+
+-- of words that need no file the command needs none
+pub needs-none : (words : List (List ℕ)) (c : Command) → IsCommand words c
+    → IsUsage words ⊎ ((d : Command) × IsCommand words d × NeedsNoFile d.source) → NeedsNoFile c.source
+needs-none words c is (inl usage) = absurd (IsUsage-excludes words c usage is)
+needs-none words c is (inr (d, is_d, needs)) = subst (λ (e : Command). NeedsNoFile e.source) (IsCommand-unique words d c is_d is) needs
+
 -- where a run is done, or the answer was not written, nothing is refused
 pub accepted-ended : (words : List (List ℕ)) (holds : List ℕ → Option (List ℕ)) (input : Input) → IsInput words holds input
     → (outcome : Result (Option Work) Fault) → Ends words holds outcome → (status_of outcome ≡ 0) ⊎ (status_of outcome ≡ 6) → IsAccepted input
-accepted-ended words holds input is _ (done c told has asked ends) status = (ends input is).0
+accepted-ended words holds input is _ (done c told has asked accepts ends) status = (ends input is).0
 accepted-ended words holds input is _ (no_command usage) (inl e) = absurd (omega (arith, e))
 accepted-ended words holds input is _ (no_command usage) (inr e) = absurd (omega (arith, e))
 accepted-ended words holds input is _ (refused_source c fault is_c refused) (inl e) =
     absurd (other_status (fault_status fault) 0 (source-status c.source fault refused) e (λ p. omega (arith, p)) (λ p. omega (arith, p)))
 accepted-ended words holds input is _ (refused_source c fault is_c refused) (inr e) =
     absurd (other_status (fault_status fault) 6 (source-status c.source fault refused) e (λ p. omega (arith, p)) (λ p. omega (arith, p)))
-accepted-ended words holds input is _ (refused_file c fault has refused of_files) (inl e) =
+accepted-ended words holds input is _ (refused_file c fault has refused no_other of_files) (inl e) =
     absurd (other_status (fault_status fault) 0 (files-status c fault of_files) e (λ p. omega (arith, p)) (λ p. omega (arith, p)))
-accepted-ended words holds input is _ (refused_file c fault has refused of_files) (inr e) =
+accepted-ended words holds input is _ (refused_file c fault has refused no_other of_files) (inr e) =
     absurd (other_status (fault_status fault) 6 (files-status c fault of_files) e (λ p. omega (arith, p)) (λ p. omega (arith, p)))
-accepted-ended words holds input is _ (read_fault c file has names) (inl e) = absurd (omega (arith, e))
-accepted-ended words holds input is _ (read_fault c file has names) (inr e) = absurd (omega (arith, e))
-accepted-ended words holds input is _ (write_fault c has accepted) status = accepted input is
+accepted-ended words holds input is _ (read_fault c file has names accepts) (inl e) = absurd (omega (arith, e))
+accepted-ended words holds input is _ (read_fault c file has names accepts) (inr e) = absurd (omega (arith, e))
+accepted-ended words holds input is _ (write_fault c has accepts accepted) status = accepted input is
 accepted-ended words holds input is _ no_memory (inl e) = absurd (omega (arith, e))
 accepted-ended words holds input is _ no_memory (inr e) = absurd (omega (arith, e))

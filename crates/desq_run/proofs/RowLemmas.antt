@@ -23,7 +23,7 @@ use Rattle.desq_run.specs.Sources.{SaysTree}
 use Rattle.desq_run.specs.Ends.{bytes_named, data_of, HasSource, IsAnswerTo, IsWorkOf}
 use Rattle.desq_run.specs.Inputs.{IsHierarchySaid, IsDatabaseSaid, AreLinksWithin, AreInputs, HasRanges, IsRead, AreRows, AreOrdered, IsMined}
 use Rattle.desq_run.proofs.HierarchyLemmas.{all-of}
-use Rattle.desq_run.proofs.EndLemmas.{same_command, read_at, found_at, nothing-refused}
+use Rattle.desq_run.proofs.EndLemmas.{same_command, read_at, found_at, nothing-refused, accepts}
 use Rattle.desq_run.proofs.SourceLemmas.{answer-to}
 use Rattle.desq_run.proofs.InputLemmas.{rows-answer, work-answer}
 
@@ -64,6 +64,7 @@ module _ (words : List (List ℕ)) (holds : List ℕ → Option (List ℕ)) (c :
   unfolding Mines
   mined-at added within read is_read ranges some distinct found numbered known_all are = record {
     source = has;
+    hierarchy = accepts words holds c has known before read;
     accepted = nothing-refused words holds c has known before read (known ++ added) db found uses tree is_read known_all;
     answer = λ input is.
         let same : c ≡ input.command = same_command words holds c has input is in

@@ -127,11 +127,27 @@ abbrev pub HasSource : List (List ℕ) → Command → Type 0
 HasSource words command =
     IsCommand words command × ((fault : Fault) → IsSourceRefusal command.source fault → ⊥)
 
+-- of the hierarchy of the command nothing is refused, where what it holds is told
+abbrev pub AcceptsHierarchy : (List ℕ → Option (List ℕ)) → Command → Type 0
+AcceptsHierarchy holds command = (bytes : List ℕ) (fault : Fault)
+    → bytes_named holds command.hierarchy ≡ Some bytes → RefusesHierarchy command.source bytes fault → ⊥
+
+-- nothing but this fault is refused of it, where what it holds is told
+abbrev pub RefusesNoOther : (List ℕ → Option (List ℕ)) → Command → Fault → Type 0
+RefusesNoOther holds command fault = (bytes : List ℕ) (other : Fault)
+    → bytes_named holds command.hierarchy ≡ Some bytes → RefusesHierarchy command.source bytes other
+    → other ≡ fault
+
+-- the source is refused, or is made: nothing of it stands in a file
+abbrev pub NeedsNoFile : Source → Type 0
+NeedsNoFile source = ((fault : Fault) × IsSourceRefusal source fault) ⊎ (file_of source ≡ None)
+
 -- What each outcome of a run says of the words, and of what the files hold where they tell it. A run that is
--- done tells its work where the command asks for it.
+-- done tells its work where the command asks for it. The hierarchy is read before the sequences.
 pub data Ends (words : List (List ℕ)) (holds : List ℕ → Option (List ℕ)) : Result (Option Work) Fault
     → Type 0 where
   done : (command : Command) (told : Option Work) → HasSource words command → command.stats ≡ is_some told
+      → AcceptsHierarchy holds command
       → ((input : Input) → IsInput words holds input → IsAccepted input × IfSome told (IsWork input))
       → Ends words holds (Ok told)
   no_command : IsUsage words → Ends words holds (Err Usage)
@@ -139,9 +155,9 @@ pub data Ends (words : List (List ℕ)) (holds : List ℕ → Option (List ℕ))
       → IsSourceRefusal command.source fault → Ends words holds (Err fault)
   refused_file : (command : Command) (fault : Fault) → HasSource words command
       → ((input : Input) → IsInput words holds input → IsFirstRefusal input fault)
-      → IsOfFiles command fault → Ends words holds (Err fault)
+      → RefusesNoOther holds command fault → IsOfFiles command fault → Ends words holds (Err fault)
   read_fault : (command : Command) (file : Which) → HasSource words command → NamesKind command file
-      → Ends words holds (Err (Read file))
-  write_fault : (command : Command) → HasSource words command
+      → (file ≡ Sequences → AcceptsHierarchy holds command) → Ends words holds (Err (Read file))
+  write_fault : (command : Command) → HasSource words command → AcceptsHierarchy holds command
       → ((input : Input) → IsInput words holds input → IsAccepted input) → Ends words holds (Err Write)
   no_memory : Ends words holds (Err NoMemory)

@@ -24,7 +24,7 @@ use Rattle.mine_model.specs.PartitionWork.{IsNamedBefore}
 use Rattle.made_input.specs.Made.{most_made}
 use Rattle.desq_run.specs.Said.{names_said, links_said, sequences_said, RefusesHierarchy, RefusesSequences}
 use Rattle.desq_run.specs.Sources.{HasUse, IsUnknownIn, SaysTree}
-use Rattle.desq_run.specs.Ends.{Input, IsInput, bytes_named, IsAccepted, IsAnswerTo, HasSource, IsOfKind, IsWorkOf, IsWork}
+use Rattle.desq_run.specs.Ends.{Input, IsInput, bytes_named, IsAccepted, IsAnswerTo, HasSource, IsOfKind, IsWorkOf, IsWork, AcceptsHierarchy}
 
 -- nothing is refused, the names are exactly these, and above each other stands what these links say
 pub record IsHierarchyBy (Refuses : Fault → Type 0) (own : List (List ℕ)) (links : List (Link (List ℕ)))
@@ -129,6 +129,7 @@ pub record IsMined (words : List (List ℕ)) (holds : List ℕ → Option (List 
     (names : List (List ℕ))
     (rows : List Row) (counted : Work) : Type 0 where
   pub source : HasSource words command
+  pub hierarchy : AcceptsHierarchy holds command
   pub accepted : (input : Input) → IsInput words holds input → IsAccepted input
   pub answer : (input : Input) → IsInput words holds input
       → IsAnswerTo input.command.source input (map (named_row names) rows)

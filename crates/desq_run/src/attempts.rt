@@ -8,9 +8,9 @@ ghost use Rattle.mine_model.specs.Limits.{most_workers};
 ghost use Rattle.mine_model.specs.Names.{HasName, named_row};
 ghost use Rattle.mine_model.specs.AnswerText.{text_of};
 ghost use Rattle.made_input.specs.Summary.{summary_of};
-ghost use Rattle.command_line.specs.Words.{IsCommand, NamesFile, IsNamed};
+ghost use Rattle.command_line.specs.Words.{Command as CommandSaid, IsCommand, IsUsage, NamesFile, IsNamed};
 ghost use Rattle.command_line.specs.Commands.{source_said, command_said};
-ghost use Rattle.desq_run.specs.Ends.{Input, IsInput, IsAccepted, IsAnswerText, Ends};
+ghost use Rattle.desq_run.specs.Ends.{Input, IsInput, IsAccepted, IsAnswerText, NeedsNoFile, Ends};
 ghost use Rattle.desq_run.specs.Said.{output_of};
 ghost use Rattle.desq_run.specs.Inputs.{HasRanges, IsMined};
 
@@ -63,6 +63,7 @@ fn mine_input<R: Threads + Wait + Sync, F: Files, G: Gate>(
     ensures read_fault { (file : Which) → result ≡ Err (Read file)
         → Rose (F.faults files.old) (F.faults files.new) }
     ensures no_write { result ≢ Err Write }
+    ensures untouched { NeedsNoFile (source_said command.now.source) → files.new ≡ files.old }
     ensures same_names { F.may files.new ≡ F.may files.old }
     ensures same_files { F.holds files.new ≡ F.holds files.old }
     ensures never_falls { F.faults files.old ≤ F.faults files.new }
@@ -195,6 +196,9 @@ pub(crate) fn attempt<R: Threads + Wait + Sync, F: Files, O: Sink, G: Gate>(
     ensures read_fault { (file : Which) → result ≡ Err (Read file)
         → Rose (F.faults files.old) (F.faults files.new) }
     ensures write_fault { result ≡ Err Write → Rose (O.faults out.old) (O.faults out.new) }
+    ensures untouched { IsUsage (map string_bytes words.now)
+        ⊎ ((command : CommandSaid) × IsCommand (map string_bytes words.now) command
+        × NeedsNoFile command.source) → files.new ≡ files.old }
     ensures same_names { F.may files.new ≡ F.may files.old }
     ensures same_files { F.holds files.new ≡ F.holds files.old }
     ensures never_falls { (F.faults files.old ≤ F.faults files.new) × (O.faults out.old ≤ O.faults out.new) }

@@ -1,6 +1,6 @@
 //! Reads the files that a command names, or makes its input.
 
-ghost use Rattle.std.specs.Prelude.{◌≡◌, ◌≢◌, ℕ, ◌≤◌, ◌<◌, ◌++◌, List, [], Option, Err, IsSome, IsTrue, IfOk, IfErr, OnOk, IfSome, length, All, option_map, string_bytes};
+ghost use Rattle.std.specs.Prelude.{◌≡◌, ◌≢◌, ℕ, ◌≤◌, ◌<◌, ◌++◌, List, [], Option, Err, IsSome, IsTrue, IfOk, IfErr, OnOk, IfSome, None, length, All, option_map, string_bytes};
 ghost use Rattle.std.specs.List.{AllByRecursion};
 ghost use Rattle.text_ports.specs.Faults.{Rose};
 ghost use Rattle.mine_model.specs.declared.fault.Fault.TheVariants.{Read, Write};
@@ -207,6 +207,7 @@ pub(crate) fn read_inputs<F: Files>(
     ensures read_fault { (file : Which) → result ≡ Err (Read file)
         → Rose (F.faults files.old) (F.faults files.new) }
     ensures no_write { result ≢ Err Write }
+    ensures untouched { file_of (source_said command.now.source) ≡ None → files.new ≡ files.old }
     ensures same_names { F.may files.new ≡ F.may files.old }
     ensures same_files { F.holds files.new ≡ F.holds files.old }
     ensures never_falls { F.faults files.old ≤ F.faults files.new }

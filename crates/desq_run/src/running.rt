@@ -7,7 +7,8 @@ ghost use Rattle.mine_model.specs.declared.mined.Work.{Work};
 ghost use Rattle.mine_model.specs.Status.{fault_status, status_of, message_of};
 ghost use Rattle.command_line.specs.Words.{Command, IsNamed, IsCommand, IsUsage};
 ghost use Rattle.desq_run.specs.Sources.{IsSourceRefusal};
-ghost use Rattle.desq_run.specs.Ends.{Input, IsInput, IsFirstRefusal, IsAccepted, IsAnswerText, Ends};
+ghost use Rattle.desq_run.specs.Said.{RefusesHierarchy};
+ghost use Rattle.desq_run.specs.Ends.{Input, IsInput, bytes_named, IsFirstRefusal, IsAccepted, IsAnswerText, HasSource, NeedsNoFile, Ends};
 ghost use Rattle.desq_run.specs.Reported.{IsReported};
 
 use super::attempts::attempt;
@@ -57,12 +58,23 @@ pub fn run<R: Threads + Wait + Sync, F: Files, O: Sink, E: Sink, G: Gate>(
     ensures refuses_source { (command : Command) (fault : Fault)
         → IsCommand (map string_bytes words.now) command
         → IsSourceRefusal command.source fault → (result ≡ fault_status fault) ⊎ (result ≡ 7) }
+    ensures refuses_hierarchy { (command : Command) (bytes : List ℕ) (fault : Fault)
+        → HasSource (map string_bytes words.now) command
+        → bytes_named (F.holds files.old) command.hierarchy ≡ Some bytes
+        → RefusesHierarchy command.source bytes fault
+        → (result ≡ fault_status fault) ⊎ (result ≡ 7) ⊎ Rose (F.faults files.old) (F.faults files.new) }
     ensures refused { (result ≡ 3) ⊎ (result ≡ 4)
         → (input : Input) → IsInput (map string_bytes words.now) (F.holds files.old) input
         → (fault : Fault) × IsFirstRefusal input fault × (fault_status fault ≡ result) }
     ensures refuses { (input : Input) (fault : Fault)
         → IsInput (map string_bytes words.now) (F.holds files.old) input → IsFirstRefusal input fault
         → (result ≡ fault_status fault) ⊎ (result ≡ 7) ⊎ Rose (F.faults files.old) (F.faults files.new) }
+
+    // The words are read first, and then the expression or the rule: where these are refused, and where the
+    // input is made, no file is touched.
+    ensures untouched { IsUsage (map string_bytes words.now)
+        ⊎ ((command : Command) × IsCommand (map string_bytes words.now) command
+        × NeedsNoFile command.source) → files.new ≡ files.old }
 
     // Faults: only where they were counted in this call. After one of writing out gained the first bytes
     // of the answer's text, and not all.

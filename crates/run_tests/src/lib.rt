@@ -15,3 +15,5 @@ mod refusals;
 mod rows;
 #[cfg(test)]
 mod runs;
+#[cfg(test)]
+mod sure_ports;

@@ -53,7 +53,7 @@ struct Ran {
     err: MemSink,
 }
 
-fn words_of(alloc: Global, words: &str) -> Result<Vec<String>, Fail> {
+pub(crate) fn words_of(alloc: Global, words: &str) -> Result<Vec<String>, Fail> {
     let mut all = Vec::new(alloc);
     for word in words.split(' ') {
         all.push(String::from_str(alloc, word)?)?;

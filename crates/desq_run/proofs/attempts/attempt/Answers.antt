@@ -5,7 +5,7 @@ use Rattle.command_line.specs.Words.{Command}
 use Rattle.command_line.specs.Commands.{command_said}
 use Rattle.desq_run.specs.Ends.{Ends, IsWork, done, no_command, write_fault, no_memory}
 use Rattle.desq_run.specs.Said.{output_of}
-use Rattle.desq_run.proofs.EndLemmas.{same_command}
+use Rattle.desq_run.proofs.EndLemmas.{same_command, needs-none}
 use Rattle.desq_run.proofs.SourceLemmas.{has-ranges}
 use Rattle.desq_run.proofs.RowLemmas.{is-work}
 use Rattle.desq_run.proofs.attempts.attempt.Goals as goal
@@ -24,7 +24,7 @@ pub returns-clause-ends : goal.returns-clause-ends
 returns-clause-ends g c =
     let is = rw c.in-Some.is at c.in_ok-command.ensures in
     let mined = c.in_ok-mined.ensures.mined (map string_bytes c.args.words.now) is in
-    done (command_said c.in-Some.command) c.told.result mined.source c.told.ensures.asked
+    done (command_said c.in-Some.command) c.told.result mined.source c.told.ensures.asked mined.hierarchy
     (λ input is_input. (mined.accepted input is_input, is-work (IsWork input) c.told.result c.in_ok-mined.mined.work c.told.ensures.work (mined.work input is_input)))
 
 pub returns-clause-written : goal.returns-clause-written
@@ -49,7 +49,7 @@ returns-in_err-write_answer-clause-ends g c =
     let mined = c.in_ok-mined.ensures.mined words is in
     rw same
     (elim c.in_err-write_answer.ensures.fails [
-      | inl written ↦ subst (λ fault. Ends words holds (Err fault)) (sym written) (write_fault (command_said c.in-Some.command) mined.source mined.accepted)
+      | inl written ↦ subst (λ fault. Ends words holds (Err fault)) (sym written) (write_fault (command_said c.in-Some.command) mined.source mined.hierarchy mined.accepted)
       | inr memory ↦ subst (λ fault. Ends words holds (Err fault)) (sym memory) no_memory
     ])
 
@@ -72,3 +72,24 @@ pub mine_input-requires-clause-ranges : goal.mine_input-requires-clause-ranges
 mine_input-requires-clause-ranges g c = λ _ _.
     let is = rw c.in-Some.is at c.in_ok-command.ensures in
     has-ranges (map string_bytes c.args.words.now) (command_said c.in-Some.command) is
+
+pub returns-in_err-write_answer-clause-unchanged : goal.returns-in_err-write_answer-clause-unchanged
+returns-in_err-write_answer-clause-unchanged g c =
+    let same : c.from_residual-in_err-write_answer.result ≡ Err c.in_err-write_answer.field-0.0 = search rules in
+    rw same c.in_err-write_answer.ensures.unchanged
+
+-- the files are those that mining left
+pub returns-in_err-mined-clause-untouched : goal.returns-in_err-mined-clause-untouched
+returns-in_err-mined-clause-untouched g c = λ needs.
+    let is = rw c.in-Some.is at c.in_ok-command.ensures in
+    c.mine_input.ensures.untouched (needs-none (map string_bytes c.args.words.now) (command_said c.in-Some.command) is needs)
+
+pub returns-in_err-write_answer-clause-untouched : goal.returns-in_err-write_answer-clause-untouched
+returns-in_err-write_answer-clause-untouched g c = λ needs.
+    let is = rw c.in-Some.is at c.in_ok-command.ensures in
+    c.mine_input.ensures.untouched (needs-none (map string_bytes c.args.words.now) (command_said c.in-Some.command) is needs)
+
+pub returns-clause-untouched : goal.returns-clause-untouched
+returns-clause-untouched g c = λ needs.
+    let is = rw c.in-Some.is at c.in_ok-command.ensures in
+    c.mine_input.ensures.untouched (needs-none (map string_bytes c.args.words.now) (command_said c.in-Some.command) is needs)

@@ -1,5 +1,5 @@
 use Rattle.std.proofs.Common.{inl, inr, ◌∙◌, sym, map, string_bytes}
-use Rattle.desq_run.proofs.EndLemmas.{usage-ended, ended-usage, ended-source, refusal-ended, ended-refusal, ended-accepted, accepted-ended, if-done, if-unread, if-unwritten}
+use Rattle.desq_run.proofs.EndLemmas.{usage-ended, ended-usage, ended-source, ended-hierarchy, refusal-ended, ended-refusal, ended-accepted, accepted-ended, if-done, if-failed, if-unread, if-unwritten}
 use Rattle.desq_run.proofs.running.run.Goals as goal
 
 pub returns-clause-done : goal.returns-clause-done
@@ -22,6 +22,18 @@ pub returns-clause-refuses_source : goal.returns-clause-refuses_source
 returns-clause-refuses_source g c = λ command fault is refused.
     rw c.status-status.ensures
     (ended-source (map string_bytes c.args.words.now) (g.F.Files.holds c.args.files.now) c.attempt-outcome.result c.attempt-outcome.ensures.ends command fault is refused)
+
+pub returns-clause-refuses_hierarchy : goal.returns-clause-refuses_hierarchy
+returns-clause-refuses_hierarchy g c = λ command bytes fault has told refused.
+    let ended = ended-hierarchy (map string_bytes c.args.words.now) (g.F.Files.holds c.args.files.now) c.attempt-outcome.result c.attempt-outcome.ensures.ends
+    command bytes fault has told refused in
+    elim ended [
+      | inl same ↦ inl (c.status-status.ensures ∙ same)
+      | inr other ↦ elim other [
+        | inl memory ↦ inr (inl (c.status-status.ensures ∙ memory))
+        | inr unread ↦ inr (inr (if-unread c.attempt-outcome.result _ c.attempt-outcome.ensures.read_fault unread))
+      ]
+    ]
 
 pub returns-clause-refused : goal.returns-clause-refused
 returns-clause-refused g c = λ malformed input is.
@@ -60,3 +72,8 @@ returns-clause-complete g c = λ input is accepted files_clean out_clean.
         ]
       ]
     ]
+
+pub returns-clause-nothing : goal.returns-clause-nothing
+returns-clause-nothing g c = λ not_zero not_six.
+    if-failed c.attempt-outcome.result _ c.attempt-outcome.ensures.unchanged
+    (λ e. not_zero (c.status-status.ensures ∙ e)) (λ e. not_six (c.status-status.ensures ∙ e))
