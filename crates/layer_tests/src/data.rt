@@ -161,6 +161,8 @@ pub(crate) enum Shape {
     Forced,
     /// `.*(.)[.*(.)]*.*`
     Subsequence,
+    /// `.*(a1)(b).*`
+    Pair,
     /// `.*`
     Silent,
     /// `(a1){n}`, with n up to 1,024.
@@ -176,6 +178,7 @@ pub(crate) fn expression(alloc: Global, shape: Shape) -> Result<Expr, AllocError
         Shape::Climbing => between(alloc, climbing(alloc)?),
         Shape::Forced => between(alloc, cap(alloc, leaf(Leaf::Forced(A)))?),
         Shape::Subsequence => between(alloc, subsequence(alloc)?),
+        Shape::Pair => between(alloc, pair(alloc)?),
         Shape::Silent => star(alloc, leaf(Leaf::Any)),
         Shape::Times(n) => times(alloc, n.min(1_024)),
     }
@@ -217,6 +220,15 @@ fn subsequence(alloc: Global) -> Result<Expr, AllocError>
         cap(alloc, leaf(Leaf::Any))?,
     )?;
     cat(alloc, cap(alloc, leaf(Leaf::Any))?, star(alloc, next)?)
+}
+
+/// `(a1)(b)`
+fn pair(alloc: Global) -> Result<Expr, AllocError>
+    ensures leaves { IfOk result (λ e. unfolded_leaves (tree_of e) ≤ 4) }
+    ensures named { IfOk result (λ e. AllByRecursion (λ w. w.0 < 11) (named_in (tree_of e))) }
+{
+    let first = cap(alloc, leaf(Leaf::Under(A1)))?;
+    cat(alloc, first, cap(alloc, leaf(Leaf::Under(B)))?)
 }
 
 /// `(a1){n}`

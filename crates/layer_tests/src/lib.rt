@@ -18,6 +18,8 @@ mod grids;
 #[cfg(test)]
 mod growing;
 #[cfg(test)]
+mod judging;
+#[cfg(test)]
 mod listing;
 #[cfg(test)]
 mod pivots;

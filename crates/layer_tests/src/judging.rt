@@ -1,0 +1,165 @@
+//! Paths, and proofs of answers.
+ghost use Rattle.std.specs.Prelude.{◌≢◌, true, [], IfOk, IsTrue};
+ghost use Rattle.mine_model.specs.Text.{is_name_byte};
+ghost use Rattle.mine_model.specs.Tokens.{Each};
+ghost use Rattle.pattern_proof.specs.ProofLines.{AreFileNames};
+
+use super::data::{A1, B, C, Shape, WORDS, job};
+use fst_compile::State;
+use item_names::Names;
+use mine_model::{Item, NoMemory};
+use mining_job::Job;
+use pattern_proof::{ProofFault, checks, read_proof};
+use std::alloc::Global;
+use std::test::Fail;
+use text_ports::{MemFile, MemFiles};
+
+/// `a1 b` twice, and `a1 c`.
+const PAIRS: [(u64, &[Item]); 3] = [(1, &[A1, B]), (1, &[A1, B]), (1, &[A1, C])];
+
+/// Whether these bytes are a name of a file.
+fn is_name(bytes: &[u8]) -> bool
+    ensures { IsTrue result → (bytes.now ≢ []) × Each is_name_byte true bytes.now }
+{
+    for byte in bytes {
+        if *byte <= b' ' || *byte == 127 {
+            return false;
+        }
+    }
+    !bytes.is_empty()
+}
+
+/// The names of the items.
+fn file_names(alloc: Global) -> Result<Names, NoMemory>
+    ensures { IfOk result AreFileNames }
+{
+    let mut names = Names::new(alloc)?;
+    for word in &WORDS {
+        let bytes = word.as_bytes();
+        if !is_name(bytes) {
+            return Err(NoMemory);
+        }
+        match names.intern(bytes) {
+            Ok(_) => {}
+            Err(_) => return Err(NoMemory),
+        }
+    }
+    // No two of them are the same.
+    let _count = names.count();
+    Ok(names)
+}
+
+/// What is said of a proof file with this text.
+fn judged(alloc: Global, job: &Job, text: &str) -> Result<Result<u64, ProofFault>, NoMemory> {
+    let names = file_names(alloc)?;
+    let name = Vec::from_slice(alloc, b"f")?;
+    let bytes = Vec::from_slice(alloc, text.as_bytes())?;
+    let held = vec![in alloc; MemFile { name, bytes }]?;
+    let mut files = MemFiles::new(held, Vec::new(alloc), 5);
+    Ok(read_proof(alloc, &mut files, "f", job, &names))
+}
+
+/// Texts of proofs of `.*(a1)(b).*` over the pairs, with how many rows they have or why they are refused.
+const JUDGED: &[(&str, Result<u64, ProofFault>)] = &[
+    ("", Ok(0)),
+    ("2\ta1 b\n\t1 2 3\n\t2 2 3\n", Ok(1)),
+    ("002\ta1 b\r\n\t01 002 3\r\n\t2 2 03\r", Ok(1)),
+    ("\u{feff}2\ta1 b\n\t1 2 3\n\t2 2 3", Ok(1)),
+    (
+        "2\ta1 b\n\t1 2 3\n\t2 2 4\n",
+        Err(ProofFault::BadProof { line: 3 }),
+    ),
+    ("2\ta1 b\n\t1 2 3\n", Err(ProofFault::BadProof { line: 1 })),
+    (
+        "2\ta1 b\n\t1 2 3\n\t1 2 3\n",
+        Err(ProofFault::BadProof { line: 3 }),
+    ),
+    (
+        "2\ta1 b\n\t2 2 3\n\t1 2 3\n",
+        Err(ProofFault::BadProof { line: 3 }),
+    ),
+    (
+        "3\ta1 b\n\t1 2 3\n\t2 2 3\n",
+        Err(ProofFault::BadProof { line: 1 }),
+    ),
+    (
+        "1\ta1 b\n\t1 2 3\n\t2 2 3\n",
+        Err(ProofFault::BadProof { line: 1 }),
+    ),
+    (
+        "2\tb a1\n\t1 2 3\n\t2 2 3\n",
+        Err(ProofFault::BadProof { line: 2 }),
+    ),
+    (
+        "2\ta1  b\n\t1 2 3\n\t2 2 3\n",
+        Err(ProofFault::BadProof { line: 1 }),
+    ),
+    (
+        "2\ta1 y\n\t1 2 3\n\t2 2 3\n",
+        Err(ProofFault::BadProof { line: 1 }),
+    ),
+    (
+        "2\ta1 b\n\t1 2\n\t2 2 3\n",
+        Err(ProofFault::BadProof { line: 2 }),
+    ),
+    (
+        "2\ta1 b\n\t1 2 3 4\n\t2 2 3\n",
+        Err(ProofFault::BadProof { line: 2 }),
+    ),
+    (
+        "2\ta1 b\n\t0 2 3\n\t2 2 3\n",
+        Err(ProofFault::BadProof { line: 2 }),
+    ),
+    ("2\ta1 b\n\t3 2 3\n", Err(ProofFault::BadProof { line: 2 })),
+    (
+        "2\ta1 b\n\t1 2 3\n\t2 2 3 \n",
+        Err(ProofFault::BadProof { line: 3 }),
+    ),
+    ("\t1 2 3\n", Err(ProofFault::BadProof { line: 1 })),
+    (
+        "2\ta1 b\n\t1 2 3\n\t2 2 3\n\n",
+        Err(ProofFault::BadProof { line: 4 }),
+    ),
+    (
+        "2\ta1 b\n\t1 2 3\n\t2 2 3\n2\ta1 b\n\t1 2 3\n\t2 2 3\n",
+        Err(ProofFault::BadProof { line: 4 }),
+    ),
+    (
+        "2\ta1 b\n\t1 2 3\n\u{1}",
+        Err(ProofFault::BadByte { line: 3, column: 1 }),
+    ),
+];
+
+#[test]
+fn proofs_are_good_or_refused(rt: HostRuntime) -> Result<(), Fail> {
+    let job = job(&rt, rt.alloc(), Shape::Pair, &PAIRS, 1, 2)?;
+    for (text, wanted) in JUDGED {
+        assert_eq!(rt; judged(rt.alloc(), &job, text)?, *wanted, "{text}");
+    }
+    Ok(())
+}
+
+/// Whether the states are a path over the sequence with this number that writes `a1 b`.
+fn is_path(job: &Job, seq: u32, path: &[State]) -> bool {
+    seq < job.db().sequences() && checks(job, seq, &[A1, B], path)
+}
+
+#[test]
+fn paths_are_checked(rt: HostRuntime) -> Result<(), Fail> {
+    let job = job(&rt, rt.alloc(), Shape::Pair, &PAIRS, 1, 2)?;
+    let good = [State(2), State(3)];
+    assert!(rt; is_path(&job, 0, &good) && is_path(&job, 1, &good));
+    assert!(rt; !is_path(&job, 2, &good) && !is_path(&job, 0, &[]));
+    assert!(rt; !is_path(&job, 0, &[State(2)]) && !is_path(&job, 0, &[State(1), State(4)]));
+    assert!(rt;
+        !is_path(&job, 0, &[State(2), State(4)]) && !is_path(&job, 0, &[State(3), State(2)])
+    );
+    assert!(rt; !checks_none(&job) && !is_path(&job, 0, &[State(2), State(4_294_967_295)]));
+    Ok(())
+}
+
+/// Whether a path over the first sequence writes one item more.
+fn checks_none(job: &Job) -> bool {
+    let path = [State(2), State(3)];
+    job.db().sequences() > 0 && checks(job, 0, &[A1, B, B], &path)
+}
