@@ -12,3 +12,4 @@ pub mod LeafCountLemmas
 pub mod ReadLemmas
 pub mod RowLemmas
 pub mod MineLemmas
+pub mod ExistenceLemmas

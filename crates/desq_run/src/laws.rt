@@ -2,9 +2,10 @@
 
 ghost use Rattle.std.specs.Prelude.{◌≡◌, ◌↔◌, ℕ, List};
 ghost use Rattle.mine_model.specs.declared.fault.Fault.{Fault};
+ghost use Rattle.mine_model.specs.Answer.{NamedRow};
 ghost use Rattle.made_input.specs.Summary.{IsSummary};
-ghost use Rattle.command_line.specs.Words.{make};
-ghost use Rattle.desq_run.specs.Ends.{Input, IsFirstRefusal, IsAnswerText};
+ghost use Rattle.command_line.specs.Words.{make, IsCommand};
+ghost use Rattle.desq_run.specs.Ends.{Input, IsFirstRefusal, IsAccepted, IsAnswerTo, IsAnswerText};
 
 /// Of an input at most one refusal comes first.
 pub fn at_most_one_first_refusal()
@@ -16,6 +17,16 @@ pub fn at_most_one_first_refusal()
 pub fn at_most_one_text()
     ensures { (input : Input) (first second : List ℕ)
         → IsAnswerText input first → IsAnswerText input second → first ≡ second }
+{}
+
+/// An accepted input of a command has an answer, and the answer has a text.
+pub fn an_accepted_input_has_an_answer()
+    ensures answer { (words : List (List ℕ)) (input : Input)
+        → IsCommand words input.command → IsAccepted input
+        → (answer : List NamedRow) × IsAnswerTo input.command.source input answer }
+    ensures text { (words : List (List ℕ)) (input : Input)
+        → IsCommand words input.command → IsAccepted input
+        → (text : List ℕ) × IsAnswerText input text }
 {}
 
 /// On made input the text of the answer is the summary of the answer to the expression.

@@ -9,5 +9,8 @@ mod rows;
 mod running;
 mod sources;
 
-pub use laws::{at_most_one_first_refusal, at_most_one_text, made_output_is_the_summary};
+pub use laws::{
+    an_accepted_input_has_an_answer, at_most_one_first_refusal, at_most_one_text,
+    made_output_is_the_summary,
+};
 pub use running::run;
