@@ -2,6 +2,10 @@ pub mod Told
 pub mod LinkLemmas
 pub mod HierarchyLemmas
 pub mod PartitionRankLemmas
+pub mod SeedLemmas
+pub mod ShareRankLemmas
+pub mod ShareNameLemmas
+pub mod PartLemmas
 pub mod SourceLemmas
 pub mod InputLemmas
 pub mod SameRefusals

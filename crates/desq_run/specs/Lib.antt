@@ -1,6 +1,7 @@
 -- the words of the promise
 pub mod Sources
 pub mod Said
+pub mod Parts
 pub mod Ends
 pub mod Reported
 -- what the proofs keep

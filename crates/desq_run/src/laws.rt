@@ -1,6 +1,6 @@
 //! Laws over the definitions. Each is the contract of a function that does nothing.
 
-ghost use Rattle.std.specs.Prelude.{◌≡◌, ◌↔◌, ℕ, List};
+ghost use Rattle.std.specs.Prelude.{◌≡◌, ◌↔◌, ℕ, None, List};
 ghost use Rattle.mine_model.specs.declared.fault.Fault.{Fault};
 ghost use Rattle.made_input.specs.Summary.{IsSummary};
 ghost use Rattle.command_line.specs.Words.{make};
@@ -21,6 +21,6 @@ pub fn at_most_one_text()
 /// On made input the text of the answer is the summary of the answer to the expression.
 pub fn made_output_is_the_summary()
     ensures { (input : Input) (count : ℕ) (expression text : List ℕ)
-        → input.command.source ≡ make count expression
+        → input.command.source ≡ make count expression → input.command.share ≡ None
         → IsAnswerText input text ↔ IsSummary count expression input.command.threshold text }
 {}

@@ -7,6 +7,7 @@ mod laws;
 mod messages;
 mod rows;
 mod running;
+mod shares;
 mod sources;
 
 pub use laws::{at_most_one_first_refusal, at_most_one_text, made_output_is_the_summary};

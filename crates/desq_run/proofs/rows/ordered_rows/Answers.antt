@@ -1,7 +1,9 @@
 use Rattle.std.proofs.Common.{◌∙◌, sym, ap, subst, length, All}
 use Rattle.std.proofs.lemmas.List.Sorted.{All-permutation}
 use Rattle.mine_model.specs.declared.row.Row.{Row}
-use Rattle.mine_model.specs.Numbered.{tree_of, AreFrequent}
+use Rattle.mine_model.specs.Numbered.{tree_of}
+use Rattle.mine_model.specs.PartitionWork.{IsNamedBefore}
+use Rattle.desq_run.specs.Inputs.{AreFound}
 use Rattle.mine_model.specs.Names.{HasName}
 use Rattle.mine_model.proofs.ListLemmas.{written_back}
 use Rattle.desq_run.proofs.RowLemmas.{rows-named, rows-ordered}
@@ -17,14 +19,16 @@ returns-clause-rows g c =
     let back = written_back c.order.new.rows c.in_ok-rows.field-0.rows.items c.in_ok-rows.field-0.rows.len
     (c.in_ok-rows.field-0.rows.ok.0 ∙ sym (c.order.auto.rows ∙ ap length c.as_mut_slice.ensures.value)) in
     let same = rw c.as_mut_slice.ensures.value at c.order.ensures.same_rows in
-    let compiled = rw c.new-job.ensures at c.in_ok-rows.ensures.frequent in
-    let frequent : AreFrequent (record { links = c.args.hierarchy.links; sequences = c.args.db; expression = tree_of c.args.expression.now; threshold = c.args.command.now.support })
+    let compiled = rw c.new-job.ensures at c.in_ok-rows.ensures.found c.args.names.now (rw c.new-job.ensures at c.in_ok-ranks.ensures.ties) in
+    let found : AreFound (IsNamedBefore c.args.names.now) c.args.command.now.share
+    (record { links = c.args.hierarchy.links; sequences = c.args.db; expression = tree_of c.args.expression.now; threshold = c.args.command.now.support })
     c.in_ok-rows.field-0.rows.items =
-    subst (λ tree. AreFrequent (record { links = c.args.hierarchy.links; sequences = c.args.db; expression = tree; threshold = c.args.command.now.support }) c.in_ok-rows.field-0.rows.items)
+    subst (λ tree. AreFound (IsNamedBefore c.args.names.now) c.args.command.now.share
+    (record { links = c.args.hierarchy.links; sequences = c.args.db; expression = tree; threshold = c.args.command.now.support }) c.in_ok-rows.field-0.rows.items)
     c.in_ok-fst.ensures.expression compiled in
     rw back
-    (rows-ordered c.args.names.now c.args.hierarchy c.args.db (tree_of c.args.expression.now) c.args.command.now.support
-    c.in_ok-rows.field-0.rows.items c.order.new.rows frequent same c.order.ensures.rises)
+    (rows-ordered c.args.names.now c.args.hierarchy c.args.db (tree_of c.args.expression.now) c.args.command.now.support c.args.command.now.share
+    c.in_ok-rows.field-0.rows.items c.order.new.rows found same c.order.ensures.rises)
 
 pub returns-clause-named : goal.returns-clause-named
 returns-clause-named g c =
