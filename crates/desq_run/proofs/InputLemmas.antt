@@ -114,8 +114,8 @@ AreRowsOf None d rows = IsAnswer d rows
 AreRowsOf (Some share) d rows = IsPartBy (λ row. IsFrequent d row.pattern row.support) d share rows
 
 -- the rows found by numbers, in order, are those by names
-pub found-answer : (input : Input) (tree : Tree (List ℕ)) (known added : List (List ℕ)) (h : Ancestry) (db : List (Sequence Item)) (e : Tree Item) (share : Option Share) (engine : Engine)
-    (rows : List Row) (work : Work)
+pub found-answer : (input : Input) (tree : Tree (List ℕ)) (known added : List (List ℕ)) (h : Ancestry) (db : List (Sequence Item)) (e : Tree Item) (share : Option Share)
+    (rows : List Row)
     → AreDistinct (known ++ added)
     → IsHierarchySaid input.command.source input.hierarchy known h
     → AreLinksWithin h
@@ -124,15 +124,14 @@ pub found-answer : (input : Input) (tree : Tree (List ℕ)) (known added : List 
     → tree_by (name_of (known ++ added)) e ≡ tree
     → AllByRecursion (HasName (known ++ added)) (named_in e) → 1 ≤ input.command.threshold
     → AreFound (IsNamedBefore (known ++ added)) share (record { links = h.links; sequences = db; expression = e; threshold = input.command.threshold }) rows
-    → IsWorkOf (IsNamedBefore (known ++ added)) share engine (record { links = h.links; sequences = db; expression = e; threshold = input.command.threshold }) work
     → Rises (map (named_row (known ++ added)) rows)
     → AreRowsOf share (data_of input tree) (map (named_row (known ++ added)) rows)
-found-answer input tree known added h db e None engine rows work distinct read within is_db numbered same_tree named some found is_work rises =
+found-answer input tree known added h db e None rows distinct read within is_db numbered same_tree named some found rises =
     rows-answer input tree known added h db e rows distinct read within is_db numbered same_tree named some found rises
-found-answer input tree known added h db e (Some share) engine rows work distinct read within is_db numbered same_tree named some found is_work rises =
+found-answer input tree known added h db e (Some share) rows distinct read within is_db numbered same_tree named some found rises =
     let names : List (List ℕ) = known ++ added in
     let d : Data Item = record { links = h.links; sequences = db; expression = e; threshold = input.command.threshold } in
     let part = part-named names (links_said input.command.source input.hierarchy) d (names-rename input.command.source input.hierarchy known added h distinct read within)
-    numbered named some share is_work.order is_work.list rows found rises in
+    numbered named some share rows found rises in
     subst (λ (s : List (Sequence (List ℕ))). AreRowsOf (Some share) (record { links = links_said input.command.source input.hierarchy; sequences = s; expression = tree; threshold = input.command.threshold }) (map (named_row names) rows)) is_db.same
     (subst (λ (t : Tree (List ℕ)). AreRowsOf (Some share) (record { links = links_said input.command.source input.hierarchy; sequences = map (sequence_by (name_of names)) db; expression = t; threshold = input.command.threshold }) (map (named_row names) rows)) same_tree part)

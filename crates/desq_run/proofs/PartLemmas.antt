@@ -1,5 +1,5 @@
 -- The rows of a share by numbers, in order, are its part of the answer by names.
-use Rattle.std.proofs.Common.{◌≡◌, ℕ, ◌≤◌, ◌↔◌, List, sym, ap, subst, map, Contains, arith}
+use Rattle.std.proofs.Common.{◌≡◌, ℕ, ◌≤◌, Some, List, sym, ap, subst, map, Contains, arith}
 use Rattle.std.specs.List.{AllByRecursion}
 use Rattle.mine_model.specs.declared.item.Item.{Item}
 use Rattle.mine_model.specs.declared.row.Row.{Row}
@@ -13,9 +13,9 @@ use Rattle.mine_model.proofs.ListLemmas.{Contains-by, Contains-from}
 use Rattle.mine_model.proofs.NumberingLemmas.{Renames, map-none, counts-forth, counts-back, supported-in, supported-back}
 use Rattle.mine_model.proofs.NamedAnswer.{named_data}
 use Rattle.command_line.specs.declared.share.Share.{Share}
-use Rattle.split_merge.specs.Shares.{IsRankList, IsPivot}
-use Rattle.split_merge.proofs.ShareLemmas.{one_list}
-use Rattle.desq_run.specs.Parts.{IsOfShare, IsPartBy}
+use Rattle.split_merge.specs.Shares.{IsPivot, IsRowOfShare}
+use Rattle.desq_run.specs.Parts.{IsPartBy}
+use Rattle.desq_run.specs.Inputs.{AreFound}
 use Rattle.desq_run.proofs.ShareNameLemmas.{list-named, of-share-forth, of-share-back}
 
 module _ (names : List (List ℕ)) (others : List (Link (List ℕ))) (d : Data Item)
@@ -53,48 +53,30 @@ module _ (names : List (List ℕ)) (others : List (Link (List ℕ))) (d : Data I
         inside,
       )
 
-  module _ (share : Share) (order : List Item) (list : IsRankList (IsNamedBefore names) d order) where
+  module _ (share : Share) where
     abbrev Frequent : NamedRow → Type 0
     Frequent row = IsFrequent (named_data names others d) row.pattern row.support
 
-    abbrev OfShare : List (List ℕ) → Type 0
-    OfShare = IsOfShare IsBytewiseBefore (named_data names others d) share
-
-    lists : (own : List Item) → IsRankList (IsNamedBefore names) d own → IsRankList IsBytewiseBefore (named_data names others d) (map (name_of names) own)
-    lists = list-named (name_of names) others d (HasName names) renames named numbered IsBytewiseBefore some
-
-    share-forth : (pattern : List Item) → IsOfShare (IsNamedBefore names) d share pattern → OfShare (map (name_of names) pattern)
-    share-forth pattern (own, is_list, (pivot, is, inside)) = (
-      map (name_of names) own,
-      lists own is_list,
-      (pivot, of-share-forth (name_of names) others d (HasName names) renames named numbered IsBytewiseBefore some own is_list pattern pivot is, inside),
-    )
-
-    share-back : (pattern : List Item) → AllByRecursion (HasName names) pattern → OfShare (map (name_of names) pattern) → IsOfShare (IsNamedBefore names) d share pattern
-    share-back pattern within (by_name, is_list, (pivot, is, inside)) =
-        let same : by_name ≡ map (name_of names) order = one_list (named_data names others d) by_name (map (name_of names) order) is_list (lists order list) in (
-          order,
-          list,
-          (pivot,
-          of-share-back (name_of names) others d (HasName names) renames named numbered IsBytewiseBefore some order list pattern pivot within
-          (subst (λ o. IsPivot o (map (name_of names) pattern) pivot) same is), inside),
-        )
-
     -- THE ROWS of the share by numbers are its part by names
-    pub part-named : (rows : List Row)
-        → ((row : Row) → Contains rows row ↔ (IsFrequent d row.pattern row.support × IsOfShare (IsNamedBefore names) d share row.pattern))
-        → Rises (map (named_row names) rows)
+    pub part-named : (rows : List Row) → AreFound (IsNamedBefore names) (Some share) d rows → Rises (map (named_row names) rows)
         → IsPartBy Frequent (named_data names others d) share (map (named_row names) rows)
-    part-named rows found rises = record {
+    part-named rows (order, list, found) rises = record {
+      order = map (name_of names) order;
+      list = list-named (name_of names) others d (HasName names) renames named numbered IsBytewiseBefore some order list;
       ordered = rises;
       exact = λ row. (
         λ inside. let (r, held, same) = Contains-from (named_row names) rows row inside in
-            let (frequent, of_share) = (found r).0 held in
-            subst (λ (x : NamedRow). Frequent x × OfShare x.pattern) (sym same) (frequent-forth r.pattern r.support frequent, share-forth r.pattern of_share),
+            let (frequent, (pivot, is, in_share)) = (found r).0 held in
+            subst (λ (x : NamedRow). Frequent x × IsRowOfShare (map (name_of names) order) share.index share.of x) (sym same)
+            (frequent-forth r.pattern r.support frequent,
+            (pivot, of-share-forth (name_of names) others d (HasName names) renames named numbered IsBytewiseBefore some order list r.pattern pivot is, in_share)),
         λ is. let (own, same, is_own, within) = frequent-back row.pattern row.support is.0 in
             let r : Row = record { pattern = own; support = row.support } in
+            let pivot : IsPivot order own is.1.0 =
+            of-share-back (name_of names) others d (HasName names) renames named numbered IsBytewiseBefore some order list own is.1.0 within
+            (subst (λ p. IsPivot (map (name_of names) order) p is.1.0) same is.1.1) in
             let made : Contains (map (named_row names) rows) (named_row names r) =
-            Contains-by (named_row names) rows r ((found r).1 (is_own, share-back own within (subst OfShare same is.1))) in
+            Contains-by (named_row names) rows r ((found r).1 (is_own, (is.1.0, pivot, is.1.2))) in
             subst (Contains (map (named_row names) rows)) (rebuilt row (map (name_of names) own) same) made,
       );
     }

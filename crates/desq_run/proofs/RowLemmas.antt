@@ -41,9 +41,13 @@ found-ordered Ties None d rows ordered found same row = (
   (λ inside. (found row).0 (Contains-permutation ordered rows row (IsPermutation-sym rows ordered same) inside)),
   (λ is. Contains-permutation rows ordered row same ((found row).1 is)),
 )
-found-ordered Ties (Some share) d rows ordered found same row = (
-  (λ inside. (found row).0 (Contains-permutation ordered rows row (IsPermutation-sym rows ordered same) inside)),
-  (λ is. Contains-permutation rows ordered row same ((found row).1 is)),
+found-ordered Ties (Some share) d rows ordered (order, list, found) same = (
+  order,
+  list,
+  (λ row. (
+    (λ inside. (found row).0 (Contains-permutation ordered rows row (IsPermutation-sym rows ordered same) inside)),
+    (λ is. Contains-permutation rows ordered row same ((found row).1 is)),
+  )),
 )
 
 -- the rows brought into order
@@ -77,12 +81,11 @@ module _ (words : List (List ℕ)) (holds : List ℕ → Option (List ℕ)) (c :
         let same : c ≡ input.command = same_command words holds c has input is in
         subst (λ (d : Command). AreRowsTo d.share d.source input (map (named_row (known ++ added)) rows)) same
         (rows-to c.share c.source input (named_tree uses tree) (map (named_row (known ++ added)) rows) (ap (λ (d : Command). d.source) same) ranges is_read.says
-        (found-answer input (named_tree uses tree) known added before db are.expression c.share c.engine rows work distinct
+        (found-answer input (named_tree uses tree) known added before db are.expression c.share rows distinct
         (read_at words holds c has known before read input is) within
         (found_at words holds c has known before read (known ++ added) db found input is) numbered are.same are.named
         (subst (λ (d : Command). 1 ≤ d.threshold) same some)
         (subst (λ (d : Command). AreFound (IsNamedBefore (known ++ added)) c.share (record { links = before.links; sequences = db; expression = are.expression; threshold = d.threshold }) rows) same are.found)
-        (subst (λ (d : Command). IsWorkOf (IsNamedBefore (known ++ added)) c.share c.engine (record { links = before.links; sequences = db; expression = are.expression; threshold = d.threshold }) work) same are.work)
         are.rises));
     work = λ input is.
         let same : c ≡ input.command = same_command words holds c has input is in (

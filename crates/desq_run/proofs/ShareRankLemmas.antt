@@ -7,7 +7,6 @@ use Rattle.mine_model.specs.declared.row.Row.{Row}
 use Rattle.mine_model.specs.declared.mined.Work.{Work}
 use Rattle.mine_model.specs.Hierarchy.{Link}
 use Rattle.mine_model.specs.Answer.{Data, IsFrequent}
-use Rattle.mine_model.specs.Names.{name_of}
 use Rattle.mine_model.specs.Ranks.{Ranking, HasRank, AreRanks, AreTiesByName}
 use Rattle.mine_model.specs.Pivots.{IsRankedUpTo, IsWithin, IsWithinPivot, label_of, IsAliveLabel}
 use Rattle.mine_model.specs.PartitionWork.{RanksBefore, IsNamedBefore}
@@ -21,8 +20,8 @@ use Rattle.mining_job.specs.Problems.{Problem, data_of, IsWhole}
 use Rattle.search_engine.specs.Partition.{HasPivotAmong, IsPartsWork}
 use Rattle.command_line.specs.declared.share.Share.{Share}
 use Rattle.split_merge.specs.Shares.{IsInShare, IsRankList, HasPlace, IsRankedTo, IsPivot}
-use Rattle.split_merge.proofs.ShareLemmas.{rank_list_unique, bytewise_never, bytewise_chained}
 use Rattle.desq_run.specs.Parts.{HasItem, IsOfShare, IsShareWork}
+use Rattle.desq_run.specs.Inputs.{AreFound}
 use Rattle.desq_run.proofs.PartitionRankLemmas.{order-within, before, label-ranked, label-forth, label-back, one_top, one_list, by_top, item_at, items_of, IsItemLabel}
 
 to_place : (order : List Item) (v : Item) (rank : ℕ) → HasRank order v rank → HasPlace order v rank
@@ -30,13 +29,6 @@ to_place order v rank has = (has.least, has.place)
 
 to_rank : (order : List Item) (v : Item) (rank : ℕ) → HasPlace order v rank → HasRank order v rank
 to_rank order v rank has = record { least = has.0; place = has.1 }
-
--- items in the order of their names have one list of ranks
-pub named_list_unique : (names : List (List ℕ)) (d : Data Item) (first second : List Item)
-    → IsRankList (IsNamedBefore names) d first → IsRankList (IsNamedBefore names) d second → first ≡ second
-named_list_unique names d =
-    rank_list_unique (IsNamedBefore names) (λ v. bytewise_never (name_of names v))
-    (λ u v w. bytewise_chained (name_of names u) (name_of names v) (name_of names w)) d
 
 module _ (names : List (List ℕ)) (d : Data Item) (ranking : Ranking) (ranks : AreRanks d.links d.sequences d.threshold ranking)
     (ties : AreTiesByName names ranking) (within : (w : Item) → Contains ranking.order w → w.0 < length ranking.frequencies)
@@ -86,14 +78,12 @@ module _ (names : List (List ℕ)) (d : Data Item) (ranking : Ranking) (ranks : 
   module _ (pivots : List ℕ) (exact : ArePivotsOfShare pivots) where
     -- a frequent pattern is of the share exactly where its pivot is one of these
     pub share-pattern : (row : Row) → IsFrequent d row.pattern row.support
-        → HasPivotAmong ranking.order pivots row.pattern ↔ IsOfShare (IsNamedBefore names) d share row.pattern
+        → HasPivotAmong ranking.order pivots row.pattern ↔ IsOfShare share ranking.order row.pattern
     share-pattern row frequent = (
       (λ (pivot, inside, is).
           let (alive, in_share) = (exact pivot).0 inside in
-          (ranking.order, rank-list, (pivot, pivot-forth pivot row.pattern ((within_by pivot alive.0 row.pattern).0 is), in_share))),
-      (λ (order, list, (pivot, is, in_share)).
-          let same : order ≡ ranking.order = named_list_unique names d order ranking.order list rank-list in
-          let here : IsPivot ranking.order row.pattern pivot = subst (λ o. IsPivot o row.pattern pivot) same is in
+          (pivot, pivot-forth pivot row.pattern ((within_by pivot alive.0 row.pattern).0 is), in_share)),
+      (λ (pivot, here, in_share).
           let bound : IsWithinPivot ranking.order pivot row.pattern = (within_by pivot here.rank.0 row.pattern).1 (pivot-back pivot row.pattern here) in
           let alive : IsAliveLabel d ranking.order pivot [] = record {
             prefix = [];
@@ -107,10 +97,14 @@ module _ (names : List (List ℕ)) (d : Data Item) (ranking : Ranking) (ranks : 
     -- THE ROWS of the search are the frequent patterns of the share
     pub share-rows : (rows : List Row)
         → ((row : Row) → Contains rows row ↔ (IsFrequent d row.pattern row.support × HasPivotAmong ranking.order pivots row.pattern))
-        → (row : Row) → Contains rows row ↔ (IsFrequent d row.pattern row.support × IsOfShare (IsNamedBefore names) d share row.pattern)
-    share-rows rows found row = (
-      (λ held. let (frequent, among) = (found row).0 held in (frequent, (share-pattern row frequent).0 among)),
-      (λ is. (found row).1 (is.0, (share-pattern row is.0).1 is.1)),
+        → AreFound (IsNamedBefore names) (Some share) d rows
+    share-rows rows found = (
+      ranking.order,
+      rank-list,
+      (λ row. (
+        (λ held. let (frequent, among) = (found row).0 held in (frequent, (share-pattern row frequent).0 among)),
+        (λ is. (found row).1 (is.0, (share-pattern row is.0).1 is.1)),
+      )),
     )
 
     abbrev HasLabel : List ℕ → Type 0
@@ -188,7 +182,7 @@ module _ (problem : Problem) (whole : IsWhole problem)
 
   pub problem-share-rows : (rows : List Row)
       → ((row : Row) → Contains rows row ↔ (IsFrequent (data_of problem) row.pattern row.support × HasPivotAmong problem.ranking.order pivots row.pattern))
-      → (row : Row) → Contains rows row ↔ (IsFrequent (data_of problem) row.pattern row.support × IsOfShare (IsNamedBefore names) (data_of problem) share row.pattern)
+      → AreFound (IsNamedBefore names) (Some share) (data_of problem) rows
   problem-share-rows = share-rows names (data_of problem) problem.ranking whole.ranks ties in_list whole.least share pivots exact
 
   pub problem-share-work : AllPairs (λ low high. low < high) pivots → (work : Work) → IsPartsWork (data_of problem) problem.ranking.order pivots work

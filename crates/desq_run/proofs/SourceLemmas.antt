@@ -15,6 +15,8 @@ use Rattle.patex_parser.specs.Parsing.{use_at, IsParsed}
 use Rattle.command_line.specs.Options.{rows}
 use Rattle.command_line.specs.Words.{Source, read, embed, make, Command, IsCommand, GivesSource, GivesShare}
 use Rattle.desq_run.specs.Ends.{Input, data_of, IsAnswerTo, IsPartTo, AreRowsTo, IsAnswerText}
+use Rattle.split_merge.specs.Shares.{IsRowOfShare}
+use Rattle.split_merge.proofs.ShareLemmas.{one_list}
 use Rattle.desq_run.specs.Parts.{IsPartBy}
 use Rattle.desq_run.proofs.InputLemmas.{AreRowsOf}
 use Rattle.made_input.specs.Summary.{IsSummary}
@@ -23,7 +25,7 @@ use Rattle.desq_run.specs.Sources.{SaysTree}
 use Rattle.desq_run.specs.Inputs.{HasRanges, HasShare, IsRead}
 
 -- the data of the input, as a source says them
-abbrev data_by : Source → Input → Tree (List ℕ) → Data (List ℕ)
+abbrev pub data_by : Source → Input → Tree (List ℕ) → Data (List ℕ)
 data_by source input tree = record {
   links = links_said source input.hierarchy;
   sequences = sequences_said source input.command.weighted input.sequences;
@@ -85,6 +87,8 @@ expression-part input expression share tree part (uses, reads, same) is =
 part-alike : (One Other : NamedRow → Type 0) → ((row : NamedRow) → One row ↔ Other row) → (d : Data (List ℕ)) (share : Share) (part : List NamedRow)
     → IsPartBy One d share part → IsPartBy Other d share part
 part-alike One Other same d share part is = record {
+  order = is.order;
+  list = is.list;
   ordered = is.ordered;
   exact = λ row. (
     (λ held. let both = (is.exact row).0 held in ((same row).0 both.0, both.1)),
@@ -134,9 +138,13 @@ answer-unique (embed rule file) input first second is is' = Rises-unique first s
 
 part-unique : (One : NamedRow → Type 0) (d : Data (List ℕ)) (share : Share) (first second : List NamedRow) → IsPartBy One d share first
     → IsPartBy One d share second → first ≡ second
-part-unique One d share first second is is' = Rises-unique first second is.ordered is'.ordered
-    (λ row inside. (is'.exact row).1 ((is.exact row).0 inside))
-    (λ row inside. (is.exact row).1 ((is'.exact row).0 inside))
+part-unique One d share first second is is' =
+    let same : is.order ≡ is'.order = one_list d is.order is'.order is.list is'.list in
+    let moved : (row : NamedRow) → Contains first row ↔ (One row × IsRowOfShare is'.order share.index share.of row) =
+    subst (λ o. (row : NamedRow) → Contains first row ↔ (One row × IsRowOfShare o share.index share.of row)) same is.exact in
+    Rises-unique first second is.ordered is'.ordered
+    (λ row inside. (is'.exact row).1 ((moved row).0 inside))
+    (λ row inside. (moved row).1 ((is'.exact row).0 inside))
 
 expression-part-unique : (input : Input) (expression : List ℕ) (share : Share) (first second : List NamedRow)
     → IsPartTo (read expression []) input share first → IsPartTo (read expression []) input share second → first ≡ second

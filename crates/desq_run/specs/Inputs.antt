@@ -25,6 +25,7 @@ use Rattle.mine_model.specs.PartitionWork.{IsNamedBefore}
 use Rattle.made_input.specs.Made.{most_made}
 use Rattle.desq_run.specs.Said.{names_said, links_said, sequences_said, RefusesHierarchy, RefusesSequences}
 use Rattle.desq_run.specs.Sources.{HasUse, IsUnknownIn, SaysTree}
+use Rattle.split_merge.specs.Shares.{IsRankList}
 use Rattle.desq_run.specs.Parts.{IsOfShare}
 use Rattle.desq_run.specs.Ends.{Input, IsInput, bytes_named, IsAccepted, AreRowsTo, HasSource, IsOfKind, IsWorkOf, IsWork}
 
@@ -116,8 +117,9 @@ HasShare share = IfSome share (λ s. (1 ≤ s.index) × (s.index ≤ s.of))
 -- the rows are exactly the frequent patterns, or those whose pivot is in the share
 abbrev pub AreFound : (Item → Item → Type 0) → Option Share → Data Item → List Row → Type 0
 AreFound Ties None d rows = (row : Row) → Contains rows row ↔ IsFrequent d row.pattern row.support
-AreFound Ties (Some share) d rows = (row : Row) → Contains rows row
-    ↔ (IsFrequent d row.pattern row.support × IsOfShare Ties d share row.pattern)
+AreFound Ties (Some share) d rows = (order : List Item) × IsRankList Ties d order
+    × ((row : Row) → Contains rows row
+    ↔ (IsFrequent d row.pattern row.support × IsOfShare share order row.pattern))
 
 -- The rows are the frequent patterns by numbers, all or those of the share, in the order of their names, and
 -- the work is that of the engine; the tree is over names.

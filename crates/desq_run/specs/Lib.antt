@@ -3,6 +3,7 @@ pub mod Sources
 pub mod Said
 pub mod Parts
 pub mod Ends
+pub mod Shared
 pub mod Reported
 -- what the proofs keep
 pub mod Inputs

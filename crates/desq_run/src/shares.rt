@@ -1,10 +1,9 @@
 //! The search by the pivots of one share.
 
-ghost use Rattle.std.specs.Prelude.{◌≡◌, ◌↔◌, ◌≤◌, ◌<◌, ℕ, List, All, AllPairs, Contains, IsTrue, IfOk};
+ghost use Rattle.std.specs.Prelude.{◌↔◌, ◌≤◌, ◌<◌, ℕ, List, Some, All, AllPairs, Contains, IsTrue, IfOk};
 ghost use Rattle.std.specs.List.{AllByRecursion};
 ghost use Rattle.mine_model.specs.declared.row.Row.{Row as TheRow};
 ghost use Rattle.mine_model.specs.Limits.{most_workers};
-ghost use Rattle.mine_model.specs.Answer.{IsFrequent};
 ghost use Rattle.mine_model.specs.Numbered.{PatternsDiffer};
 ghost use Rattle.mine_model.specs.PartitionWork.{IsNamedBefore};
 ghost use Rattle.mine_model.specs.Ranks.{AreTiesByName};
@@ -12,7 +11,8 @@ ghost use Rattle.mining_job.specs.Problems.{Problem, data_of};
 ghost use Rattle.mining_job.specs.Parts.{IsComplete, pivot_of};
 ghost use Rattle.pivot_partition.specs.Pivots.{pivots_in};
 ghost use Rattle.split_merge.specs.Shares.{IsInShare};
-ghost use Rattle.desq_run.specs.Parts.{IsOfShare, IsShareWork};
+ghost use Rattle.desq_run.specs.Inputs.{AreFound};
+ghost use Rattle.desq_run.specs.Parts.{IsShareWork};
 
 use command_line::Share;
 use mine_model::{Gate, Mined, NoMemory};
@@ -68,9 +68,7 @@ pub(crate) fn mined_share<R: Threads + Wait + Sync, G: Gate>(
     requires within { share.index ≤ share.of }
     ensures once { IfOk result (λ mined. PatternsDiffer mined.rows.items) }
     ensures found { (names : List (List ℕ)) → AreTiesByName names job.now.ranking → IfOk result (λ mined.
-        (row : TheRow) → Contains mined.rows.items row
-        ↔ (IsFrequent (data_of job.now) row.pattern row.support
-        × IsOfShare (IsNamedBefore names) (data_of job.now) share row.pattern)) }
+        AreFound (IsNamedBefore names) (Some share) (data_of job.now) mined.rows.items) }
     ensures items { IfOk result (λ mined. (row : TheRow) → Contains mined.rows.items row
         → AllByRecursion (λ t. t.0 < job.now.hierarchy.items) row.pattern) }
     ensures work { (names : List (List ℕ)) → AreTiesByName names job.now.ranking → IfOk result (λ mined.

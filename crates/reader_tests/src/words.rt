@@ -24,7 +24,8 @@ const COMMANDS: &[(&str, &str)] = &[
     (
         "f --support=002  --weighted --hierarchy h --stats --workers=064 --engine count",
         "Some(Command { support: 2, source: Read { expression: \"f\", file: \"\" }, \
-         hierarchy: Some(\"h\"), weighted: true, engine: Count, workers: 64, seed: None, share: None, stats: true })",
+         hierarchy: Some(\"h\"), weighted: true, engine: Count, workers: 64, seed: None, share: None, \
+         stats: true })",
     ),
     (
         "--support 2 --engine=pivot --simulate 18446744073709551615 (a) --workers 1 f",

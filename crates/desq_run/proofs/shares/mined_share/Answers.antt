@@ -1,4 +1,4 @@
-use Rattle.std.proofs.Common.{ℕ, List, ◌×◌, ◌↔◌, ◌≤◌, Contains}
+use Rattle.std.proofs.Common.{ℕ, ◌↔◌, ◌≤◌, Some, Contains}
 use Rattle.mine_model.specs.declared.mined.Mined.{Mined}
 use Rattle.mine_model.specs.declared.row.Row.{Row}
 use Rattle.mine_model.specs.Answer.{IsFrequent}
@@ -8,7 +8,8 @@ use Rattle.mining_job.specs.Problems.{data_of}
 use Rattle.pivot_partition.specs.Pivots.{pivots_in}
 use Rattle.search_engine.specs.Partition.{HasPivotAmong, IsPartsWork}
 use Rattle.split_merge.specs.Shares.{IsInShare}
-use Rattle.desq_run.specs.Parts.{IsOfShare, IsShareWork}
+use Rattle.desq_run.specs.Inputs.{AreFound}
+use Rattle.desq_run.specs.Parts.{IsShareWork}
 use Rattle.desq_run.proofs.ShareRankLemmas.{problem-share-rows, problem-share-work, exact_both}
 use Rattle.desq_run.proofs.RowLemmas.{if_ok}
 use Rattle.desq_run.proofs.shares.mined_share.Goals as goal
@@ -28,8 +29,7 @@ returns-clause-found g c = λ names ties.
     (IsInShare c.args.share.index c.args.share.of) c.own_seeds-own.ensures.exact c.in_ok-seeds.ensures.alive in
     if_ok (λ (mined : Mined). (row : Row) → Contains mined.rows.items row
     ↔ (IsFrequent (data_of c.args.job.now) row.pattern row.support × HasPivotAmong c.args.job.now.ranking.order own row.pattern))
-    (λ (mined : Mined). (row : Row) → Contains mined.rows.items row
-    ↔ (IsFrequent (data_of c.args.job.now) row.pattern row.support × IsOfShare (IsNamedBefore names) (data_of c.args.job.now) c.args.share row.pattern))
+    (λ (mined : Mined). AreFound (IsNamedBefore names) (Some c.args.share) (data_of c.args.job.now) mined.rows.items)
     c.mine_parts.result
     (λ mined is. problem-share-rows c.args.job.now c.hierarchy.ensures.whole within names ties c.args.share own exact mined.rows.items is)
     c.mine_parts.ensures.rows
