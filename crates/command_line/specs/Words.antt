@@ -155,7 +155,8 @@ GivesSource found (make count expression) = (first_of (codes "expression") found
 -- seed and a share suit it, there is one source
 pub record KeepsRules (found : List Row) : Type 0 where
   pub support : (n : ℕ) × GivesSupport found n
-  pub mode : (engine : Engine) × (seed : Option ℕ) × (share : Option Share) × GivesMode found engine seed share
+  pub mode : (engine : Engine) × (seed : Option ℕ) × (share : Option Share)
+      × GivesMode found engine seed share
   pub workers : (n : ℕ) × GivesWorkers found n
   pub source : (source : Source) × GivesSource found source
 

@@ -34,7 +34,7 @@ use Rattle.desq_run.proofs.LinkLemmas.{links-among, Contains-both, Contains-fron
 
 -- What is not refused
 
-Nothing : {F : Type 0} → (F → Type 0) → Type 0
+abbrev Nothing : {F : Type 0} → (F → Type 0) → Type 0
 Nothing {F} Refused = (fault : F) → Refused fault → ⊥
 
 module _ {F : Type 0} where
@@ -65,10 +65,13 @@ cut_at (y ∷ xs) x held = elim (Contains-cases y xs x held) [
 -- where no fault is the first, there is none
 no_fault : (line : List ℕ) → ((f : TextFault) (c : ℕ) → IsFirstTextFault line f c → ⊥) → (n : ℕ) (f : TextFault) (c : ℕ) → c < n → HasTextFault line f c → ⊥
 no_fault line none zero f c less has = omega (arith, less)
-no_fault line none (suc n) f c less has = none f c (has, (λ other e also. elim (cases_lt e c) [
-  | inl below ↦ absurd (no_fault line none n other e (omega (arith, below, less)) also)
-  | inr least ↦ least
-]))
+no_fault line none (suc n) f c less has = none f c (
+  has,
+  (λ other e also. elim (cases_lt e c) [
+    | inl below ↦ absurd (no_fault line none n other e (omega (arith, below, less)) also)
+    | inr least ↦ least
+  ]),
+)
 
 sound : (file : Which) (number : ℕ) (line : List ℕ) → Nothing (IsTextRefusal file number line) → IsSoundLine line
 sound file number line none fault column has = no_fault line first (suc column) fault column (omega arith) has
@@ -196,7 +199,7 @@ module _ (weighted : Bool) (known : List (List ℕ)) (bytes : List ℕ) (none : 
 
 -- The support of a pattern
 
-total : List (Sequence (List ℕ)) → ℕ
+abbrev total : List (Sequence (List ℕ)) → ℕ
 total [] = 0
 total (s ∷ sequences) = 1000000000 + total sequences
 
@@ -223,10 +226,10 @@ each_of P (x ∷ xs) each = (each x (Contains-first x xs), each_of P xs (λ y he
 
 module _ (weighted : Bool) (hierarchy sequences : List ℕ) (threshold : ℕ) (some : 1 ≤ threshold) (tree : Tree (List ℕ))
     (none : Nothing (IsHierarchyRefusal hierarchy)) (also : Nothing (IsSequencesRefusal weighted (names_of (lines_of hierarchy)) sequences)) where
-  run_data : Data (List ℕ)
+  abbrev run_data : Data (List ℕ)
   run_data = record { links = links_of hierarchy; sequences = sequences_of weighted sequences; expression = tree; threshold = threshold }
 
-  known : List (List ℕ)
+  abbrev known : List (List ℕ)
   known = names_of (lines_of hierarchy) ++ items_of (sequences_of weighted sequences)
 
   known_name : (name : List ℕ) → Contains known name → IsFileName name
@@ -242,9 +245,10 @@ module _ (weighted : Bool) (hierarchy sequences : List ℕ) (threshold : ℕ) (s
 
   links_known : All (λ link. Contains known link.child × Contains known link.parent) (links_of hierarchy)
   links_known = all-of (λ (link : Link (List ℕ)). Contains known link.child × Contains known link.parent) (links_of hierarchy) (λ link held.
-      let both = links-among (read [] []) hierarchy link held in
-      (Contains-front (names_of (lines_of hierarchy)) (items_of (sequences_of weighted sequences)) link.child both.0,
-      Contains-front (names_of (lines_of hierarchy)) (items_of (sequences_of weighted sequences)) link.parent both.1))
+      let both = links-among (read [] []) hierarchy link held in (
+        Contains-front (names_of (lines_of hierarchy)) (items_of (sequences_of weighted sequences)) link.child both.0,
+        Contains-front (names_of (lines_of hierarchy)) (items_of (sequences_of weighted sequences)) link.parent both.1,
+      ))
 
   pattern_known : (row : NamedRow) → IsFrequent run_data row.pattern row.support → AllByRecursion (Contains known) row.pattern
   pattern_known row frequent =

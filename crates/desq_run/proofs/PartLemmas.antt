@@ -67,9 +67,10 @@ module _ (names : List (List ℕ)) (others : List (Link (List ℕ))) (d : Data I
       exact = λ row. (
         λ inside. let (r, held, same) = Contains-from (named_row names) rows row inside in
             let (frequent, (pivot, is, in_share)) = (found r).0 held in
-            subst (λ (x : NamedRow). Frequent x × IsRowOfShare (map (name_of names) order) share.index share.of x) (sym same)
-            (frequent-forth r.pattern r.support frequent,
-            (pivot, of-share-forth (name_of names) others d (HasName names) renames named numbered IsBytewiseBefore some order list r.pattern pivot is, in_share)),
+            subst (λ (x : NamedRow). Frequent x × IsRowOfShare (map (name_of names) order) share.index share.of x) (sym same) (
+              frequent-forth r.pattern r.support frequent,
+              (pivot, of-share-forth (name_of names) others d (HasName names) renames named numbered IsBytewiseBefore some order list r.pattern pivot is, in_share),
+            ),
         λ is. let (own, same, is_own, within) = frequent-back row.pattern row.support is.0 in
             let r : Row = record { pattern = own; support = row.support } in
             let pivot : IsPivot order own is.1.0 =

@@ -1,8 +1,9 @@
 -- The seeds of a share, of all seeds.
-use Rattle.std.proofs.Common.{◌≡◌, ◌↔◌, ℕ, ◌-◌, ◌%◌, ◌≤◌, ◌<◌, ◌&&◌, Bool, true, false, cond, nat_lt, nat_eq, List, [], ◌∷◌, map, filter, refl, sym, ap, ◌∙◌, subst}
+use Rattle.std.proofs.Common.{◌≡◌, ◌↔◌, ℕ, ◌-◌, ◌%◌, ◌≤◌, ◌<◌, ◌&&◌, Bool, true, false, cond, arith, List, [], ◌∷◌, map, filter, refl, sym, ap, ◌∙◌, subst}
 use Rattle.std.specs.Bool.{Decides}
 use Rattle.std.specs.List.{All, AllPairs, Contains}
-use Rattle.std.proofs.lemmas.Bool.Decides.{Decides-and, Decides-ltb, Decides-eqb, same_from_decides}
+use Rattle.std.proofs.lemmas.Bool.Decides.{Decides-and, Decides-like, Decides-ltb, Decides-eqb, same_from_decides}
+use Rattle.std.specs.Prelude.{ltb, ◌==◌}
 use Rattle.std.proofs.lemmas.List.Elements.{All-filter}
 use Rattle.std.proofs.lemmas.List.Kept.{AllPairs-filter}
 use Rattle.mine_model.proofs.ListLemmas.{Contains-filter, filter-Contains}
@@ -15,18 +16,20 @@ use Rattle.split_merge.specs.Shares.{IsInShare}
 
 -- whether the share has the rank
 abbrev pub has_rank : Share → ℕ → Bool
-has_rank share rank = nat_lt 0 rank && nat_eq ((rank - 1) % share.of) (share.index - 1)
+has_rank share rank = ltb 0 rank && ((rank - 1) % share.of == share.index - 1)
 
 abbrev pub has_seed : Share → PartSeed → Bool
 has_seed share seed = has_rank share (pivot_of seed.pivot)
 
 has_rank-Decides : (share : Share) (rank : ℕ) → Decides (has_rank share rank) (IsInShare share.index share.of rank)
 has_rank-Decides share rank =
-    Decides-and (nat_lt 0 rank) (nat_eq ((rank - 1) % share.of) (share.index - 1)) (Decides-ltb 0 rank) (Decides-eqb ((rank - 1) % share.of) (share.index - 1))
+    Decides-and (ltb 0 rank) ((rank - 1) % share.of == share.index - 1)
+    (Decides-like (ltb 0 rank) (λ p. omega (arith, p)) (λ p. omega (arith, p)) (Decides-ltb 0 rank))
+    (Decides-eqb ((rank - 1) % share.of) (share.index - 1))
 
 -- what answers whether the share has it is this test
 pub tested : (share : Share) (seed : PartSeed) (b : Bool) → (b ≡ true) ↔ IsInShare share.index share.of (pivot_of seed.pivot) → b ≡ has_seed share seed
-tested share seed b is = same_from_decides is (has_rank-Decides share (pivot_of seed.pivot))
+tested share seed b is = same_from_decides b (has_seed share seed) is (has_rank-Decides share (pivot_of seed.pivot))
 
 map_filter : {X Y : Type 0} (f : X → Y) (q : Y → Bool) (xs : List X) → map f (filter (λ x. q (f x)) xs) ≡ filter q (map f xs)
 map_filter f q [] = refl

@@ -24,25 +24,30 @@ module _ (Has : NamedRow → Type 0) where
   selected [] [] rises also there back = refl
   selected [] (y ∷ ys) rises also there back = absurd (Contains-none y (there y (Contains-first y ys)).0)
   selected (x ∷ xs) [] rises also there back =
-      inr ((λ has. Contains-none x (back x (Contains-first x xs) has)),
-      selected xs [] rises.1 also (λ row held. absurd (Contains-none row held)) (λ row held has. back row (Contains-other x xs row held) has))
+      inr (
+        (λ has. Contains-none x (back x (Contains-first x xs) has)),
+        selected xs [] rises.1 also (λ row held. absurd (Contains-none row held)) (λ row held has. back row (Contains-other x xs row held) has),
+      )
   selected (x ∷ xs) (y ∷ ys) rises also there back = elim (Contains-cases x xs y (there y (Contains-first y ys)).0) [
     | inl same ↦ inl (
       subst Has same (there y (Contains-first y ys)).1,
-      (ys, (λ i. same i ∷ ys),
-      selected xs ys rises.1 also.1
-      (λ row held. (
-        (let inside = there row (Contains-other y ys row held) in
-        elim (Contains-cases x xs row inside.0) [
-          | inl here ↦ absurd (ComesBefore-irreflexive y (subst (ComesBefore y) (here ∙ sym same) (AllByRecursion-contained (ComesBefore y) ys row also.0 held)))
-          | inr later ↦ later
-        ]),
-        (there row (Contains-other y ys row held)).1,
-      ))
-      (λ row held has. elim (Contains-cases y ys row (back row (Contains-other x xs row held) has)) [
-        | inl here ↦ absurd (ComesBefore-irreflexive x (subst (ComesBefore x) (here ∙ same) (AllByRecursion-contained (ComesBefore x) xs row rises.0 held)))
-        | inr later ↦ later
-      ])),
+      (
+        ys,
+        (λ i. same i ∷ ys),
+        selected xs ys rises.1 also.1
+            (λ row held. (
+              (let inside = there row (Contains-other y ys row held) in
+                  elim (Contains-cases x xs row inside.0) [
+                    | inl here ↦ absurd (ComesBefore-irreflexive y (subst (ComesBefore y) (here ∙ sym same) (AllByRecursion-contained (ComesBefore y) ys row also.0 held)))
+                    | inr later ↦ later
+                  ]),
+              (there row (Contains-other y ys row held)).1,
+            ))
+            (λ row held has. elim (Contains-cases y ys row (back row (Contains-other x xs row held) has)) [
+              | inl here ↦ absurd (ComesBefore-irreflexive x (subst (ComesBefore x) (here ∙ same) (AllByRecursion-contained (ComesBefore x) xs row rises.0 held)))
+              | inr later ↦ later
+            ]),
+      ),
     )
     | inr later ↦ inr (
       (λ has. elim (Contains-cases y ys x (back x (Contains-first x xs) has)) [
@@ -110,7 +115,7 @@ module _ {A : Type 0} (links : List (Link A)) (link : Link A) where
       IsAncestor-chain (link ∷ links) w link.parent t (IsAncestor-more links (link ∷ links) more w link.parent over.1)
       (IsAncestor-chain (link ∷ links) link.parent link.child t step (IsAncestor-more links (link ∷ links) more link.child t over.0))
 
-is_above : List (Link (List ℕ)) → List ℕ → List ℕ → Bool
+abbrev is_above : List (Link (List ℕ)) → List ℕ → List ℕ → Bool
 is_above [] w t = bytes_eq t w
 is_above (link ∷ links) w t = is_above links w t || (is_above links link.child t && is_above links w link.parent)
 

@@ -327,18 +327,28 @@ module _ {A B : Type 0} (f : A → B) (others : List (Link B)) (d : Data A) (P :
           (item-forth is.order is.list share x.0 has.0, (alive-same x.0 p x.1 inside).0 has.1))
           (λ y has.
           let (pivot, own, same, fronts, p, inside) = label-own y.0 y.1 has.1 in
-          let both : y ≡ (f pivot, map f own) = λ i. (same i, fronts i) in
-          ((pivot, own), both, (item-back is.order is.list share pivot p (subst (HasItem share (map f is.order)) same has.0),
-          (alive-same pivot p own inside).1 (subst (λ (l : B × List B). IsAlive renamed (BoundNamed l.0) l.1) both has.1))))
+          let both : y ≡ (f pivot, map f own) = λ i. (same i, fronts i) in (
+            (pivot, own),
+            both,
+            (
+              item-back is.order is.list share pivot p (subst (HasItem share (map f is.order)) same has.0),
+              (alive-same pivot p own inside).1 (subst (λ (l : B × List B). IsAlive renamed (BoundNamed l.0) l.1) both has.1),
+            ),
+          ))
           is.nodes;
       parts = IsNumberOf-by (λ pivot. HasItem share is.order pivot × IsAlive d (Bound pivot) [])
           (λ pivot. HasItem share (map f is.order) pivot × IsAlive renamed (BoundNamed pivot) []) f work.parts
           (λ x y here there same. renames.one_to_one x y (label-named x [] here.1).0 (label-named y [] there.1).0 same)
           (λ x has. (item-forth is.order is.list share x has.0, (alive-same x (label-named x [] has.1).0 [] tt).0 has.1))
           (λ y has.
-          let (pivot, own, same, fronts, p, inside) = label-own y [] has.1 in
-          (pivot, same, (item-back is.order is.list share pivot p (subst (HasItem share (map f is.order)) same has.0),
-          (alive-same pivot p [] tt).1 (subst (λ v. IsAlive renamed (BoundNamed v) []) same has.1))))
+          let (pivot, own, same, fronts, p, inside) = label-own y [] has.1 in (
+            pivot,
+            same,
+            (
+              item-back is.order is.list share pivot p (subst (HasItem share (map f is.order)) same has.0),
+              (alive-same pivot p [] tt).1 (subst (λ v. IsAlive renamed (BoundNamed v) []) same has.1),
+            ),
+          ))
           is.parts;
       candidates = is.candidates;
     }

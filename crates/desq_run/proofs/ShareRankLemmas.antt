@@ -148,9 +148,11 @@ module _ (names : List (List ℕ)) (d : Data Item) (ranking : Ranking) (ranks : 
           subst (λ l. HasItem share ranking.order (items_of names d ranking ranks ties within least l).0 × Alive (items_of names d ranking ranks ties within least l)) (sym is_x)
           (top_in top list some alive, label-forth names d ranking ranks ties within least top list (((exact top).0 some).0.0, alive)))
           (λ label (item, alive).
-          let (top, list, first, rest, found) = label-back names d ranking ranks ties within least label.0 label.1 alive in
-          (label_of top list, (λ i. (first i, rest i)),
-          (top, list, top_back top list found.0 found.1 (subst (HasItem share ranking.order) first item), refl, found.1)))
+          let (top, list, first, rest, found) = label-back names d ranking ranks ties within least label.0 label.1 alive in (
+            label_of top list,
+            (λ i. (first i, rest i)),
+            (top, list, top_back top list found.0 found.1 (subst (HasItem share ranking.order) first item), refl, found.1),
+          ))
           (record { things = is.labels; once = is.once; exact = is.alive; counted = is.nodes });
       parts = IsNumberOf-by (λ top. Contains pivots top) (λ pivot. HasItem share ranking.order pivot × Alive (pivot, [])) at work.parts
           (λ x y here there same.

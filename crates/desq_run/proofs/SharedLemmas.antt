@@ -23,12 +23,13 @@ use Rattle.desq_run.specs.Sources.{SaysTree}
 use Rattle.desq_run.specs.Said.{links_said, sequences_said}
 use Rattle.desq_run.specs.Parts.{IsPartBy}
 use Rattle.desq_run.specs.Inputs.{HasRanges}
-use Rattle.desq_run.specs.Ends.{Input, data_of, IsAnswerTo, IsPartTo}
+use Rattle.desq_run.specs.Ends.{Input, IsAccepted, data_of, IsAnswerTo, IsPartTo}
 use Rattle.desq_run.specs.Shared.{with_share, share_of, AreShareRuns}
 use Rattle.desq_run.proofs.SelectedLemmas.{part-of, are-counted}
 use Rattle.desq_run.proofs.SourceLemmas.{data_by, has-ranges}
+use Rattle.desq_run.proofs.LimitLemmas.{within-limits}
 
-by_name : Tree Use → Tree (List ℕ)
+abbrev by_name : Tree Use → Tree (List ℕ)
 by_name = tree_by (λ (u : Use). u.name)
 
 -- the part of an expression's answer
@@ -85,15 +86,26 @@ answer-from (embed rule file) input answer tree own ranges same is =
     (subst (λ source. IsAnswer (data_by source input (tree_of_rule rule)) answer) own told)
 
 module _ (input : Input) (of : ℕ) (part : ℕ → List NamedRow) (answer : List NamedRow) (numbers : List ℕ)
-    (runs : AreShareRuns input of part) (is : IsAnswerTo input.command.source input answer) where
-  source : Source
+    (runs : AreShareRuns input of part) (accepted : IsAccepted input) (is : IsAnswerTo input.command.source input answer) where
+  abbrev source : Source
   source = input.command.source
 
   ranges : HasRanges source
   ranges = let (words, said) = runs.said 1 (omega arith) runs.some in
       has-ranges words (with_share (Some (share_of of 1)) input).command said
 
-  tree : Tree (List ℕ)
+  -- a share is of files, and of a support from 1 on
+  no_made : (count : ℕ) (expression : List ℕ) → input.command.source ≡ make count expression → ⊥
+  no_made count expression own =
+      let (words, said) = runs.said 1 (omega arith) runs.some in
+      let gives : GivesSource (rows words) (make count expression) = subst (GivesSource (rows words)) own said.says.source in
+      let (text, given, is_text) = said.says.mode.shared in
+      none-some text (sym gives.1.split ∙ given)
+
+  least : 1 ≤ input.command.threshold
+  least = let (words, said) = runs.said 1 (omega arith) runs.some in said.says.support.2.within.0
+
+  abbrev tree : Tree (List ℕ)
   tree = (says-some source input answer is).0
 
   says : SaysTree source tree
@@ -105,14 +117,17 @@ module _ (input : Input) (of : ℕ) (part : ℕ → List NamedRow) (answer : Lis
   parts : AreAllParts (data_of input tree) of answer part
   parts index least most = part-at source input (share_of of index) answer (part index) tree says is (runs.found index least most)
 
-  pub merge-accepted : (refused : FileFault) → AreAllNumbers of numbers → AreWithinLimits input.command.threshold answer
+  limits : AreWithinLimits input.command.threshold answer
+  limits = within-limits input no_made least accepted tree answer whole
+
+  pub merge-accepted : (refused : FileFault) → AreAllNumbers of numbers
       → ((index : ℕ) → 1 ≤ index → index ≤ of → length (text_of (part index)) ≤ most_file_bytes)
       → IsMergeRefusal input.command.threshold (map text_of (map part numbers)) refused → ⊥
-  merge-accepted refused all limits few refusal =
+  merge-accepted refused all few refusal =
       runs_accepted (data_of input tree) answer part numbers of (are-counted (data_of input tree)) whole runs.some parts all limits few refused refusal
 
-  pub merge-bytes : (merge : List NamedRow) → AreAllNumbers of numbers → AreWithinLimits input.command.threshold answer
+  pub merge-bytes : (merge : List NamedRow) → AreAllNumbers of numbers
       → IsMerge input.command.threshold (map text_of (map part numbers)) merge → text_of merge ≡ text_of answer
-  merge-bytes merge all limits is_merge =
+  merge-bytes merge all is_merge =
       ap text_of (one_merge input.command.threshold (map text_of (map part numbers)) merge answer is_merge
       (merge_of_runs (data_of input tree) answer part numbers of (are-counted (data_of input tree)) whole runs.some parts all limits.outputs))

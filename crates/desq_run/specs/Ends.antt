@@ -85,17 +85,21 @@ IsAnswerTo (embed rule file) input answer = IsEmbeddedAnswer (links_of input.hie
 IsAnswerTo (make count expression) input answer = (tree : Tree Use) × ReadsAs expression tree
     × IsAnswer (data_of input (tree_by (λ (u : Use). u.name) tree)) answer
 
--- The rows are those of the answer whose pivot is in the share, in order.
+-- the rows are those of the answer to the expression whose pivot is in the share, in order
+abbrev pub IsPartOf : List ℕ → Input → Share → List NamedRow → Type 0
+IsPartOf expression input share rows = (tree : Tree Use) × ReadsAs expression tree
+    × IsPartBy (λ row.
+    IsFrequent (data_of input (tree_by (λ (u : Use). u.name) tree)) row.pattern row.support)
+    (data_of input (tree_by (λ (u : Use). u.name) tree)) share rows
+
+-- they are those of the answer of the source
 abbrev pub IsPartTo : Source → Input → Share → List NamedRow → Type 0
-IsPartTo (read expression file) input share rows = (tree : Tree Use) × ReadsAs expression tree
-    × IsPartBy (λ row. IsFrequent (data_of input (tree_by (λ (u : Use). u.name) tree)) row.pattern row.support)
-    (data_of input (tree_by (λ (u : Use). u.name) tree)) share rows
-IsPartTo (embed rule file) input share rows = IsPartBy (λ row. IsFrequentlyEmbedded (links_of input.hierarchy)
-    rule (sequences_of input.command.weighted input.sequences) input.command.threshold row.pattern row.support)
+IsPartTo (read expression file) input share rows = IsPartOf expression input share rows
+IsPartTo (embed rule file) input share rows = IsPartBy (λ row.
+    IsFrequentlyEmbedded (links_of input.hierarchy) rule
+    (sequences_of input.command.weighted input.sequences) input.command.threshold row.pattern row.support)
     (data_of input (tree_of_rule rule)) share rows
-IsPartTo (make count expression) input share rows = (tree : Tree Use) × ReadsAs expression tree
-    × IsPartBy (λ row. IsFrequent (data_of input (tree_by (λ (u : Use). u.name) tree)) row.pattern row.support)
-    (data_of input (tree_by (λ (u : Use). u.name) tree)) share rows
+IsPartTo (make count expression) input share rows = IsPartOf expression input share rows
 
 -- the rows that a run is to find: the answer, or its part where a share was asked for
 abbrev pub AreRowsTo : Option Share → Source → Input → List NamedRow → Type 0
@@ -108,8 +112,8 @@ IsAnswerText input text = (rows : List NamedRow)
     × AreRowsTo input.command.share input.command.source input rows
     × (text ≡ output_of input.command.source rows)
 
--- the work is that of a run of the engine over the data, or for a share of the pivots, where Ties says which of
--- two items of one frequency ranks first
+-- the work is that of a run of the engine over the data, or for a share of the pivots, where Ties says which
+-- of two items of one frequency ranks first
 abbrev pub IsWorkOf : {A : Type 0} → (A → A → Type 0) → Option Share → Engine → Data A → Work → Type 0
 IsWorkOf Ties (Some share) engine d work = IsShareWork Ties d share work
 IsWorkOf Ties None Count d work = IsCountingWork d work

@@ -1,5 +1,5 @@
--- What a run for one share of the pivots finds, and its work. Pivots are from the article on pivots; shares are
--- this program's own.
+-- What a run for one share of the pivots finds, and its work. Pivots are from the article on pivots; shares
+-- are this program's own.
 use Rattle.std.specs.Prelude.{◌≡◌, ◌↔◌, ℕ, List, [], Contains}
 use Rattle.mine_model.specs.declared.mined.Work.{Work}
 use Rattle.mine_model.specs.Answer.{Data, NamedRow, Rises}
@@ -19,8 +19,9 @@ module _ {A : Type 0} where
   IsOfShare share order pattern =
       (pivot : ℕ) × IsPivot order pattern pivot × IsInShare share.index share.of pivot
 
-  -- The work of a search by the pivots of a share: its nodes are the pairs of such a pivot and a prefix that is
-  -- alive within the bound of this pivot, and each such pivot under which the empty prefix is alive has a part.
+  -- The work of a search by the pivots of a share: its nodes are the pairs of such a pivot and a prefix that
+  -- is alive within the bound of this pivot, and each such pivot under which the empty prefix is alive has a
+  -- part.
   pub record IsShareWork (Ties : A → A → Type 0) (d : Data A) (share : Share) (work : Work) : Type 0 where
     pub order : List A
     pub list : IsRankList Ties d order

@@ -1,18 +1,18 @@
 //! Laws over the definitions. Each is the contract of a function that does nothing.
 
-ghost use Rattle.std.specs.Prelude.{◌≡◌, ◌↔◌, ◌≤◌, ℕ, None, List, Contains, length, map};
+ghost use Rattle.std.specs.Prelude.{◌≡◌, ◌↔◌, ◌≤◌, ℕ, None, List, length, map};
 ghost use Rattle.mine_model.specs.declared.fault.Fault.{Fault};
 ghost use Rattle.mine_model.specs.Expression.{Tree};
 ghost use Rattle.made_input.specs.Summary.{IsSummary};
 ghost use Rattle.mine_model.specs.Answer.{NamedRow};
 ghost use Rattle.mine_model.specs.AnswerText.{text_of};
 ghost use Rattle.mine_model.specs.Limits.{most_file_bytes};
-ghost use Rattle.command_line.specs.Words.{Text, make};
+ghost use Rattle.command_line.specs.Words.{make};
 ghost use Rattle.command_line.specs.declared.share.Share.{Share};
 ghost use Rattle.split_merge.specs.Shares.{IsPart};
-ghost use Rattle.split_merge.specs.Merging.{IsMerge, AreAllNumbers, AreWithinLimits, FileFault, IsMergeRefusal};
+ghost use Rattle.split_merge.specs.Merging.{IsMerge, AreAllNumbers, FileFault, IsMergeRefusal};
 ghost use Rattle.desq_run.specs.Sources.{SaysTree};
-ghost use Rattle.desq_run.specs.Ends.{Input, IsInput, IsFirstRefusal, IsAnswerTo, IsPartTo, IsAnswerText, data_of};
+ghost use Rattle.desq_run.specs.Ends.{Input, IsFirstRefusal, IsAccepted, IsAnswerTo, IsPartTo, IsAnswerText, data_of};
 ghost use Rattle.desq_run.specs.Shared.{AreShareRuns};
 
 /// Of an input at most one refusal comes first.
@@ -43,18 +43,20 @@ pub fn a_share_finds_its_part_of_the_answer()
 {}
 
 /// The outputs of the runs of all shares, in any order of the files, are not refused where none is too large,
-/// and their merge is the answer. Names and supports of the answer are within the limits of files.
+/// and their merge has the bytes of the answer, where the input is not refused.
 pub fn the_outputs_of_all_shares_merge_to_the_answer()
     ensures accepted { (input : Input) (of : ℕ) (part : ℕ → List NamedRow) (answer : List NamedRow)
         (numbers : List ℕ) (refused : FileFault)
-        → AreShareRuns input of part → IsAnswerTo input.command.source input answer
-        → AreAllNumbers of numbers → AreWithinLimits input.command.threshold answer
+        → AreShareRuns input of part → IsAccepted input
+        → IsAnswerTo input.command.source input answer
+        → AreAllNumbers of numbers
         → ((index : ℕ) → 1 ≤ index → index ≤ of → length (text_of (part index)) ≤ most_file_bytes)
         → IsMergeRefusal input.command.threshold (map text_of (map part numbers)) refused → ⊥ }
     ensures bytes { (input : Input) (of : ℕ) (part : ℕ → List NamedRow) (answer merge : List NamedRow)
         (numbers : List ℕ)
-        → AreShareRuns input of part → IsAnswerTo input.command.source input answer
-        → AreAllNumbers of numbers → AreWithinLimits input.command.threshold answer
+        → AreShareRuns input of part → IsAccepted input
+        → IsAnswerTo input.command.source input answer
+        → AreAllNumbers of numbers
         → IsMerge input.command.threshold (map text_of (map part numbers)) merge
         → text_of merge ≡ text_of answer }
 {}

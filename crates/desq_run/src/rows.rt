@@ -80,7 +80,8 @@ fn mined_by<R: Threads + Wait + Sync, G: Gate>(
     }
 }
 
-/// The frequent patterns of the job that the command is to find, all or those of its share, in no stated order.
+/// The frequent patterns of the job that the command is to find, all or those of its share, in no stated
+/// order.
 fn found<R: Threads + Wait + Sync, G: Gate>(
     rt: &R,
     alloc: Global,
@@ -105,8 +106,8 @@ fn found<R: Threads + Wait + Sync, G: Gate>(
     }
 }
 
-/// The frequent rows of the expression in order, all or those of a share, where its names have these items, and
-/// the work of finding them.
+/// The frequent rows of the expression in order, all or those of a share, where its names have these items,
+/// and the work of finding them.
 fn ordered_rows<R: Threads + Wait + Sync, G: Gate>(
     rt: &R,
     alloc: Global,
@@ -130,11 +131,11 @@ fn ordered_rows<R: Threads + Wait + Sync, G: Gate>(
     ensures named { IfOk result (λ mined. All (λ row. All (HasName names.now) row.pattern) mined.rows.items) }
     ensures work { IfOk result (λ mined. IsWorkOf (IsNamedBefore names.now) command.now.share
         command.now.engine (record {
-      links = hierarchy.links;
-      sequences = db;
-      expression = tree_of expression.now;
-      threshold = command.now.support;
-    }) mined.work) }
+          links = hierarchy.links;
+          sequences = db;
+          expression = tree_of expression.now;
+          threshold = command.now.support;
+        }) mined.work) }
 {
     let ranks = count(rt, alloc, &hierarchy, &db, command.support, names)?;
     let fst = compile(alloc, expression)?;

@@ -24,15 +24,16 @@ use std::alloc::Global;
 use std::sync::Wait;
 use std::thread::Threads;
 
-/// Whether the pivot of the seed is in the share.
+/// Whether the pivot of the seed is in the share. A share that there cannot be has none.
 fn has_seed(share: Share, seed: &PartSeed) -> bool
-    requires least { 1 ≤ share.index }
-    requires within { share.index ≤ share.of }
-    ensures { IsTrue result ↔ IsInShare share.index share.of (pivot_of seed.now.pivot) }
+    ensures { 1 ≤ share.index → share.index ≤ share.of
+        → IsTrue result ↔ IsInShare share.index share.of (pivot_of seed.now.pivot) }
 {
     match seed.pivot {
-        Some(rank) => is_in_share(share.index, share.of, rank),
-        None => false,
+        Some(rank) if 1 <= share.index && share.index <= share.of => {
+            is_in_share(share.index, share.of, rank)
+        }
+        _ => false,
     }
 }
 

@@ -68,7 +68,10 @@ const COMMANDS: &[(&str, &str)] = &[
     ("--support 2 --engine pivot --split 0/2 (a) f", "None"),
     ("--support 2 --engine pivot --split 1/2/3 (a) f", "None"),
     ("--support 2 --engine pivot --split 12 (a) f", "None"),
-    ("--support 2 --engine pivot --split 1/2 --simulate 7 (a) f", "None"),
+    (
+        "--support 2 --engine pivot --split 1/2 --simulate 7 (a) f",
+        "None",
+    ),
     ("--support 2 --split 1/2 (a) f", "None"),
 ];
 
