@@ -37,7 +37,7 @@ rows-named names items rows same each =
 -- rows that were found are found in any order
 found-ordered : (Ties : Item → Item → Type 0) (share : Option Share) (d : Data Item) (rows ordered : List Row)
     → AreFound Ties share d rows → IsPermutation rows ordered → AreFound Ties share d ordered
-found-ordered Ties None d rows ordered found same row = (
+found-ordered Ties None d rows ordered found same = λ row. (
   (λ inside. (found row).0 (Contains-permutation ordered rows row (IsPermutation-sym rows ordered same) inside)),
   (λ is. Contains-permutation rows ordered row same ((found row).1 is)),
 )

@@ -33,11 +33,12 @@ tested share seed b is = same_from_decides b (has_seed share seed) is (has_rank-
 
 map_filter : {X Y : Type 0} (f : X → Y) (q : Y → Bool) (xs : List X) → map f (filter (λ x. q (f x)) xs) ≡ filter q (map f xs)
 map_filter f q [] = refl
-map_filter {X} f q (x ∷ xs) = by (q (f x))
+map_filter {X} f q (x ∷ xs) = by (map_filter f q xs) (q (f x))
   where
-    by : (b : Bool) → map f (cond b (x ∷ filter (λ x. q (f x)) xs) (filter (λ x. q (f x)) xs)) ≡ cond b (f x ∷ filter q (map f xs)) (filter q (map f xs))
-    by true = ap (λ l. f x ∷ l) (map_filter f q xs)
-    by false = map_filter f q xs
+    by : map f (filter (λ x. q (f x)) xs) ≡ filter q (map f xs)
+        → (b : Bool) → map f (cond b (x ∷ filter (λ x. q (f x)) xs) (filter (λ x. q (f x)) xs)) ≡ cond b (f x ∷ filter q (map f xs)) (filter q (map f xs))
+    by rest true = ap (λ l. f x ∷ l) rest
+    by rest false = rest
 
 module _ (share : Share) (seeds own : List PartSeed) (is : own ≡ filter (has_seed share) seeds) where
   pivots_are : pivots_in own ≡ filter (has_rank share) (pivots_in seeds)

@@ -9,27 +9,26 @@ use Rattle.mine_model.specs.PartitionWork.{IsPivotOf}
 use Rattle.command_line.specs.declared.share.Share.{Share}
 use Rattle.split_merge.specs.Shares.{IsInShare, IsRankList, IsFrequencyList, HasPlace, IsPivot, IsRowOfShare}
 
-module _ {A : Type 0} where
-  -- the rank of the item is in the share
-  abbrev pub HasItem : Share → List A → A → Type 0
-  HasItem share order v = (rank : ℕ) × HasPlace order v rank × IsInShare share.index share.of rank
+-- the rank of the item is in the share
+abbrev pub HasItem : {A : Type 0} → Share → List A → A → Type 0
+HasItem share order v = (rank : ℕ) × HasPlace order v rank × IsInShare share.index share.of rank
 
-  -- the pivot of the pattern is in the share
-  abbrev pub IsOfShare : Share → List A → List A → Type 0
-  IsOfShare share order pattern =
-      (pivot : ℕ) × IsPivot order pattern pivot × IsInShare share.index share.of pivot
+-- the pivot of the pattern is in the share
+abbrev pub IsOfShare : {A : Type 0} → Share → List A → List A → Type 0
+IsOfShare share order pattern =
+    (pivot : ℕ) × IsPivot order pattern pivot × IsInShare share.index share.of pivot
 
-  -- The work of a search by the pivots of a share: its nodes are the pairs of such a pivot and a prefix that
-  -- is alive within the bound of this pivot, and each such pivot under which the empty prefix is alive has a
-  -- part.
-  pub record IsShareWork (Ties : A → A → Type 0) (d : Data A) (share : Share) (work : Work) : Type 0 where
-    pub order : List A
-    pub list : IsRankList Ties d order
-    pub nodes : IsNumberOf (λ (label : A × List A).
-        HasItem share order label.0 × IsAlive d (IsPivotOf Ties d label.0) label.1) work.nodes
-    pub parts : IsNumberOf (λ (pivot : A).
-        HasItem share order pivot × IsAlive d (IsPivotOf Ties d pivot) []) work.parts
-    pub candidates : work.candidates ≡ 0
+-- The work of a search by the pivots of a share: its nodes are the pairs of such a pivot and a prefix that is
+-- alive within the bound of this pivot, and each such pivot under which the empty prefix is alive has a part.
+pub record IsShareWork {A : Type 0} (Ties : A → A → Type 0) (d : Data A) (share : Share) (work : Work)
+    : Type 0 where
+  pub order : List A
+  pub list : IsRankList Ties d order
+  pub nodes : IsNumberOf (λ (label : A × List A).
+      HasItem share order label.0 × IsAlive d (IsPivotOf Ties d label.0) label.1) work.nodes
+  pub parts : IsNumberOf (λ (pivot : A). HasItem share order pivot × IsAlive d (IsPivotOf Ties d pivot) [])
+      work.parts
+  pub candidates : work.candidates ≡ 0
 
 -- the rows are exactly the rows with this property whose pivot is in the share, each once, in order
 pub record IsPartBy (IsRow : NamedRow → Type 0) (d : Data (List ℕ)) (share : Share) (rows : List NamedRow)
