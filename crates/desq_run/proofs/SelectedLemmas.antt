@@ -132,13 +132,13 @@ above-decided (link ∷ links) w t =
     (Decides-and (is_above links link.child t) (is_above links w link.parent) (above-decided links link.child t) (above-decided links w link.parent)))
 
 holds-or-not : (links : List (Link (List ℕ))) (w : List ℕ) (items : List (List ℕ)) → HoldsUnder links w items ⊎ (HoldsUnder links w items → ⊥)
-holds-or-not links w [] = inr (λ held. Contains-none held.0 held.1.0)
+holds-or-not links w [] = inr (λ held. Contains-none held.0 held.1)
 holds-or-not links w (t ∷ items) = elim (cases_Bool (is_above links w t)) [
-  | inl yes ↦ inl (t, Contains-first t items, (above-decided links w t).0 yes)
-  | inr no ↦ elim (holds-or-not links w items) [
-    | inl later ↦ inl (later.0, Contains-other t items later.0 later.1.0, later.1.1)
+  | inl over ↦ inl (t, Contains-first t items, (above-decided links w t).0 over)
+  | inr apart ↦ elim (holds-or-not links w items) [
+    | inl later ↦ inl (later.0, Contains-other t items later.0 later.1, later.2)
     | inr none ↦ inr (λ (u, held, above). elim (Contains-cases t items u held) [
-      | inl same ↦ not_from_Decides (is_above links w t) (above-decided links w t) no (subst (IsAncestor links w) same above)
+      | inl same ↦ not_from_Decides (is_above links w t) (above-decided links w t) apart (subst (IsAncestor links w) same above)
       | inr behind ↦ none (u, behind, above)
     ])
   ]

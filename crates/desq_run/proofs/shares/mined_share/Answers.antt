@@ -23,7 +23,7 @@ mine_parts-requires-clause-alive g c = λ _ _. λ pivot held.
 
 pub returns-clause-found : goal.returns-clause-found
 returns-clause-found g c = λ names ties.
-    let within = rw c.hierarchy.ensures.hierarchy at c.items-_items.ensures.within in
+    let within = rw c.hierarchy.ensures.hierarchy at c.items-items.ensures.within in
     let own = pivots_in c.own_seeds-own.result.items in
     let exact = exact_both own (pivots_in c.in_ok-seeds.seeds.items) (λ p. (1 ≤ p) × IsAliveLabel (data_of c.args.job.now) c.args.job.now.ranking.order p [])
     (IsInShare c.args.share.index c.args.share.of) c.own_seeds-own.ensures.exact c.in_ok-seeds.ensures.alive in
@@ -36,7 +36,7 @@ returns-clause-found g c = λ names ties.
 
 pub returns-clause-work : goal.returns-clause-work
 returns-clause-work g c = λ names ties.
-    let within = rw c.hierarchy.ensures.hierarchy at c.items-_items.ensures.within in
+    let within = rw c.hierarchy.ensures.hierarchy at c.items-items.ensures.within in
     let own = pivots_in c.own_seeds-own.result.items in
     let exact = exact_both own (pivots_in c.in_ok-seeds.seeds.items) (λ p. (1 ≤ p) × IsAliveLabel (data_of c.args.job.now) c.args.job.now.ranking.order p [])
     (IsInShare c.args.share.index c.args.share.of) c.own_seeds-own.ensures.exact c.in_ok-seeds.ensures.alive in
