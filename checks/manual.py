@@ -127,6 +127,7 @@ USES = {
     "max-length": lambda value: ["--support", "1", "--max-gap", "0", "--max-length", value, LINES],
     "generalize": lambda: ["--support", "1", "--max-gap", "0", "--generalize", LINES],
     "generated": lambda value: ["--support", "1000000", "--generated", value, ".*(top^=).*"],
+    "split": lambda value: ["--support", "1", "--engine", "pivot", "--split", f"1/{value}", "(a).*", LINES],
 }
 
 

@@ -9,7 +9,7 @@ _desq_files() {
 # Answers by COMPREPLY.
 _desq() {
     local with_value=" --support --hierarchy --engine --workers --simulate "
-    with_value+="--max-gap --min-length --max-length --generated "
+    with_value+="--max-gap --min-length --max-length --generated --split "
     local alone=" --weighted --stats --generalize "
     local given=" " value_of="" named=0 bare=0 word i
     # What stands before the cursor: the options that were given, the one whose value comes now, and how many

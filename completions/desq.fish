@@ -62,3 +62,4 @@ complete -c desq -n 'not __desq_has --max-length' -l max-length -x -d 'most item
 complete -c desq -n 'not __desq_has --generalize' -l generalize -d 'items may be what stands above them'
 complete -c desq -n 'not __desq_has --generated' -l generated -x \
     -d 'mine so many made sequences, with no file'
+complete -c desq -n 'not __desq_has --split' -l split -x -d 'mine one share of the pivots, as 1/4'

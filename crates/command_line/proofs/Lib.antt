@@ -1,3 +1,4 @@
+pub mod ShareTexts
 pub mod CommandLemmas
 pub mod Adding
 pub mod Needed

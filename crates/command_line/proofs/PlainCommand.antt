@@ -108,9 +108,9 @@ module _ (digits : Text) (p : IsPlainWord digits) where
     unfolding clap_on_literals options desq
     end_support = (digits, refl, number)
 
-    end_mode : GivesMode found Dfs None
+    end_mode : GivesMode found Dfs None None
     unfolding clap_on_literals options desq
-    end_mode = record { named = refl; given = refl; suits = tt }
+    end_mode = record { named = refl; given = refl; shared = refl; suits = refl }
 
     no_rule : HasNoRule found
     unfolding clap_on_literals options desq
@@ -124,7 +124,7 @@ module _ (digits : Text) (p : IsPlainWord digits) where
     unfolding clap_on_literals options desq
     end_rules = record {
       support = (n, end_support);
-      mode = (Dfs, None, end_mode);
+      mode = (Dfs, None, None, end_mode);
       workers = (4, four);
       source = (read expression file, end_source);
     }

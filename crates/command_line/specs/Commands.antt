@@ -19,5 +19,6 @@ command_said said = record {
   engine = said.engine;
   workers = said.workers;
   seed = said.seed;
+  share = said.share;
   stats = said.stats;
 }

@@ -25,8 +25,8 @@ unfoldable pub options : List Rule
 options = needed (value (codes "support")) ∷ value (codes "hierarchy") ∷ flag (codes "weighted")
     ∷ value (codes "engine") ∷ value (codes "workers") ∷ value (codes "simulate") ∷ flag (codes "stats")
     ∷ value (codes "max-gap") ∷ value (codes "min-length") ∷ value (codes "max-length")
-    ∷ flag (codes "generalize") ∷ value (codes "generated") ∷ needed (word (codes "expression"))
-    ∷ word (codes "file") ∷ []
+    ∷ flag (codes "generalize") ∷ value (codes "generated") ∷ value (codes "split")
+    ∷ needed (word (codes "expression")) ∷ word (codes "file") ∷ []
 
 -- the command, as clap sees it: no program's name comes before the words, and no word asks for help
 unfoldable pub desq : App

@@ -23,5 +23,6 @@ plain_command threshold expression file = record {
   engine = Dfs;
   workers = 4;
   seed = None;
+  share = None;
   stats = false;
 }

@@ -1,5 +1,5 @@
 -- What the words of a command say: what clap finds in them, and the rules beyond clap's.
-use Rattle.std.specs.Prelude.{◌≡◌, ◌≢◌, ◌↔◌, ◌⊎◌, ℕ, ◌≤◌, Bool, List, [], codes, Option, Some, None, unwrap_or, IsTrue}
+use Rattle.std.specs.Prelude.{◌≡◌, ◌≢◌, ◌↔◌, ◌⊎◌, ℕ, ◌≤◌, Bool, List, [], ◌∷◌, ◌++◌, codes, Option, Some, None, unwrap_or, IsTrue}
 use Rattle.mine_model.specs.Limits.{most_support, most_workers}
 use Rattle.mine_model.specs.Grammar.{IsDecimal}
 use Rattle.clap.specs.Words.{Row, Text, first_of}
@@ -9,6 +9,7 @@ use Rattle.made_input.specs.Made.{most_made}
 use Rattle.command_line.specs.Options.{faults, rows}
 use Rattle.command_line.specs.declared.words.Engine.{Engine}
 use Rattle.command_line.specs.declared.words.Engine.TheVariants.{Count, Dfs, Pivot}
+use Rattle.command_line.specs.declared.share.Share.{Share}
 
 -- what a run mines: the patterns of an expression in the sequences of a file, or those that are embedded in
 -- them under a rule on gaps and lengths, or the patterns of an expression in so many made sequences
@@ -26,6 +27,7 @@ pub record Command : Type 0 where
   pub engine : Engine
   pub workers : ℕ
   pub seed : Option ℕ
+  pub share : Option Share
   pub stats : Bool
 
 -- one or more decimal digits, leading zeros allowed, of a number in this range
@@ -65,17 +67,41 @@ GivesSeed found None = first_of (codes "simulate") found ≡ None
 GivesSeed found (Some n) =
     (digits : Text) × (first_of (codes "simulate") found ≡ Some digits) × IsNumber 0 most_seed digits n
 
--- the engine runs with this seed, or with none: a search by prefixes may be simulated, counting may not
-abbrev pub Suits : Engine → Option ℕ → Type 0
-Suits Count seed = seed ≡ None
-Suits Dfs seed = Unit {0}
-Suits Pivot seed = Unit {0}
+-- the most shares
+abbrev pub most_shares : ℕ
+most_shares = 64
 
--- this engine is that of the run, with this seed or none, and they suit each other
-pub record GivesMode (found : List Row) (engine : Engine) (seed : Option ℕ) : Type 0 where
+abbrev pub slash : ℕ
+slash = 47
+
+-- the index of a share, a slash, and how many shares there are
+pub record IsShareText (text : Text) (share : Share) : Type 0 where
+  pub before : Text
+  pub behind : Text
+  pub spelled : text ≡ before ++ slash ∷ behind
+  pub count : IsNumber 1 most_shares behind share.of
+  pub index : IsNumber 1 share.of before share.index
+
+-- this share of the pivots was asked for, or none was
+abbrev pub GivesShare : List Row → Option Share → Type 0
+GivesShare found None = first_of (codes "split") found ≡ None
+GivesShare found (Some share) =
+    (text : Text) × (first_of (codes "split") found ≡ Some text) × IsShareText text share
+
+-- the engine runs with this seed, or with none, and for this share, or for all: a search by prefixes may be
+-- simulated, counting may not; a share is for a search by pivots that is not simulated
+abbrev pub Suits : Engine → Option ℕ → Option Share → Type 0
+Suits Count seed share = (seed ≡ None) × (share ≡ None)
+Suits Dfs seed share = share ≡ None
+Suits Pivot seed share = (seed ≡ None) ⊎ (share ≡ None)
+
+-- this engine is that of the run, with this seed or none and this share or none, and they suit each other
+pub record GivesMode (found : List Row) (engine : Engine) (seed : Option ℕ) (share : Option Share)
+    : Type 0 where
   pub named : GivesEngine found engine
   pub given : GivesSeed found seed
-  pub suits : Suits engine seed
+  pub shared : GivesShare found share
+  pub suits : Suits engine seed share
 
 -- no value was given for the argument
 abbrev pub IsAway : List Row → Text → Type 0
@@ -104,7 +130,7 @@ pub record GivesRule (found : List Row) (rule : GapRule) : Type 0 where
   pub order : rule.min_length ≤ rule.max_length
   pub generalize : IsTrue rule.generalize ↔ IsGiven found (codes "generalize")
 
--- so many sequences are to be made, and no file is named and no weight is read
+-- so many sequences are to be made, and no file is named, no weight is read and no share is asked for
 pub record GivesMade (found : List Row) (count : ℕ) : Type 0 where
   pub digits : Text
   pub given : first_of (codes "generated") found ≡ Some digits
@@ -112,6 +138,7 @@ pub record GivesMade (found : List Row) (count : ℕ) : Type 0 where
   pub file : IsAway found (codes "file")
   pub hierarchy : IsAway found (codes "hierarchy")
   pub weighted : IsGiven found (codes "weighted") → ⊥
+  pub split : IsAway found (codes "split")
   pub rule : HasNoRule found
 
 -- Exactly one of FILE, a greatest gap and a number of made sequences is there. With a gap the one word by its
@@ -124,11 +151,12 @@ GivesSource found (embed rule file) = (first_of (codes "expression") found ≡ S
 GivesSource found (make count expression) = (first_of (codes "expression") found ≡ Some expression)
     × GivesMade found count
 
--- the rules beyond clap's, a line each: each number is in its range, the engine is one that there is, without
--- a seed where it counts, there is one source
+-- the rules beyond clap's, a line each: each number is in its range, the engine is one that there is, and a
+-- seed and a share suit it, there is one source
 pub record KeepsRules (found : List Row) : Type 0 where
   pub support : (n : ℕ) × GivesSupport found n
-  pub mode : (engine : Engine) × (seed : Option ℕ) × GivesMode found engine seed
+  pub mode : (engine : Engine) × (seed : Option ℕ) × (share : Option Share)
+      × GivesMode found engine seed share
   pub workers : (n : ℕ) × GivesWorkers found n
   pub source : (source : Source) × GivesSource found source
 
@@ -138,7 +166,7 @@ pub record Says (found : List Row) (command : Command) : Type 0 where
   pub source : GivesSource found command.source
   pub hierarchy : first_of (codes "hierarchy") found ≡ command.hierarchy
   pub weighted : IsTrue command.weighted ↔ IsGiven found (codes "weighted")
-  pub mode : GivesMode found command.engine command.seed
+  pub mode : GivesMode found command.engine command.seed command.share
   pub workers : GivesWorkers found command.workers
   pub stats : IsTrue command.stats ↔ IsGiven found (codes "stats")
 

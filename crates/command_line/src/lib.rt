@@ -4,10 +4,12 @@
 mod laws;
 mod number;
 mod options;
+mod share;
 mod words;
 
 pub use laws::{
     a_rule_is_in_its_ranges, at_most_one_command, made_input_names_no_file, plain_words_say,
     usage_says_no_command, words_behind_dashes_say,
 };
+pub use share::Share;
 pub use words::{Command, Engine, Source, read_words};

@@ -27,7 +27,7 @@ pub enum Argument {
 }
 
 /// The arguments of the command, in order.
-static ARGUMENTS: [Argument; 14] = [
+static ARGUMENTS: [Argument; 15] = [
     Argument::NeededValue("support"),
     Argument::Value("hierarchy"),
     Argument::Flag("weighted"),
@@ -40,6 +40,7 @@ static ARGUMENTS: [Argument; 14] = [
     Argument::Value("max-length"),
     Argument::Flag("generalize"),
     Argument::Value("generated"),
+    Argument::Value("split"),
     Argument::NeededWord("expression"),
     Argument::Word("file"),
 ];

@@ -2,13 +2,15 @@
 
 ghost use Rattle.std.specs.Prelude.{◌≡◌, ◌↔◌, ℕ, List, Option, Some, IsTrue, IfOk, MatchOption, map, option_map, unwrap_or, string_bytes, codes};
 ghost use Rattle.clap.specs.Words.{first_of, found_of, rows_of};
-ghost use Rattle.command_line.specs.Words.{GivesSupport, GivesEngine, GivesWorkers, GivesSeed, GivesLength, GivesMode, GivesRule, GivesMade, GivesSource, HasNoRule, IsAway, Source as SourceSaid, Suits, IsGiven, KeepsRules, Says, IsCommand, IsUsage};
+ghost use Rattle.command_line.specs.Words.{GivesSupport, GivesEngine, GivesWorkers, GivesSeed, GivesShare, GivesLength, GivesMode, GivesRule, GivesMade, GivesSource, HasNoRule, IsAway, Source as SourceSaid, Suits, IsGiven, KeepsRules, Says, IsCommand, IsUsage};
 ghost use Rattle.command_line.specs.Arguments.{HasNeeded};
 ghost use Rattle.command_line.specs.Commands.{command_said, source_said};
 ghost use Rattle.command_line.specs.declared.words.Engine.{Engine};
+ghost use Rattle.command_line.specs.declared.share.Share.{Share as TheShare};
 
 use super::number::read_number;
 use super::options::taken;
+use super::share::{Share, read_share};
 use clap::ArgMatches;
 use gap_front::GapRule;
 use mine_model::NoMemory;
@@ -87,6 +89,9 @@ pub struct Command {
     /// The seed of a run that simulates its workers in one thread, 0 to 18,446,744,073,709,551,615. A run
     /// that counts has none.
     pub seed: Option<u64>,
+    /// The share of the pivots whose patterns are mined, of all of them where there is none. Only a run by
+    /// pivots that is not simulated has one.
+    pub share: Option<Share>,
     /// Whether the counted work of the run is told on the error output.
     pub stats: bool,
 }
@@ -182,27 +187,53 @@ fn given_seed(matches: &ArgMatches<'_>) -> Option<Option<u64>>
     }
 }
 
-/// Whether the engine runs with this seed, or with none.
-fn suits(engine: Engine, seed: Option<u64>) -> bool
-    ensures { IsTrue result ↔ Suits engine seed }
+/// The share that was asked for, or that none was. None where the value that was given is no share.
+fn given_share(matches: &ArgMatches<'_>) -> Option<Option<Share>>
+    ensures { MatchOption result
+        ((share : Option TheShare) → GivesShare (rows_of (found_of matches.now)) share → ⊥)
+        (λ share. GivesShare (rows_of (found_of matches.now)) share) }
 {
-    match engine {
-        Engine::Count => seed.is_none(),
-        Engine::Dfs | Engine::Pivot => true,
+    match given(matches, "split") {
+        Some(text) => Some(Some(read_share(text)?)),
+        None => Some(None),
     }
 }
 
-/// The engine of the run and its seed. None where the values that were given are none, or do not suit each
-/// other.
-fn given_mode(matches: &ArgMatches<'_>) -> Option<(Engine, Option<u64>)>
+/// Whether the engine runs with this seed, or with none, and for this share, or for all.
+fn suits(engine: Engine, seed: Option<u64>, share: Option<Share>) -> bool
+    ensures { IsTrue result ↔ Suits engine seed share }
+{
+    match engine {
+        Engine::Count => seed.is_none() && share.is_none(),
+        Engine::Dfs => share.is_none(),
+        Engine::Pivot => seed.is_none() || share.is_none(),
+    }
+}
+
+/// How the run searches: its engine, its seed and its share.
+#[derive(Clone, Copy)]
+struct Mode {
+    engine: Engine,
+    seed: Option<u64>,
+    share: Option<Share>,
+}
+
+/// How the run searches. None where the values that were given say it not, or do not suit each other.
+fn given_mode(matches: &ArgMatches<'_>) -> Option<Mode>
     ensures { MatchOption result
-        ((engine : Engine) (seed : Option ℕ) → GivesMode (rows_of (found_of matches.now)) engine seed → ⊥)
-        (λ mode. GivesMode (rows_of (found_of matches.now)) mode.0 mode.1) }
+        ((engine : Engine) (seed : Option ℕ) (share : Option TheShare)
+        → GivesMode (rows_of (found_of matches.now)) engine seed share → ⊥)
+        (λ mode. GivesMode (rows_of (found_of matches.now)) mode.engine mode.seed mode.share) }
 {
     let engine = given_engine(matches)?;
     let seed = given_seed(matches)?;
-    if suits(engine, seed) {
-        Some((engine, seed))
+    let share = given_share(matches)?;
+    if suits(engine, seed, share) {
+        Some(Mode {
+            engine,
+            seed,
+            share,
+        })
     } else {
         None
     }
@@ -264,6 +295,7 @@ fn given_made(matches: &ArgMatches<'_>) -> Option<u32>
     let is_alone = given(matches, "file").is_none()
         && given(matches, "hierarchy").is_none()
         && !is_given(matches, "weighted")
+        && given(matches, "split").is_none()
         && has_no_rule(matches);
     if is_alone { Some(count as u32) } else { None }
 }
@@ -331,7 +363,7 @@ fn said(alloc: Global, matches: &ArgMatches<'_>) -> Result<Option<Command>, NoMe
         Some(support) => support,
         None => return Ok(None),
     };
-    let (engine, seed) = match given_mode(matches) {
+    let mode = match given_mode(matches) {
         Some(mode) => mode,
         None => return Ok(None),
     };
@@ -348,9 +380,10 @@ fn said(alloc: Global, matches: &ArgMatches<'_>) -> Result<Option<Command>, NoMe
         source,
         hierarchy: given_text(alloc, matches, "hierarchy")?,
         weighted: is_given(matches, "weighted"),
-        engine,
+        engine: mode.engine,
         workers,
-        seed,
+        seed: mode.seed,
+        share: mode.share,
         stats: is_given(matches, "stats"),
     }))
 }

@@ -2,7 +2,14 @@ pub mod Told
 pub mod LinkLemmas
 pub mod HierarchyLemmas
 pub mod PartitionRankLemmas
+pub mod SeedLemmas
+pub mod ShareRankLemmas
+pub mod ShareNameLemmas
+pub mod PartLemmas
+pub mod SelectedLemmas
 pub mod SourceLemmas
+pub mod LimitLemmas
+pub mod SharedLemmas
 pub mod InputLemmas
 pub mod SameRefusals
 pub mod UniqueRefusals

@@ -45,16 +45,16 @@ bytewise_once name other one back =
 
 module _ (names : List (List ℕ)) (d : Data Item) (ranking : Ranking) (ranks : AreRanks d.links d.sequences d.threshold ranking)
     (ties : AreTiesByName names ranking) (within : (w : Item) → Contains ranking.order w → w.0 < length ranking.frequencies) where
-  abbrev Before : Item → Item → Type 0
+  abbrev pub Before : Item → Item → Type 0
   Before = RanksBefore (IsNamedBefore names) d
 
-  abbrev Bound : Item → List Item → Type 0
+  abbrev pub Bound : Item → List Item → Type 0
   Bound = IsPivotOf (IsNamedBefore names) d
 
-  abbrev Frequent : Item → Type 0
+  abbrev pub Frequent : Item → Type 0
   Frequent = IsFrequentItem d.links d.sequences d.threshold
 
-  at_rank : (v : Item) (rank : ℕ) (e : Item) → HasRank ranking.order v rank → get_or ranking.order (rank - 1) e ≡ v
+  pub at_rank : (v : Item) (rank : ℕ) (e : Item) → HasRank ranking.order v rank → get_or ranking.order (rank - 1) e ≡ v
   at_rank v rank e has = get_or_from_slice_get ranking.order (rank - 1) v e has.place
 
   in_order : (R : Item → Item → Type 0) → AllPairs R ranking.order → (v w : Item) (r s : ℕ)
@@ -67,7 +67,7 @@ module _ (names : List (List ℕ)) (d : Data Item) (ranking : Ranking) (ranks : 
   frequency_of v rank has = ranks.exact v (within v (HasRank-held ranking.order v rank has))
 
   -- the item of a lesser rank ranks before
-  before : (v w : Item) (r s : ℕ) → HasRank ranking.order v r → HasRank ranking.order w s → r < s → Before v w
+  pub before : (v w : Item) (r s : ℕ) → HasRank ranking.order v r → HasRank ranking.order w s → r < s → Before v w
   before v w r s has also less = record {
     first = frequency_in ranking v;
     second = frequency_in ranking w;
@@ -94,7 +94,7 @@ module _ (names : List (List ℕ)) (d : Data Item) (ranking : Ranking) (ranks : 
         ]
       ]
 
-  rank_of : (v : Item) → Frequent v → (rank : ℕ) × HasRank ranking.order v rank
+  pub rank_of : (v : Item) → Frequent v → (rank : ℕ) × HasRank ranking.order v rank
   rank_of v frequent =
       let (list, ranked) = ranked-all ranking.order (v ∷ []) ((ranks.frequent v).1 frequent, tt) in
       let (rank, _, _, has, _) = ranked-first ranking.order v [] list ranked in (rank, has)
@@ -134,7 +134,7 @@ module _ (names : List (List ℕ)) (d : Data Item) (ranking : Ranking) (ranks : 
       (λ is. record { ranked = all_from items is.frequent is.last; needed = (pivot, is.held, has) }),
     )
 
-    by_top : (rank : ℕ) → 1 ≤ rank → (items : List Item) → IsWithinPivot ranking.order rank items ↔ IsWithin ranking.order rank (Some rank) items
+    pub by_top : (rank : ℕ) → 1 ≤ rank → (items : List Item) → IsWithinPivot ranking.order rank items ↔ IsWithin ranking.order rank (Some rank) items
     by_top zero some items = absurd (omega (arith, some))
     by_top (suc rank) some items = ((λ is. is), (λ is. is))
 
@@ -154,22 +154,22 @@ module _ (names : List (List ℕ)) (d : Data Item) (ranking : Ranking) (ranks : 
     )
 
   module _ (least : 1 ≤ d.threshold) where
-    abbrev item_at : ℕ → Item
+    abbrev pub item_at : ℕ → Item
     item_at = item_of_rank ranking.order
 
     -- the items of a label
-    abbrev items_of : List ℕ → Item × List Item
+    abbrev pub items_of : List ℕ → Item × List Item
     items_of [] = (item_at 0, [])
     items_of (top ∷ list) = (item_at top, map item_at list)
 
-    abbrev IsLabel : ℕ → List ℕ → Type 0
+    abbrev pub IsLabel : ℕ → List ℕ → Type 0
     IsLabel top list = (1 ≤ top) × IsAliveLabel d ranking.order top list
 
-    abbrev IsItemLabel : Item × List Item → Type 0
+    abbrev pub IsItemLabel : Item × List Item → Type 0
     IsItemLabel label = IsAlive d (Bound label.0) label.1
 
     -- an alive label has the ranks of its items
-    label-ranked : (top : ℕ) (list : List ℕ) → IsLabel top list
+    pub label-ranked : (top : ℕ) (list : List ℕ) → IsLabel top list
         → HasRank ranking.order (item_at top) top × AreRanked ranking.order (map item_at list) list
     label-ranked zero list (some, is) = absurd (omega (arith, some))
     label-ranked (suc top) list (some, is) =
@@ -179,12 +179,12 @@ module _ (names : List (List ℕ)) (d : Data Item) (ranking : Ranking) (ranks : 
           subst (λ l. AreRanked ranking.order l list) (sym (ranked-items ranking.order is.prefix list is.ranked)) is.ranked,
         )
 
-    label-forth : (top : ℕ) (list : List ℕ) → IsLabel top list → IsItemLabel (item_at top, map item_at list)
+    pub label-forth : (top : ℕ) (list : List ℕ) → IsLabel top list → IsItemLabel (item_at top, map item_at list)
     label-forth top list is =
         let (has, ranked) = label-ranked top list is in (label-same (item_at top) top has (map item_at list) list ranked).0 is.1
 
     -- an alive label of items has ranks
-    label-back : (pivot : Item) (prefix : List Item) → IsItemLabel (pivot, prefix)
+    pub label-back : (pivot : Item) (prefix : List Item) → IsItemLabel (pivot, prefix)
         → (top : ℕ) × (list : List ℕ) × (pivot ≡ item_at top) × (prefix ≡ map item_at list) × IsLabel top list
     label-back pivot prefix alive =
         let (s, held, (more, pattern, bound)) = IsAlive-some d (Bound pivot) prefix least alive in
@@ -197,12 +197,12 @@ module _ (names : List (List ℕ)) (d : Data Item) (ranking : Ranking) (ranks : 
           (has.least, (label-same pivot top has prefix list ranked).1 alive),
         )
 
-    one_top : (top other : ℕ) (list others : List ℕ) → IsLabel top list → IsLabel other others → item_at top ≡ item_at other → top ≡ other
+    pub one_top : (top other : ℕ) (list others : List ℕ) → IsLabel top list → IsLabel other others → item_at top ≡ item_at other → top ≡ other
     one_top top other list others is also same =
         item_rank ranking.order ranks.once (item_at top) top other (label-ranked top list is).0
         (subst (λ v. HasRank ranking.order v other) (sym same) (label-ranked other others also).0)
 
-    one_list : (top other : ℕ) (list others : List ℕ) → IsLabel top list → IsLabel other others → map item_at list ≡ map item_at others → list ≡ others
+    pub one_list : (top other : ℕ) (list others : List ℕ) → IsLabel top list → IsLabel other others → map item_at list ≡ map item_at others → list ≡ others
     one_list top other list others is also same =
         same_ranks ranking.order ranks.once (map item_at list) list others (label-ranked top list is).1
         (subst (λ l. AreRanked ranking.order l others) (sym same) (label-ranked other others also).1)

@@ -9,23 +9,22 @@ use Rattle.mine_model.specs.declared.fault.Fault.{Fault}
 use Rattle.mine_model.specs.Expression.{Tree}
 use Rattle.mine_model.specs.Grammar.{Use}
 use Rattle.mine_model.specs.Support.{Sequence}
-use Rattle.mine_model.specs.Answer.{IsFrequent, Rises}
-use Rattle.mine_model.specs.Numbered.{AreFrequent}
+use Rattle.mine_model.specs.Answer.{Data, Rises}
 use Rattle.mine_model.specs.Names.{HasName, AreDistinct, named_row}
 use Rattle.mine_model.specs.Ancestry.{Ancestry}
 use Rattle.mine_model.specs.Refusal.{IsUnknown}
 use Rattle.patex_parser.specs.Parsing.{named_tree}
 use Rattle.command_line.specs.Words.{Command, file_of}
 use Rattle.mine_model.specs.declared.mined.Work.{Work}
-use Rattle.command_line.specs.declared.words.Engine.{Engine}
+use Rattle.command_line.specs.declared.share.Share.{Share}
 use Rattle.mine_model.specs.PartitionWork.{IsBytewiseBefore, IsNamedBefore}
 use Rattle.desq_run.specs.Sources.{SaysTree}
-use Rattle.desq_run.specs.Ends.{bytes_named, data_of, HasSource, IsAnswerTo, IsWorkOf}
-use Rattle.desq_run.specs.Inputs.{IsHierarchySaid, IsDatabaseSaid, AreLinksWithin, AreInputs, HasRanges, IsRead, AreRows, AreOrdered, IsMined}
+use Rattle.desq_run.specs.Ends.{bytes_named, data_of, HasSource, AreRowsTo, IsWorkOf}
+use Rattle.desq_run.specs.Inputs.{IsHierarchySaid, IsDatabaseSaid, AreLinksWithin, AreInputs, HasRanges, IsRead, AreFound, AreRows, AreOrdered, IsMined}
 use Rattle.desq_run.proofs.HierarchyLemmas.{all-of}
 use Rattle.desq_run.proofs.EndLemmas.{same_command, read_at, found_at, nothing-refused, accepts}
-use Rattle.desq_run.proofs.SourceLemmas.{answer-to}
-use Rattle.desq_run.proofs.InputLemmas.{rows-answer, work-answer}
+use Rattle.desq_run.proofs.SourceLemmas.{rows-to}
+use Rattle.desq_run.proofs.InputLemmas.{found-answer, work-answer}
 
 -- the items of rows have names, where those of a hierarchy have
 pub rows-named : (names : List (List ℕ)) (items : ℕ) (rows : List Row) → items ≡ length names
@@ -35,15 +34,28 @@ rows-named names items rows same each =
     all-of (λ (row : Row). All (HasName names) row.pattern) rows (λ row inside.
     All-from_recursion (HasName names) row.pattern (subst (λ n. AllByRecursion (λ (t : Item). t.0 < n) row.pattern) same (each row inside)))
 
--- the frequent rows brought into order
-pub rows-ordered : (names : List (List ℕ)) (h : Ancestry) (db : List (Sequence Item)) (e : Tree Item) (threshold : ℕ) (rows ordered : List Row)
-    → AreFrequent (record { links = h.links; sequences = db; expression = e; threshold = threshold }) rows
-    → IsPermutation rows ordered → Rises (map (named_row names) ordered) → AreOrdered names h db e threshold ordered
-rows-ordered names h db e threshold rows ordered frequent same rises = record {
-  frequent = λ row. (
-    (λ inside. (frequent.frequent row).0 (Contains-permutation ordered rows row (IsPermutation-sym rows ordered same) inside)),
-    (λ is. Contains-permutation rows ordered row same ((frequent.frequent row).1 is)),
-  );
+-- rows that were found are found in any order
+found-ordered : (Ties : Item → Item → Type 0) (share : Option Share) (d : Data Item) (rows ordered : List Row)
+    → AreFound Ties share d rows → IsPermutation rows ordered → AreFound Ties share d ordered
+found-ordered Ties None d rows ordered found same = λ row. (
+  (λ inside. (found row).0 (Contains-permutation ordered rows row (IsPermutation-sym rows ordered same) inside)),
+  (λ is. Contains-permutation rows ordered row same ((found row).1 is)),
+)
+found-ordered Ties (Some share) d rows ordered (order, list, found) same = (
+  order,
+  list,
+  (λ row. (
+    (λ inside. (found row).0 (Contains-permutation ordered rows row (IsPermutation-sym rows ordered same) inside)),
+    (λ is. Contains-permutation rows ordered row same ((found row).1 is)),
+  )),
+)
+
+-- the rows brought into order
+pub rows-ordered : (names : List (List ℕ)) (h : Ancestry) (db : List (Sequence Item)) (e : Tree Item) (threshold : ℕ) (share : Option Share) (rows ordered : List Row)
+    → AreFound (IsNamedBefore names) share (record { links = h.links; sequences = db; expression = e; threshold = threshold }) rows
+    → IsPermutation rows ordered → Rises (map (named_row names) ordered) → AreOrdered names h db e threshold share ordered
+rows-ordered names h db e threshold share rows ordered found same rises = record {
+  found = found-ordered (IsNamedBefore names) share (record { links = h.links; sequences = db; expression = e; threshold = threshold }) rows ordered found same;
   rises = rises;
 }
 
@@ -56,7 +68,7 @@ module _ (words : List (List ℕ)) (holds : List ℕ → Option (List ℕ)) (c :
       → IfSome (bytes_named holds (file_of c.source)) (λ bytes. IsDatabaseSaid c.source c.weighted bytes known names db)
       → AllByRecursion (λ (s : Sequence Item). AllByRecursion (HasName names) s.items) db
       → ((fault : Fault) → IsUnknown names uses fault → ⊥)
-      → AreRows names before db (named_tree uses tree) c.threshold c.engine rows work
+      → AreRows names before db (named_tree uses tree) c.threshold c.share c.engine rows work
       → IsMined words holds c names rows work
 
   mined-at : (added : List (List ℕ)) → AreLinksWithin before → IfSome (bytes_named holds c.hierarchy) (λ bytes. IsHierarchySaid c.source bytes known before)
@@ -68,25 +80,24 @@ module _ (words : List (List ℕ)) (holds : List ℕ → Option (List ℕ)) (c :
     accepted = nothing-refused words holds c has known before read (known ++ added) db found uses tree is_read known_all;
     answer = λ input is.
         let same : c ≡ input.command = same_command words holds c has input is in
-        subst (λ (d : Command). IsAnswerTo d.source input (map (named_row (known ++ added)) rows)) same
-        (answer-to c.source input (named_tree uses tree) (map (named_row (known ++ added)) rows) (ap (λ (d : Command). d.source) same) ranges is_read.says
-        (rows-answer input (named_tree uses tree) known added before db are.expression rows distinct
+        subst (λ (d : Command). AreRowsTo d.share d.source input (map (named_row (known ++ added)) rows)) same
+        (rows-to c.share c.source input (named_tree uses tree) (map (named_row (known ++ added)) rows) (ap (λ (d : Command). d.source) same) ranges is_read.says
+        (found-answer input (named_tree uses tree) known added before db are.expression c.share rows distinct
         (read_at words holds c has known before read input is) within
         (found_at words holds c has known before read (known ++ added) db found input is) numbered are.same are.named
         (subst (λ (d : Command). 1 ≤ d.threshold) same some)
-        (subst (λ (d : Command). (row : Row) → Contains rows row
-        ↔ IsFrequent (record { links = before.links; sequences = db; expression = are.expression; threshold = d.threshold }) row.pattern row.support) same are.frequent)
+        (subst (λ (d : Command). AreFound (IsNamedBefore (known ++ added)) c.share (record { links = before.links; sequences = db; expression = are.expression; threshold = d.threshold }) rows) same are.found)
         are.rises));
     work = λ input is.
         let same : c ≡ input.command = same_command words holds c has input is in (
           named_tree uses tree,
           subst (λ (d : Command). SaysTree d.source (named_tree uses tree)) same is_read.says,
-          subst (λ (engine : Engine). IsWorkOf IsBytewiseBefore engine (data_of input (named_tree uses tree)) work) (ap (λ (d : Command). d.engine) same)
-              (work-answer input (named_tree uses tree) known added before db are.expression c.engine work distinct
+          subst (λ (d : Command). IsWorkOf IsBytewiseBefore d.share d.engine (data_of input (named_tree uses tree)) work) same
+              (work-answer input (named_tree uses tree) known added before db are.expression c.share c.engine work distinct
               (read_at words holds c has known before read input is) within
               (found_at words holds c has known before read (known ++ added) db found input is) numbered are.same are.named
               (subst (λ (d : Command). 1 ≤ d.threshold) same some)
-              (subst (λ (d : Command). IsWorkOf (IsNamedBefore (known ++ added)) c.engine (record { links = before.links; sequences = db; expression = are.expression; threshold = d.threshold }) work) same are.work)),
+              (subst (λ (d : Command). IsWorkOf (IsNamedBefore (known ++ added)) c.share c.engine (record { links = before.links; sequences = db; expression = are.expression; threshold = d.threshold }) work) same are.work)),
         );
   }
 
@@ -95,7 +106,7 @@ module _ (words : List (List ℕ)) (holds : List ℕ → Option (List ℕ)) (c :
       → AreDistinct names
       → AllByRecursion (λ (s : Sequence Item). AllByRecursion (HasName names) s.items) db
       → ((fault : Fault) → IsUnknown names uses fault → ⊥)
-      → AreRows names h db (named_tree uses tree) c.threshold c.engine rows work
+      → AreRows names h db (named_tree uses tree) c.threshold c.share c.engine rows work
       → IsMined words holds c names rows work
   unfolding Mines
   mined names h inputs known_is before_is is_read ranges some distinct numbered known_all are =
@@ -106,14 +117,13 @@ module _ (words : List (List ℕ)) (holds : List ℕ → Option (List ℕ)) (c :
       let found : IfSome (bytes_named holds (file_of c.source)) (λ bytes. IsDatabaseSaid c.source c.weighted bytes known names db) =
       subst (λ k. IfSome (bytes_named holds (file_of c.source)) (λ bytes. IsDatabaseSaid c.source c.weighted bytes k names db)) known_is inputs.sequences in
       let links : h.links ≡ before.links = inputs.links ∙ ap (λ (b : Ancestry). b.links) before_is in
-      let are_before : AreRows names before db (named_tree uses tree) c.threshold c.engine rows work = record {
+      let are_before : AreRows names before db (named_tree uses tree) c.threshold c.share c.engine rows work = record {
         expression = are.expression;
         same = are.same;
         named = are.named;
-        frequent = subst (λ l. (row : Row) → Contains rows row
-            ↔ IsFrequent (record { links = l; sequences = db; expression = are.expression; threshold = c.threshold }) row.pattern row.support) links are.frequent;
+        found = subst (λ l. AreFound (IsNamedBefore names) c.share (record { links = l; sequences = db; expression = are.expression; threshold = c.threshold }) rows) links are.found;
         rises = are.rises;
-        work = subst (λ l. IsWorkOf (IsNamedBefore names) c.engine (record { links = l; sequences = db; expression = are.expression; threshold = c.threshold }) work) links are.work;
+        work = subst (λ l. IsWorkOf (IsNamedBefore names) c.share c.engine (record { links = l; sequences = db; expression = are.expression; threshold = c.threshold }) work) links are.work;
       } in
       subst Mines (sym behind) (mined-at inputs.added (subst AreLinksWithin before_is inputs.within) read is_read ranges some) distinct found numbered known_all are_before
 

@@ -7,19 +7,22 @@ use Rattle.mine_model.specs.declared.fault.Which.TheVariants.{Hierarchy, Sequenc
 use Rattle.mine_model.specs.Expression.{Tree, tree_by}
 use Rattle.mine_model.specs.Grammar.{Use, ReadsAs}
 use Rattle.mine_model.specs.Support.{Sequence}
-use Rattle.mine_model.specs.Answer.{Data, NamedRow, IsAnswer}
+use Rattle.mine_model.specs.Answer.{Data, NamedRow, IsFrequent, IsAnswer}
 use Rattle.mine_model.specs.Counted.{IsCountingWork}
 use Rattle.mine_model.specs.Growth.{IsSearchWork}
 use Rattle.mine_model.specs.declared.mined.Work.{Work}
 use Rattle.mine_model.specs.First.{FirstOf}
 use Rattle.mine_model.specs.Refusal.{links_of, items_of, sequences_of}
-use Rattle.gap_front.specs.Answers.{IsEmbeddedAnswer}
+use Rattle.gap_front.specs.Answers.{IsFrequentlyEmbedded, IsEmbeddedAnswer}
+use Rattle.gap_front.specs.Embedding.{tree_of_rule}
 use Rattle.command_line.specs.declared.words.Engine.{Engine}
 use Rattle.command_line.specs.declared.words.Engine.TheVariants.{Count, Dfs, Pivot}
+use Rattle.command_line.specs.declared.share.Share.{Share}
 use Rattle.command_line.specs.Words.{Source, read, embed, make, Command, IsCommand, IsUsage, file_of}
 use Rattle.mine_model.specs.PartitionWork.{IsBytewiseBefore, IsPartitionWork}
 use Rattle.desq_run.specs.Sources.{IsSourceRefusal, HasUse, IsUnknownIn, SaysTree}
 use Rattle.desq_run.specs.Said.{names_said, links_said, sequences_said, RefusesHierarchy, RefusesSequences, output_of}
+use Rattle.desq_run.specs.Parts.{IsPartBy, IsShareWork}
 
 -- a command, and what its files hold; of a file that is not named, nothing
 pub record Input : Type 0 where
@@ -82,22 +85,45 @@ IsAnswerTo (embed rule file) input answer = IsEmbeddedAnswer (links_of input.hie
 IsAnswerTo (make count expression) input answer = (tree : Tree Use) × ReadsAs expression tree
     × IsAnswer (data_of input (tree_by (λ (u : Use). u.name) tree)) answer
 
--- the text is what is written of the answer
-abbrev pub IsAnswerText : Input → List ℕ → Type 0
-IsAnswerText input text = (answer : List NamedRow) × IsAnswerTo input.command.source input answer
-    × (text ≡ output_of input.command.source answer)
+-- the rows are those of the answer to the expression whose pivot is in the share, in order
+abbrev pub IsPartOf : List ℕ → Input → Share → List NamedRow → Type 0
+IsPartOf expression input share rows = (tree : Tree Use) × ReadsAs expression tree
+    × IsPartBy (λ row.
+    IsFrequent (data_of input (tree_by (λ (u : Use). u.name) tree)) row.pattern row.support)
+    (data_of input (tree_by (λ (u : Use). u.name) tree)) share rows
 
--- the work is that of a run of the engine over the data, where Ties says which of two items of one frequency
--- ranks first
-abbrev pub IsWorkOf : {A : Type 0} → (A → A → Type 0) → Engine → Data A → Work → Type 0
-IsWorkOf Ties Count d work = IsCountingWork d work
-IsWorkOf Ties Dfs d work = IsSearchWork d work
-IsWorkOf Ties Pivot d work = IsPartitionWork Ties d work
+-- they are those of the answer of the source
+abbrev pub IsPartTo : Source → Input → Share → List NamedRow → Type 0
+IsPartTo (read expression file) input share rows = IsPartOf expression input share rows
+IsPartTo (embed rule file) input share rows = IsPartBy (λ row.
+    IsFrequentlyEmbedded (links_of input.hierarchy) rule
+    (sequences_of input.command.weighted input.sequences) input.command.threshold row.pattern row.support)
+    (data_of input (tree_of_rule rule)) share rows
+IsPartTo (make count expression) input share rows = IsPartOf expression input share rows
+
+-- the rows that a run is to find: the answer, or its part where a share was asked for
+abbrev pub AreRowsTo : Option Share → Source → Input → List NamedRow → Type 0
+AreRowsTo None source input rows = IsAnswerTo source input rows
+AreRowsTo (Some share) source input rows = IsPartTo source input share rows
+
+-- the text is what is written of the answer, or of its part
+abbrev pub IsAnswerText : Input → List ℕ → Type 0
+IsAnswerText input text = (rows : List NamedRow)
+    × AreRowsTo input.command.share input.command.source input rows
+    × (text ≡ output_of input.command.source rows)
+
+-- the work is that of a run of the engine over the data, or for a share of the pivots, where Ties says which
+-- of two items of one frequency ranks first
+abbrev pub IsWorkOf : {A : Type 0} → (A → A → Type 0) → Option Share → Engine → Data A → Work → Type 0
+IsWorkOf Ties (Some share) engine d work = IsShareWork Ties d share work
+IsWorkOf Ties None Count d work = IsCountingWork d work
+IsWorkOf Ties None Dfs d work = IsSearchWork d work
+IsWorkOf Ties None Pivot d work = IsPartitionWork Ties d work
 
 -- the work is that of the command on its input, where items of one frequency rank by their names
 abbrev pub IsWork : Input → Work → Type 0
 IsWork input work = (tree : Tree (List ℕ)) × SaysTree input.command.source tree
-    × IsWorkOf IsBytewiseBefore input.command.engine (data_of input tree) work
+    × IsWorkOf IsBytewiseBefore input.command.share input.command.engine (data_of input tree) work
 
 -- the command names a file of this kind
 abbrev pub NamesKind : Command → Which → Type 0

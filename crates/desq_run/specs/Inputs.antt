@@ -1,5 +1,5 @@
 -- What was read of the files or made, by the numbers of names.
-use Rattle.std.specs.Prelude.{◌≡◌, ◌⊎◌, ◌↔◌, ◌≤◌, ◌<◌, ◌++◌, ℕ, Bool, List, Option, IfSome, length, map, All, Contains}
+use Rattle.std.specs.Prelude.{◌≡◌, ◌⊎◌, ◌↔◌, ◌≤◌, ◌<◌, ◌++◌, ℕ, Bool, List, Option, Some, None, IfSome, length, map, All, Contains}
 use Rattle.std.specs.List.{AllByRecursion}
 use Rattle.mine_model.specs.declared.item.Item.{Item}
 use Rattle.mine_model.specs.declared.fault.Fault.{Fault}
@@ -11,12 +11,13 @@ use Rattle.mine_model.specs.declared.row.Row.{Row}
 use Rattle.mine_model.specs.Expression.{Tree, tree_by, named_in}
 use Rattle.mine_model.specs.Grammar.{Use}
 use Rattle.mine_model.specs.Support.{Sequence}
-use Rattle.mine_model.specs.Answer.{IsFrequent, Rises}
+use Rattle.mine_model.specs.Answer.{Data, IsFrequent, Rises}
 use Rattle.mine_model.specs.Names.{name_of, HasName, sequence_by, named_row}
 use Rattle.mine_model.specs.Ancestry.{Ancestry}
 use Rattle.mine_model.specs.Refusal.{IsHierarchyRefusal, IsSequencesRefusal, IsUnknown, names_of, links_of, items_of, sequences_of}
 use Rattle.mine_model.specs.declared.mined.Work.{Work}
 use Rattle.command_line.specs.declared.words.Engine.{Engine}
+use Rattle.command_line.specs.declared.share.Share.{Share}
 use Rattle.gap_front.specs.Embedding.{IsRule}
 use Rattle.patex_parser.specs.Parsing.{AreWithin, named_tree}
 use Rattle.command_line.specs.Words.{Source, read, embed, make, Command, file_of}
@@ -24,7 +25,9 @@ use Rattle.mine_model.specs.PartitionWork.{IsNamedBefore}
 use Rattle.made_input.specs.Made.{most_made}
 use Rattle.desq_run.specs.Said.{names_said, links_said, sequences_said, RefusesHierarchy, RefusesSequences}
 use Rattle.desq_run.specs.Sources.{HasUse, IsUnknownIn, SaysTree}
-use Rattle.desq_run.specs.Ends.{Input, IsInput, bytes_named, IsAccepted, IsAnswerTo, HasSource, IsOfKind, IsWorkOf, IsWork, AcceptsHierarchy}
+use Rattle.split_merge.specs.Shares.{IsRankList}
+use Rattle.desq_run.specs.Parts.{IsOfShare}
+use Rattle.desq_run.specs.Ends.{Input, IsInput, bytes_named, IsAccepted, AreRowsTo, HasSource, IsOfKind, IsWorkOf, IsWork, AcceptsHierarchy}
 
 -- nothing is refused, the names are exactly these, and above each other stands what these links say
 pub record IsHierarchyBy (Refuses : Fault → Type 0) (own : List (List ℕ)) (links : List (Link (List ℕ)))
@@ -107,24 +110,34 @@ pub record IsRead (source : Source) (uses : List Use) (tree : Tree Item) : Type 
   pub unknown : (known : List (List ℕ)) (fault : Fault)
       → IsUnknownIn known source fault ↔ IsUnknown known uses fault
 
--- The rows are the frequent patterns by numbers, in the order of their names, and the work is that of the
--- engine; the tree is over names.
+-- The share, where one was asked for, is one of the shares that there are.
+abbrev pub HasShare : Option Share → Type 0
+HasShare share = IfSome share (λ s. (1 ≤ s.index) × (s.index ≤ s.of))
+
+-- the rows are exactly the frequent patterns, or those whose pivot is in the share
+abbrev pub AreFound : (Item → Item → Type 0) → Option Share → Data Item → List Row → Type 0
+AreFound Ties None d rows = (row : Row) → Contains rows row ↔ IsFrequent d row.pattern row.support
+AreFound Ties (Some share) d rows = (order : List Item) × IsRankList Ties d order
+    × ((row : Row) → Contains rows row
+    ↔ (IsFrequent d row.pattern row.support × IsOfShare share order row.pattern))
+
+-- The rows are the frequent patterns by numbers, all or those of the share, in the order of their names, and
+-- the work is that of the engine; the tree is over names.
 pub record AreRows (names : List (List ℕ)) (h : Ancestry) (db : List (Sequence Item)) (tree : Tree (List ℕ))
-    (threshold : ℕ) (engine : Engine)
+    (threshold : ℕ) (share : Option Share) (engine : Engine)
     (rows : List Row) (counted : Work) : Type 0 where
   pub expression : Tree Item
   pub same : tree_by (name_of names) expression ≡ tree
   pub named : AllByRecursion (HasName names) (named_in expression)
-  pub frequent : (row : Row) → Contains rows row
-      ↔ IsFrequent
-      (record { links = h.links; sequences = db; expression = expression; threshold = threshold })
-      row.pattern row.support
+  pub found : AreFound (IsNamedBefore names) share
+      (record { links = h.links; sequences = db; expression = expression; threshold = threshold }) rows
   pub rises : Rises (map (named_row names) rows)
-  pub work : IsWorkOf (IsNamedBefore names) engine
+  pub work : IsWorkOf (IsNamedBefore names) share engine
       (record { links = h.links; sequences = db; expression = expression; threshold = threshold }) counted
 
 -- The rows are in the order of their names, the words name a source that is not refused, and where the
--- files tell their bytes nothing is refused, the rows are the answer and the work is that of the command.
+-- files tell their bytes nothing is refused, the rows are those that the command is to find and the work is
+-- its.
 pub record IsMined (words : List (List ℕ)) (holds : List ℕ → Option (List ℕ)) (command : Command)
     (names : List (List ℕ))
     (rows : List Row) (counted : Work) : Type 0 where
@@ -132,15 +145,13 @@ pub record IsMined (words : List (List ℕ)) (holds : List ℕ → Option (List 
   pub hierarchy : AcceptsHierarchy holds command
   pub accepted : (input : Input) → IsInput words holds input → IsAccepted input
   pub answer : (input : Input) → IsInput words holds input
-      → IsAnswerTo input.command.source input (map (named_row names) rows)
+      → AreRowsTo input.command.share input.command.source input (map (named_row names) rows)
   pub work : (input : Input) → IsInput words holds input → IsWork input counted
 
--- the rows are the frequent patterns by numbers, in the order of their names
+-- the rows are the frequent patterns by numbers, all or those of the share, in the order of their names
 pub record AreOrdered (names : List (List ℕ)) (h : Ancestry) (db : List (Sequence Item))
-    (expression : Tree Item) (threshold : ℕ)
+    (expression : Tree Item) (threshold : ℕ) (share : Option Share)
     (rows : List Row) : Type 0 where
-  pub frequent : (row : Row) → Contains rows row
-      ↔ IsFrequent
-      (record { links = h.links; sequences = db; expression = expression; threshold = threshold })
-      row.pattern row.support
+  pub found : AreFound (IsNamedBefore names) share
+      (record { links = h.links; sequences = db; expression = expression; threshold = threshold }) rows
   pub rises : Rises (map (named_row names) rows)

@@ -1,7 +1,9 @@
 -- the words of the promise
 pub mod Sources
 pub mod Said
+pub mod Parts
 pub mod Ends
+pub mod Shared
 pub mod Reported
 -- what the proofs keep
 pub mod Inputs

@@ -12,7 +12,7 @@ ghost use Rattle.command_line.specs.Words.{Command as CommandSaid, IsCommand, Is
 ghost use Rattle.command_line.specs.Commands.{source_said, command_said};
 ghost use Rattle.desq_run.specs.Ends.{Input, IsInput, IsAccepted, IsAnswerText, NeedsNoFile, Ends};
 ghost use Rattle.desq_run.specs.Said.{output_of};
-ghost use Rattle.desq_run.specs.Inputs.{HasRanges, IsMined};
+ghost use Rattle.desq_run.specs.Inputs.{HasRanges, HasShare, IsMined};
 
 use super::inputs::{Inputs, read_inputs};
 use super::rows::rows_of;
@@ -52,6 +52,7 @@ fn mine_input<R: Threads + Wait + Sync, F: Files, G: Gate>(
     requires workers { 1 ≤ command.now.workers }
     requires few { command.now.workers ≤ most_workers }
     requires ranges { HasRanges (source_said command.now.source) }
+    requires share { HasShare command.now.share }
     ensures mined { (words : List (List ℕ)) → IsCommand words (command_said command.now)
         → IfOk result
         (λ mined. IsMined words (F.holds files.old) (command_said command.now)

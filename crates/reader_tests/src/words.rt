@@ -19,35 +19,42 @@ const COMMANDS: &[(&str, &str)] = &[
     (
         "--support 1000000000000000000 -- -a -",
         "Some(Command { support: 1000000000000000000, source: Read { expression: \"-a\", file: \"-\" }, \
-         hierarchy: None, weighted: false, engine: Dfs, workers: 4, seed: None, stats: false })",
+         hierarchy: None, weighted: false, engine: Dfs, workers: 4, seed: None, share: None, stats: false })",
     ),
     (
         "f --support=002  --weighted --hierarchy h --stats --workers=064 --engine count",
         "Some(Command { support: 2, source: Read { expression: \"f\", file: \"\" }, \
-         hierarchy: Some(\"h\"), weighted: true, engine: Count, workers: 64, seed: None, stats: true })",
+         hierarchy: Some(\"h\"), weighted: true, engine: Count, workers: 64, seed: None, share: None, \
+         stats: true })",
     ),
     (
         "--support 2 --engine=pivot --simulate 18446744073709551615 (a) --workers 1 f",
         "Some(Command { support: 2, source: Read { expression: \"(a)\", file: \"f\" }, \
          hierarchy: None, weighted: false, engine: Pivot, workers: 1, \
-         seed: Some(18446744073709551615), stats: false })",
+         seed: Some(18446744073709551615), share: None, stats: false })",
     ),
     (
         "--support 2 --max-gap 0 f",
         "Some(Command { support: 2, source: Embed { rule: GapRule { max_gap: 0, min_length: 1, \
          max_length: 5, generalize: false }, file: \"f\" }, \
-         hierarchy: None, weighted: false, engine: Dfs, workers: 4, seed: None, stats: false })",
+         hierarchy: None, weighted: false, engine: Dfs, workers: 4, seed: None, share: None, stats: false })",
     ),
     (
         "--min-length=003 --generalize --max-length=1000 --max-gap 1000 --support=2 --engine dfs -- f",
         "Some(Command { support: 2, source: Embed { rule: GapRule { max_gap: 1000, min_length: 3, \
          max_length: 1000, generalize: true }, file: \"f\" }, \
-         hierarchy: None, weighted: false, engine: Dfs, workers: 4, seed: None, stats: false })",
+         hierarchy: None, weighted: false, engine: Dfs, workers: 4, seed: None, share: None, stats: false })",
     ),
     (
         "--generated 0007 --support 1 (.)",
         "Some(Command { support: 1, source: Make { count: 7, expression: \"(.)\" }, \
-         hierarchy: None, weighted: false, engine: Dfs, workers: 4, seed: None, stats: false })",
+         hierarchy: None, weighted: false, engine: Dfs, workers: 4, seed: None, share: None, stats: false })",
+    ),
+    (
+        "--support 2 --engine pivot --split 01/064 (a) f",
+        "Some(Command { support: 2, source: Read { expression: \"(a)\", file: \"f\" }, \
+         hierarchy: None, weighted: false, engine: Pivot, workers: 4, seed: None, \
+         share: Some(Share { index: 1, of: 64 }), stats: false })",
     ),
     ("--support 2 (a)", "None"),
     ("--support 1 --generated 1000001 (.)", "None"),
@@ -56,6 +63,16 @@ const COMMANDS: &[(&str, &str)] = &[
     ("--support 2 --workers 65 (a) f", "None"),
     ("--support 2 --engine count --simulate 7 (a) f", "None"),
     ("--support 2 --max-gap 1 --min-length 6 f", "None"),
+    ("--support 2 --engine pivot --split 3/2 (a) f", "None"),
+    ("--support 2 --engine pivot --split 1/65 (a) f", "None"),
+    ("--support 2 --engine pivot --split 0/2 (a) f", "None"),
+    ("--support 2 --engine pivot --split 1/2/3 (a) f", "None"),
+    ("--support 2 --engine pivot --split 12 (a) f", "None"),
+    (
+        "--support 2 --engine pivot --split 1/2 --simulate 7 (a) f",
+        "None",
+    ),
+    ("--support 2 --split 1/2 (a) f", "None"),
 ];
 
 #[test]

@@ -35,7 +35,7 @@ onto-named : (b : ℕ) (pieces : List (List ℕ)) → is_name_byte b ≡ true �
 onto-named b [] is all = ((is, tt), tt)
 onto-named b (piece ∷ pieces) is all = ((is, all.0), all.1)
 
-pieces-named : (line : List ℕ) → AllByRecursion (Each is_name_byte true) (pieces_by_blank line)
+pub pieces-named : (line : List ℕ) → AllByRecursion (Each is_name_byte true) (pieces_by_blank line)
 pieces-named [] = (tt, tt)
 pieces-named (b ∷ line) = by (is_name_byte b) refl (pieces-named line)
   where
@@ -44,7 +44,7 @@ pieces-named (b ∷ line) = by (is_name_byte b) refl (pieces-named line)
     by true is rest = onto-named b (pieces_by_blank line) is rest
     by false is rest = (tt, rest)
 
-texts-named : (column : ℕ) (pieces : List (List ℕ)) → AllByRecursion (Each is_name_byte true) pieces → AllByRecursion IsNameText (map (λ (f : Field). f.text) (fields_from column pieces))
+pub texts-named : (column : ℕ) (pieces : List (List ℕ)) → AllByRecursion (Each is_name_byte true) pieces → AllByRecursion IsNameText (map (λ (f : Field). f.text) (fields_from column pieces))
 texts-named column [] all = tt
 texts-named column ([] ∷ pieces) all = texts-named (column + 1) pieces all.1
 texts-named column ((b ∷ bytes) ∷ pieces) all = (((λ none. cc), all.0), texts-named (column + length (b ∷ bytes) + 1) pieces all.1)

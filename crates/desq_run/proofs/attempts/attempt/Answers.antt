@@ -6,7 +6,7 @@ use Rattle.command_line.specs.Commands.{command_said}
 use Rattle.desq_run.specs.Ends.{Ends, IsWork, done, no_command, write_fault, no_memory}
 use Rattle.desq_run.specs.Said.{output_of}
 use Rattle.desq_run.proofs.EndLemmas.{same_command, needs-none}
-use Rattle.desq_run.proofs.SourceLemmas.{has-ranges}
+use Rattle.desq_run.proofs.SourceLemmas.{has-ranges, has-share}
 use Rattle.desq_run.proofs.RowLemmas.{is-work}
 use Rattle.desq_run.proofs.attempts.attempt.Goals as goal
 
@@ -67,6 +67,11 @@ returns-in_err-write_answer-clause-cut g c = λ failed input is_input.
       (answer, mined.answer input is_input, ap (λ (d : Command). output_of d.source answer) (same_command words holds command mined.source input is_input)),
       c.in_err-write_answer.ensures.cut (ap Err e),
     )
+
+pub mine_input-requires-clause-share : goal.mine_input-requires-clause-share
+mine_input-requires-clause-share g c = λ _ _.
+    let is = rw c.in-Some.is at c.in_ok-command.ensures in
+    has-share (map string_bytes c.args.words.now) (command_said c.in-Some.command) is
 
 pub mine_input-requires-clause-ranges : goal.mine_input-requires-clause-ranges
 mine_input-requires-clause-ranges g c = λ _ _.
