@@ -11,7 +11,8 @@ mod shares;
 mod sources;
 
 pub use laws::{
-    a_share_finds_its_part_of_the_answer, an_accepted_input_has_an_answer, at_most_one_first_refusal,
-    at_most_one_text, made_output_is_the_summary, the_outputs_of_all_shares_merge_to_the_answer,
+    a_share_finds_its_part_of_the_answer, an_accepted_input_has_an_answer,
+    at_most_one_first_refusal, at_most_one_text, made_output_is_the_summary,
+    the_outputs_of_all_shares_merge_to_the_answer,
 };
 pub use running::run;

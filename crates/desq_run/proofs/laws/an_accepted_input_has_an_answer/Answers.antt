@@ -9,8 +9,7 @@ pub returns : goal.returns
 returns c = record {
   answer = λ words input said none. accepted-answered words input said none;
   text = λ words input said whole none.
-      let (answer, is) = accepted-answered words input said none in
-      (
+      let (answer, is) = accepted-answered words input said none in (
         output_of input.command.source answer,
         (answer, subst (λ (share : Option Share). AreRowsTo share input.command.source input answer) (sym whole) is, refl),
       );
