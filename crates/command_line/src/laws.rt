@@ -10,7 +10,11 @@ ghost use Rattle.made_input.specs.Made.{most_made};
 ghost use Rattle.command_line.specs.Words.{Command, IsCommand, IsNumber, IsUsage, embed, make};
 ghost use Rattle.command_line.specs.Options.{options};
 ghost use Rattle.command_line.specs.PlainWords.{
-    HasNoDashes, IsHelp, IsPlainWord, IsUse, plain_command,
+  HasNoDashes,
+  IsHelp,
+  IsPlainWord,
+  IsUse,
+  plain_command,
 };
 
 /// Words say at most one command.
