@@ -5,3 +5,7 @@ pub mod Needed
 pub mod PlainWordLemmas
 pub mod PlainDigits
 pub mod PlainCommand
+pub mod Walking
+pub mod RefusedWords
+pub mod RepeatedOptions
+pub mod OptionWords

@@ -13,14 +13,14 @@ use Rattle.command_line.specs.declared.words.Engine.TheVariants.{Dfs}
 use Rattle.command_line.specs.PlainWords.{IsPlainWord, plain_command}
 use Rattle.command_line.proofs.PlainWordLemmas.{between, plain_step, walked_plain, walk_fault_plain}
 
-abbrev top : Shape
+abbrev pub top : Shape
 top = (built desq).top
 
 abbrev walk_on : Walk → List Text → Walk
 walk_on = fold (walked top.rules [])
 
 -- the faults of a parse, by where its walk ends and how
-abbrev faults_at : Walk → Kinds → Kinds
+abbrev pub faults_at : Walk → Kinds → Kinds
 faults_at w k =
     or_else k (or_else (entered_fault (built desq) w.stopped) (or_else (settle_fault top.rules top.args_override_self w.held)
     (or_else (defaults_fault (settled top.rules w.held).rows top.rules)

@@ -23,7 +23,7 @@ plain_dashes word (inl dash) = rw dash refl
 plain_dashes [] (inr begins) = refl
 plain_dashes (x ∷ xs) (inr begins) = rw begins refl
 
-no_subcommand : (waiting : Waiting) (word : Text) → subcommand_met [] waiting word ≡ None
+pub no_subcommand : (waiting : Waiting) (word : Text) → subcommand_met [] waiting word ≡ None
 no_subcommand idle word = refl
 no_subcommand (option id) word = refl
 no_subcommand positional word = refl

@@ -1,13 +1,21 @@
 //! Laws over the definitions. Each is the contract of a function that does nothing.
 
-ghost use Rattle.std.specs.Prelude.{◌≡◌, ◌≤◌, ℕ, false, None, List, [], ◌∷◌, codes};
+ghost use Rattle.std.specs.Prelude.{◌≡◌, ◌≤◌, ℕ, false, IfSome, None, List, [], ◌∷◌, ◌++◌, codes};
+ghost use Rattle.std.specs.List.{AllByRecursion};
 ghost use Rattle.clap.specs.Words.{Text};
 ghost use Rattle.mine_model.specs.Limits.{most_support};
 ghost use Rattle.gap_front.specs.declared.rule.GapRule.{GapRule};
 ghost use Rattle.gap_front.specs.Embedding.{IsRule};
 ghost use Rattle.made_input.specs.Made.{most_made};
 ghost use Rattle.command_line.specs.Words.{Command, IsCommand, IsNumber, IsUsage, embed, make};
-ghost use Rattle.command_line.specs.PlainWords.{IsPlainWord, plain_command};
+ghost use Rattle.command_line.specs.Options.{options};
+ghost use Rattle.command_line.specs.PlainWords.{
+  HasNoDashes,
+  IsHelp,
+  IsPlainWord,
+  IsUse,
+  plain_command,
+};
 
 /// Words say at most one command.
 pub fn at_most_one_command()
@@ -49,4 +57,20 @@ pub fn words_behind_dashes_say()
     ensures { (digits expression file : Text) (n : ℕ) → IsNumber 1 most_support digits n
         → IsCommand (codes "--support" ∷ digits ∷ codes "--" ∷ expression ∷ file ∷ [])
         (plain_command n expression file) }
+{}
+
+/// Words that ask for help or for the version say no command, whatever stands before and behind. Behind `--`
+/// such a word is an expression or a file as any other.
+pub fn help_is_usage()
+    ensures { (before behind : List Text) (word : Text) → IsHelp word → HasNoDashes before
+        → IsUsage (before ++ word ∷ behind) }
+{}
+
+/// Words in which one option stands twice say no command, whichever option it is and whatever stands before,
+/// between and behind. Behind `--` there are no options.
+pub fn a_repeated_option_is_usage()
+    ensures { AllByRecursion (λ rule. IfSome rule.long (λ name.
+        (before between behind : List Text) (first second : Text) → IsUse name first → IsUse name second
+        → HasNoDashes before → HasNoDashes between
+        → IsUsage (before ++ first ∷ (between ++ second ∷ behind)))) options }
 {}

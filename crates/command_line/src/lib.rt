@@ -8,8 +8,8 @@ mod share;
 mod words;
 
 pub use laws::{
-    a_rule_is_in_its_ranges, at_most_one_command, made_input_names_no_file, plain_words_say,
-    usage_says_no_command, words_behind_dashes_say,
+    a_repeated_option_is_usage, a_rule_is_in_its_ranges, at_most_one_command, help_is_usage,
+    made_input_names_no_file, plain_words_say, usage_says_no_command, words_behind_dashes_say,
 };
 pub use share::Share;
 pub use words::{Command, Engine, Source, read_words};
