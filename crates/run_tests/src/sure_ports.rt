@@ -1,5 +1,5 @@
-//! Runs over files and into a sink that never fail: that no fault of theirs ends them is proved, for all words
-//! and whatever the files hold.
+//! Runs over files and into a sink that never fail: that no fault of theirs ends them is proved, for all
+//! words and whatever the files hold.
 
 ghost use Rattle.std.specs.Prelude.{◌≢◌, ◌<◌};
 
