@@ -1,0 +1,64 @@
+-- Words as options with their values, flags and plain words, and the value that each name has in them.
+use Rattle.std.specs.Prelude.{◌≡◌, ◌≢◌, ◌⊎◌, List, [], ◌∷◌, ◌++◌, codes, find, option_map, Option, Some}
+use Rattle.std.specs.List.{AllByRecursion}
+use Rattle.std.specs.Str.{bytes_eq}
+use Rattle.clap.specs.Words.{Rule, Text}
+use Rattle.clap.specs.declared.builder.action.ArgAction.{ArgAction}
+use Rattle.clap.specs.declared.builder.action.ArgAction.TheVariants.{Set, SetTrue}
+use Rattle.command_line.specs.Options.{options}
+use Rattle.command_line.specs.PlainWords.{IsPlainWord}
+
+-- `--NAME VALUE`, `--NAME=VALUE`, `--NAME`, or a plain word
+pub data Item : Type 0 where
+  spaced : (name value : Text) → Item
+  joined : (name value : Text) → Item
+  alone : (name : Text) → Item
+  plain : (word : Text) → Item
+
+-- the words as they are written
+abbrev pub words_of : List Item → List Text
+words_of [] = []
+words_of (spaced name value ∷ items) = (codes "--" ++ name) ∷ value ∷ words_of items
+words_of (joined name value ∷ items) = (codes "--" ++ name ++ codes "=" ++ value) ∷ words_of items
+words_of (alone name ∷ items) = (codes "--" ++ name) ∷ words_of items
+words_of (plain word ∷ items) = word ∷ words_of items
+
+-- one of the arguments has this long name, and clap acts so on it
+abbrev pub IsNameIn : List Rule → ArgAction → Text → Type 0
+IsNameIn [] action name = ⊥
+IsNameIn (rule ∷ rules) action name =
+    ((rule.long ≡ Some name) × (rule.action ≡ Some action)) ⊎ IsNameIn rules action name
+
+-- Each name is that of an option of its kind, each value that is a word of its own and each word without a
+-- name is plain, and there are no more of the latter than places.
+abbrev pub AreItems : List Text → List Item → Type 0
+AreItems places [] = Unit {0}
+AreItems places (spaced name value ∷ items) =
+    IsNameIn options Set name × IsPlainWord value × AreItems places items
+AreItems places (joined name value ∷ items) = IsNameIn options Set name × AreItems places items
+AreItems places (alone name ∷ items) = IsNameIn options SetTrue name × AreItems places items
+AreItems [] (plain word ∷ items) = ⊥
+AreItems (place ∷ places) (plain word ∷ items) = IsPlainWord word × AreItems places items
+
+-- the names that are used, in order, with their values: that of a flag is `true`, and the plain words are the
+-- values of the places
+abbrev pub uses : List Text → List Item → List (Text × Text)
+uses places [] = []
+uses places (spaced name value ∷ items) = (name, value) ∷ uses places items
+uses places (joined name value ∷ items) = (name, value) ∷ uses places items
+uses places (alone name ∷ items) = (name, codes "true") ∷ uses places items
+uses [] (plain word ∷ items) = uses [] items
+uses (place ∷ places) (plain word ∷ items) = (place, word) ∷ uses places items
+
+-- no name is used twice
+abbrev pub IsEachOnce : List (Text × Text) → Type 0
+IsEachOnce [] = Unit {0}
+IsEachOnce (first ∷ later) = AllByRecursion (λ other. first.0 ≢ other.0) later × IsEachOnce later
+
+-- the value with which the name is used
+abbrev pub value_in : List (Text × Text) → Text → Option Text
+value_in all name = option_map (λ found. found.1) (find (λ one. bytes_eq one.0 name) all)
+
+-- the names of the words by their places
+abbrev pub places : List Text
+places = codes "expression" ∷ codes "file" ∷ []
