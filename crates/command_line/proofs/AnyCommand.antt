@@ -1,5 +1,5 @@
 -- Words in which each name has the same value are refused alike, and the same is found in them.
-use Rattle.std.proofs.Common.{◌≡◌, ◌≢◌, ◌∙◌, ◌&&◌, ◌||◌, refl, sym, ap, ap₂, subst, ℕ, true, false, true≢false, not, cond, Bool, List, [], ◌∷◌, ◌++◌, codes, fold, find, slice_get, Option, Some, None, is_some, option_map, option_and_then, if◌then◌else◌}
+use Rattle.std.proofs.Common.{◌≡◌, ◌∙◌, ◌&&◌, ◌||◌, refl, sym, ap, ap₂, ℕ, true, false, true≢false, not, cond, Bool, List, [], ◌∷◌, fold, find, slice_get, Option, Some, None, is_some, option_map, option_and_then, if◌then◌else◌}
 use Rattle.std.specs.Str.{bytes_eq}
 use Rattle.std.specs.Option.{option_map_or, option_or}
 use Rattle.std.specs.List.{AllByRecursion, list_any}
@@ -9,8 +9,8 @@ use Rattle.clap.specs.Words.{Kinds, Row, Rule, Text, first_of}
 use Rattle.clap.specs.Facts.{explicit_source}
 use Rattle.clap.specs.Kinds.{check_kinds, or_else}
 use Rattle.clap.specs.Takes.{is_given}
-use Rattle.clap.specs.Walk.{Held, Walk, default_rows, finished, has_row, idle, is_empty, nothing_held, reading_by, settled, walk, walk_from, with_default}
-use Rattle.clap.specs.Faults.{check_fault, default_fault, defaults_fault, given_default_fault, settle_fault, walk_fault}
+use Rattle.clap.specs.Walk.{Held, Walk, default_rows, finished, has_row, idle, is_empty, nothing_held, reading_by, settled, walk, with_default}
+use Rattle.clap.specs.Faults.{check_fault, defaults_fault, given_default_fault, settle_fault}
 use Rattle.clap.specs.declared.builder.value_parser.Reading.{Reading}
 use Rattle.clap.specs.declared.parser.matches.ValueSource.TheVariants.{DefaultValue}
 use Rattle.command_line.specs.Options.{options, desq, faults, rows}
@@ -18,7 +18,7 @@ use Rattle.command_line.specs.Items.{AreItems, IsEachOnce, Item, places, uses, v
 use Rattle.command_line.proofs.PlainCommand.{faults_at, top}
 use Rattle.command_line.proofs.PlainWordLemmas.{between}
 use Rattle.command_line.proofs.RefusedWords.{faults_are}
-use Rattle.command_line.proofs.AnyOrder.{Holds, row, with_absent}
+use Rattle.command_line.proofs.AnyOrder.{row, with_absent}
 use Rattle.command_line.proofs.AnyRows.{Goes, goes_over, rows_of}
 
 -- the first row of this name

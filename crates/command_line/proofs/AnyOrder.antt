@@ -1,28 +1,21 @@
 -- What clap finds in words depends on the value that each name has in them, not on where it stands.
-use Rattle.std.proofs.Common.{◌≡◌, ◌≢◌, ◌∙◌, ◌&&◌, ◌||◌, refl, sym, ap, ap₂, subst, ℕ, inl, inr, true, false, true≢false, not, Bool, List, [], ◌∷◌, ◌++◌, codes, map, fold, find, length, Option, Some, None, is_some, unwrap_or, option_map, if◌then◌else◌}
+use Rattle.std.proofs.Common.{◌≡◌, ◌∙◌, ◌&&◌, ◌||◌, refl, sym, ap, ap₂, true, false, true≢false, not, Bool, List, [], ◌∷◌, ◌++◌, length, Option, Some, None, unwrap_or, if◌then◌else◌}
 use Rattle.std.specs.Str.{bytes_eq}
 use Rattle.std.specs.Option.{option_map_or}
-use Rattle.std.specs.List.{AllByRecursion, list_any}
-use Rattle.std.proofs.lemmas.Slice.Eq.{bytes_eq-Decides}
-use Rattle.std.proofs.lemmas.List.{append_assoc, append-nil}
-use Rattle.clap.specs.Words.{Kinds, Row, Rule, Text, first_of, new_rule}
+use Rattle.clap.specs.Words.{Row, Rule, Text, new_rule}
 use Rattle.clap.specs.Facts.{unwrap_or_range}
 use Rattle.clap.specs.Kinds.{or_else, range_kinds}
-use Rattle.clap.specs.Lexer.{long_of}
-use Rattle.clap.specs.Walk.{Held, Step, Waiting, Walk, action_of, after_flag, after_step, arg_by_id, arg_by_index, arg_by_long, has_row, idle, is_multiple, long_met, more_values, most_values, next, nothing_held, option, reacted, reading_by, settled, settled_rows, takes_several, takes_values, used, used_by_id, values_or_missing, walked, with_values, without, word_met}
-use Rattle.clap.specs.Faults.{action_fault, long_fault, option_fault, react_fault, repeat_fault, settle_fault, step_fault, turn_fault, use_fault, values_fault, walk_fault, word_fault}
+use Rattle.clap.specs.Walk.{Held, Walk, action_of, arg_by_id, has_row, more_values, most_values, reacted, reading_by, settled, used, used_by_id, values_or_missing, walked, with_values, without}
+use Rattle.clap.specs.Faults.{action_fault, react_fault, repeat_fault, settle_fault, turn_fault, use_fault, values_fault}
 use Rattle.clap.specs.declared.builder.action.ArgAction.{ArgAction}
 use Rattle.clap.specs.declared.builder.action.ArgAction.TheVariants.{Set, SetTrue}
 use Rattle.clap.specs.declared.builder.value_parser.Reading.{Reading}
 use Rattle.clap.specs.declared.error.kind.ErrorKind.TheVariants as kind
 use Rattle.clap.specs.declared.parser.matches.ValueSource.{ValueSource}
 use Rattle.clap.specs.declared.parser.matches.ValueSource.TheVariants.{CommandLine}
-use Rattle.command_line.specs.Options.{options, desq}
 use Rattle.command_line.proofs.PlainCommand.{top}
-use Rattle.command_line.proofs.PlainWordLemmas.{between}
-use Rattle.command_line.proofs.Walking.{dashes, flag_or_option, is_single}
-use Rattle.command_line.proofs.RefusedWords.{options_single}
-use Rattle.command_line.proofs.RepeatedOptions.{fault_is, met_is, single_use}
+use Rattle.command_line.proofs.Walking.{is_single}
+use Rattle.command_line.proofs.RepeatedOptions.{single_use}
 
 -- the argument of this name
 abbrev pub rule_of : Text → Rule

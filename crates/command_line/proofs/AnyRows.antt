@@ -1,22 +1,21 @@
 -- What is found in options with their values, flags and plain words, each name of which is used once.
-use Rattle.std.proofs.Common.{◌≡◌, ◌≢◌, ◌∙◌, ◌&&◌, ◌||◌, refl, sym, ap, ap₂, subst, ℕ, inl, inr, true, false, true≢false, not, Bool, List, [], ◌∷◌, ◌++◌, codes, map, fold, find, IfSome, Option, Some, None, is_some, option_map, if◌then◌else◌}
+use Rattle.std.proofs.Common.{◌≡◌, ◌≢◌, ◌∙◌, ◌||◌, refl, sym, ap, ap₂, subst, ℕ, inl, inr, true, false, true≢false, Bool, List, [], ◌∷◌, ◌++◌, codes, map, fold, IfSome, Option, Some}
 use Rattle.std.specs.Str.{bytes_eq}
-use Rattle.std.specs.Option.{option_map_or}
-use Rattle.std.specs.List.{AllByRecursion, list_any}
+use Rattle.std.specs.List.{AllByRecursion}
 use Rattle.std.proofs.lemmas.Slice.Eq.{bytes_eq-Decides}
 use Rattle.std.proofs.lemmas.List.{append_assoc, append-nil}
-use Rattle.clap.specs.Words.{Kinds, Row, Rule, Text, first_of}
+use Rattle.clap.specs.Words.{Kinds, Row, Rule, Text}
 use Rattle.clap.specs.Kinds.{or_else}
-use Rattle.clap.specs.Walk.{Held, Walk, has_row, idle, nothing_held, settled, walked}
-use Rattle.clap.specs.Faults.{turn_fault, walk_fault}
+use Rattle.clap.specs.Walk.{Held, Walk, has_row, idle, nothing_held, walked}
+use Rattle.clap.specs.Faults.{walk_fault}
 use Rattle.clap.specs.declared.builder.action.ArgAction.{ArgAction}
 use Rattle.clap.specs.declared.builder.action.ArgAction.TheVariants.{Set, SetTrue}
 use Rattle.command_line.specs.Options.{options, desq}
 use Rattle.command_line.specs.Items.{AreItems, IsEachOnce, IsNameIn, Item, alone, joined, places, plain, spaced, uses, words_of}
 use Rattle.command_line.proofs.PlainCommand.{top}
 use Rattle.command_line.proofs.PlainWordLemmas.{between}
-use Rattle.command_line.proofs.AnyOrder.{Holds, IsUsed, Turn, pending_holds, reacted_holds, row}
-use Rattle.command_line.proofs.AnyWalk.{IsFlag, IsNamed, IsPlace, IsValue, flag_turn, joined_turn, name_turn, place_turn, reading, value_turn}
+use Rattle.command_line.proofs.AnyOrder.{Holds, Turn, pending_holds, reacted_holds, row}
+use Rattle.command_line.proofs.AnyWalk.{IsFlag, IsPlace, IsValue, flag_turn, joined_turn, name_turn, place_turn, reading, value_turn}
 
 -- what holds of each option of a kind holds of a name of that kind
 of_each : (rules : List Rule) (action : ArgAction) (P : Text → Type 0) → AllByRecursion (λ rule. IfSome rule.long (λ name. rule.action ≡ Some action → P name)) rules

@@ -1,28 +1,21 @@
 -- The walk over options with their values, flags and plain words, each name of which is used once.
-use Rattle.std.proofs.Common.{◌≡◌, ◌≢◌, ◌∙◌, ◌&&◌, ◌||◌, refl, sym, ap, ap₂, subst, ℕ, inl, inr, true, false, true≢false, Bool, List, [], ◌∷◌, ◌++◌, codes, map, fold, IfSome, Option, Some, None, is_some, if◌then◌else◌, nat_lt}
+use Rattle.std.proofs.Common.{◌≡◌, ◌∙◌, ◌&&◌, ap, ap₂, ℕ, true, false, Bool, List, [], ◌∷◌, ◌++◌, codes, Option, Some, None, if◌then◌else◌, nat_lt}
 use Rattle.std.specs.Str.{bytes_eq}
 use Rattle.std.specs.Option.{option_map_or}
-use Rattle.std.specs.List.{AllByRecursion}
-use Rattle.std.proofs.lemmas.Slice.Eq.{bytes_eq-Decides}
-use Rattle.std.proofs.lemmas.List.{append_assoc, append-nil}
 use Rattle.clap.specs.Words.{Kinds, Row, Rule, Text}
 use Rattle.clap.specs.Kinds.{or_else}
 use Rattle.clap.specs.Lexer.{long_of}
 use Rattle.clap.specs.Walk.{Held, Step, Waiting, Walk, after_flag, after_step, arg_by_id, arg_by_index, arg_by_long, has_row, idle, is_multiple, is_pending, long_met, most_values, next, next_position, option, option_word, pending_count, positional, pushed, reacted, settled, takes_several, takes_values, to_positional, walked, word_met}
-use Rattle.clap.specs.Faults.{long_fault, option_fault, positional_fault, react_fault, settle_fault, step_fault, stray_fault, turn_fault, walk_fault}
-use Rattle.clap.specs.declared.builder.action.ArgAction.{ArgAction}
-use Rattle.clap.specs.declared.builder.action.ArgAction.TheVariants.{Set, SetTrue}
+use Rattle.clap.specs.Faults.{long_fault, option_fault, positional_fault, react_fault, settle_fault, step_fault, stray_fault}
 use Rattle.clap.specs.declared.error.kind.ErrorKind.TheVariants as kind
-use Rattle.command_line.specs.Options.{options, desq}
 use Rattle.command_line.specs.PlainWords.{IsPlainWord}
-use Rattle.command_line.specs.Items.{AreItems, IsEachOnce, IsNameIn, Item, alone, joined, places, plain, spaced, uses, words_of}
 use Rattle.command_line.proofs.PlainCommand.{top}
 use Rattle.command_line.proofs.PlainWordLemmas.{between, turn_plain, walked_plain}
 use Rattle.command_line.proofs.Walking.{dashes, flag_or_option}
 use Rattle.command_line.proofs.RefusedWords.{options_single}
-use Rattle.command_line.proofs.RepeatedOptions.{fault_is, met_is}
+use Rattle.command_line.proofs.RepeatedOptions.{and_off, fault_is, met_is}
 use Rattle.command_line.proofs.OptionWords.{strict}
-use Rattle.command_line.proofs.AnyOrder.{Holds, IsUsed, Turn, pending_holds, react_clean, reacted_holds, row, rule_of}
+use Rattle.command_line.proofs.AnyOrder.{Holds, IsUsed, Turn, react_clean, rule_of}
 
 -- `--NAME` names the argument
 pub record IsNamed (name : Text) : Type 0 where
@@ -110,10 +103,6 @@ module _ (h : Held) (position : ℕ) (rs : List Row) (holds : Holds h rs) where
             ∙ ap (λ (b : Bool). between (reading name (value ∷ [])) (if b then option name else idle) position) (x.last value)),
         turn_plain top g (option name) position value p,
       )
-
-  and_off : (a b : Bool) → b ≡ false → (a && b) ≡ false
-  and_off true b off = off
-  and_off false b off = refl
 
   pub place_turn : (name word : Text) (behind : ℕ) (x : IsPlace name position behind) → IsPlainWord word
       → Turn (between h idle position) word (between (reading name (word ∷ [])) idle behind)

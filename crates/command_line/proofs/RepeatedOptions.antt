@@ -36,7 +36,7 @@ or_rest : (a b : Bool) → a ≡ false → (a || b) ≡ true → b ≡ true
 or_rest true b off h = absurd (true≢false off)
 or_rest false b off h = h
 
-and_off : (a b : Bool) → b ≡ false → (a && b) ≡ false
+pub and_off : (a b : Bool) → b ≡ false → (a && b) ≡ false
 and_off true b off = off
 and_off false b off = refl
 

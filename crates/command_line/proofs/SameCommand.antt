@@ -4,11 +4,11 @@ use Rattle.mine_model.specs.Limits.{most_workers}
 use Rattle.gap_front.specs.declared.rule.GapRule.{GapRule}
 use Rattle.gap_front.specs.Embedding.{most_rule_length}
 use Rattle.clap.specs.Words.{Row, Text, first_of}
-use Rattle.command_line.specs.Options.{faults, rows}
-use Rattle.command_line.specs.Words.{Command, GivesEngine, GivesLength, GivesMade, GivesMode, GivesRule, GivesSeed, GivesShare, GivesSource, GivesSupport, GivesWorkers, HasNoRule, IsAway, IsCommand, IsGiven, IsNumber, KeepsRules, Says, Source, embed, make, read}
+use Rattle.command_line.specs.Options.{rows}
+use Rattle.command_line.specs.Words.{Command, GivesEngine, GivesLength, GivesMade, GivesMode, GivesRule, GivesSeed, GivesShare, GivesSource, GivesSupport, GivesWorkers, HasNoRule, IsCommand, IsGiven, IsNumber, KeepsRules, Says, Source, embed, make, read}
 use Rattle.command_line.specs.declared.words.Engine.{Engine}
 use Rattle.command_line.specs.declared.share.Share.{Share}
-use Rattle.command_line.specs.Items.{AreItems, IsEachOnce, Item, places, uses, value_in, words_of}
+use Rattle.command_line.specs.Items.{HaveSameValues, IsLine, Item, words_of}
 use Rattle.command_line.proofs.AnyCommand.{same_faults, same_values}
 
 module _ (a b : List Row) (same : (id : Text) → first_of id a ≡ first_of id b) where
@@ -106,21 +106,16 @@ module _ (a b : List Row) (same : (id : Text) → first_of id a ≡ first_of id 
     stats = given_in (codes "stats") s.stats;
   }
 
-module _ (items others : List Item) (are : AreItems places items) (once : IsEachOnce (uses places items)) (other_are : AreItems places others)
-    (other_once : IsEachOnce (uses places others)) (same : (name : Text) → value_in (uses places items) name ≡ value_in (uses places others) name)
-    (command : Command) where
-  pub says_as : IsCommand (words_of items) command → IsCommand (words_of others) command
-  says_as is =
-      let values = same_values items others are once other_are other_once same in record {
-        taken = sym (same_faults items others are once other_are other_once same) ∙ is.taken;
-        rules = keeps_in (rows (words_of items)) (rows (words_of others)) values is.rules;
-        says = says_in (rows (words_of items)) (rows (words_of others)) values command is.says;
-      }
+says_as : (items others : List Item) (command : Command) → IsLine items → IsLine others → HaveSameValues items others
+    → IsCommand (words_of items) command → IsCommand (words_of others) command
+says_as items others command line other same is =
+    let values = same_values items others line.0 line.1 other.0 other.1 same in record {
+      taken = sym (same_faults items others line.0 line.1 other.0 other.1 same) ∙ is.taken;
+      rules = keeps_in (rows (words_of items)) (rows (words_of others)) values is.rules;
+      says = says_in (rows (words_of items)) (rows (words_of others)) values command is.says;
+    }
 
-pub says_the_same : (items others : List Item) (command : Command) → AreItems places items → IsEachOnce (uses places items) → AreItems places others
-    → IsEachOnce (uses places others) → ((name : Text) → value_in (uses places items) name ≡ value_in (uses places others) name)
+pub says_the_same : (items others : List Item) (command : Command) → IsLine items → IsLine others → HaveSameValues items others
     → IsCommand (words_of items) command ↔ IsCommand (words_of others) command
-says_the_same items others command are once other_are other_once same = (
-  says_as items others are once other_are other_once same command,
-  says_as others items other_are other_once are once (λ name. sym (same name)) command,
-)
+says_the_same items others command line other same =
+    (says_as items others command line other same, says_as others items command other line (λ name. sym (same name)))

@@ -62,3 +62,12 @@ value_in all name = option_map (λ found. found.1) (find (λ one. bytes_eq one.0
 -- the names of the words by their places
 abbrev pub places : List Text
 places = codes "expression" ∷ codes "file" ∷ []
+
+-- the items are as they should be, and each name is used once
+abbrev pub IsLine : List Item → Type 0
+IsLine items = AreItems places items × IsEachOnce (uses places items)
+
+-- each name has the same value in both, or none in both
+abbrev pub HaveSameValues : List Item → List Item → Type 0
+HaveSameValues items others =
+    (name : Text) → value_in (uses places items) name ≡ value_in (uses places others) name
