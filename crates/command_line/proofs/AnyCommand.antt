@@ -18,6 +18,7 @@ use Rattle.command_line.specs.Items.{AreItems, IsEachOnce, Item, places, uses, v
 use Rattle.command_line.proofs.PlainCommand.{faults_at, top}
 use Rattle.command_line.proofs.PlainWordLemmas.{between}
 use Rattle.command_line.proofs.RefusedWords.{faults_are}
+use Rattle.command_line.proofs.RepeatedOptions.{stood}
 use Rattle.command_line.proofs.AnyOrder.{row, with_absent}
 use Rattle.command_line.proofs.AnyRows.{Goes, goes_over, rows_of}
 
@@ -108,9 +109,9 @@ rows_are : (words : List Text) → rows words ≡ finished top.rules (walk top.r
 unfolding rows options desq
 rows_are words = refl
 
-faults_end : (h : Held) (position : ℕ) → settle_fault top.rules top.args_override_self h ≡ []
-    → faults_at (between h idle position) [] ≡ check_fault top (finished top.rules h) false
-faults_end h position clean = ap₂ (λ (k l : Kinds). or_else k (or_else l (check_fault top (finished top.rules h) false))) clean (defaults_clean top.rules (settled top.rules h).rows top_defaults)
+faults_end : (h : Held) (position : ℕ) (t : Bool) → settle_fault top.rules top.args_override_self h ≡ []
+    → faults_at (stood h idle position t) [] ≡ check_fault top (finished top.rules h) false
+faults_end h position t clean = ap₂ (λ (k l : Kinds). or_else k (or_else l (check_fault top (finished top.rules h) false))) clean (defaults_clean top.rules (settled top.rules h).rows top_defaults)
 
 -- what clap finds in the words in which these names are used
 abbrev found : List (Text × Text) → List Row
@@ -121,16 +122,16 @@ module _ (items : List Item) (are : AreItems places items) (once : IsEachOnce (u
   there = goes_over items are once
 
   finds : finished top.rules there.0 ≡ found (uses places items)
-  finds = ap (λ (rs : List Row). fold with_default rs top.rules) there.4.rows
+  finds = ap (λ (rs : List Row). fold with_default rs top.rules) there.5.rows
 
   rows_found : rows (words_of items) ≡ found (uses places items)
-  rows_found = rows_are (words_of items) ∙ (ap (λ (w : Walk). finished top.rules w.held) there.2 ∙ finds)
+  rows_found = rows_are (words_of items) ∙ (ap (λ (w : Walk). finished top.rules w.held) there.3 ∙ finds)
 
   faults_found : faults (words_of items) ≡ check_kinds false false (lacks top.rules (found (uses places items)))
   faults_found =
       faults_are (words_of items)
-      ∙ (ap₂ faults_at there.2 there.3
-      ∙ (faults_end there.0 there.1 there.4.clean
+      ∙ (ap₂ faults_at there.3 there.4
+      ∙ (faults_end there.0 there.1 there.2 there.5.clean
       ∙ (ap (λ (rs : List Row). check_fault top rs false) finds ∙ check_is (found (uses places items)))))
 
 module _ (items others : List Item) (are : AreItems places items) (once : IsEachOnce (uses places items)) (other_are : AreItems places others)

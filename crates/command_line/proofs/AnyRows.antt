@@ -11,11 +11,12 @@ use Rattle.clap.specs.Faults.{walk_fault}
 use Rattle.clap.specs.declared.builder.action.ArgAction.{ArgAction}
 use Rattle.clap.specs.declared.builder.action.ArgAction.TheVariants.{Set, SetTrue}
 use Rattle.command_line.specs.Options.{options, desq}
-use Rattle.command_line.specs.Items.{AreItems, IsEachOnce, IsNameIn, Item, alone, joined, places, plain, spaced, uses, words_of}
+use Rattle.command_line.specs.Items.{AreItems, HavePlaces, IsEachOnce, IsNameIn, Item, alone, as_they_are, joined, placed, places, plain, spaced, uses, words_of}
 use Rattle.command_line.proofs.PlainCommand.{top}
 use Rattle.command_line.proofs.PlainWordLemmas.{between}
 use Rattle.command_line.proofs.AnyOrder.{Holds, Turn, pending_holds, reacted_holds, row}
-use Rattle.command_line.proofs.AnyWalk.{IsFlag, IsPlace, IsValue, flag_turn, joined_turn, name_turn, place_turn, reading, value_turn}
+use Rattle.command_line.proofs.AnyWalk.{IsFlag, IsPlace, IsValue, behind_turn, dashes_turn, flag_turn, joined_turn, name_turn, place_turn, reading, value_turn}
+use Rattle.command_line.proofs.RepeatedOptions.{stood}
 
 -- what holds of each option of a kind holds of a name of that kind
 of_each : (rules : List Rule) (action : ArgAction) (P : Text → Type 0) → AllByRecursion (λ rule. IfSome rule.long (λ name. rule.action ≡ Some action → P name)) rules
@@ -220,13 +221,14 @@ walk_over = fold (walked top.rules [])
 
 -- the walk over the words is not refused, and these rows are found in them
 abbrev pub Goes : Walk → List Text → List Row → Type 0
-Goes w words rows = (h : Held) × (position : ℕ) × (walk_over w words ≡ between h idle position) × (walk_fault top [] w words ≡ []) × Holds h rows
+Goes w words rows = (h : Held) × (position : ℕ) × (t : Bool) × (walk_over w words ≡ stood h idle position t) × (walk_fault top [] w words ≡ []) × Holds h rows
 
 one_turn : (w there : Walk) (word : Text) (words : List Text) (rows : List Row) → Turn w word there → Goes there words rows → Goes w (word ∷ words) rows
 unfolding walk_fault
-one_turn w there word words rows turn (h, position, ends, clean, holds) = (
+one_turn w there word words rows turn (h, position, t, ends, clean, holds) = (
   h,
   position,
+  t,
   ap (λ (x : Walk). walk_over x words) turn.0 ∙ ends,
   ap₂ (λ (k : Kinds) (x : Walk). or_else k (walk_fault top [] x words)) turn.1 turn.0 ∙ clean,
   holds,
@@ -235,10 +237,23 @@ one_turn w there word words rows turn (h, position, ends, clean, holds) = (
 abbrev pub rows_of : List (Text × Text) → List Row
 rows_of = map (λ one. row one.0 one.1)
 
+-- behind `--` each word goes to its place
+goes_behind : (names words : List Text) (h : Held) (position : ℕ) (rs : List Row) → AreAt position names → HavePlaces names words
+    → AreAway rs (placed names words) → IsEachOnce (placed names words) → Holds h rs → Goes (stood h idle position true) words (rs ++ rows_of (placed names words))
+unfolding walk_fault
+goes_behind names [] h position rs at fit away once holds = (h, position, true, refl, refl, subst (Holds h) (sym (append-nil rs)) holds)
+goes_behind [] (word ∷ words) h position rs at fit away once holds = absurd fit
+goes_behind (name ∷ names) (word ∷ words) h position rs (behind, x, at) fit away once holds =
+    let g = reading h position rs holds name (word ∷ []) in
+    let later = goes_behind names words g behind (rs ++ row name word ∷ []) at fit (away_more name word rs (placed names words) once.0 away.1) once.1
+    (pending_holds name (word ∷ []) word (x.used word) h rs holds away.0) in
+    subst (Goes (stood h idle position true) (word ∷ words)) (append_assoc rs (row name word ∷ []) (rows_of (placed names words)))
+    (one_turn (stood h idle position true) _ word words _ (behind_turn h position rs holds name word behind x) later)
+
 goes : (names : List Text) (items : List Item) (h : Held) (position : ℕ) (rs : List Row) → AreAt position names → AreItems names items
     → AreAway rs (uses names items) → IsEachOnce (uses names items) → Holds h rs → Goes (between h idle position) (words_of items) (rs ++ rows_of (uses names items))
 unfolding walk_fault
-goes names [] h position rs at are away once holds = (h, position, refl, refl, subst (Holds h) (sym (append-nil rs)) holds)
+goes names [] h position rs at are away once holds = (h, position, false, refl, refl, subst (Holds h) (sym (append-nil rs)) holds)
 goes names (spaced name value ∷ items) h position rs at (is, free, are) away once holds =
     let x = of_each options Set IsValue each_value name is in
     let g = reading h position rs holds name (value ∷ []) in
@@ -259,6 +274,10 @@ goes names (alone name ∷ items) h position rs at (is, are) away once holds =
     (reacted_holds name [] (codes "true") x.used h rs holds away.0) in
     subst (Goes (between h idle position) (words_of (alone name ∷ items))) (append_assoc rs (row name (codes "true") ∷ []) (rows_of (uses names items)))
     (one_turn (between h idle position) _ _ (words_of items) _ (flag_turn h position rs holds name x away.0) later)
+goes names (as_they_are words ∷ []) h position rs at (none, fit) away once holds =
+    one_turn (between h idle position) (stood h idle position true) (codes "--") (words ++ []) _ (dashes_turn h position rs holds)
+    (subst (λ (ws : List Text). Goes (stood h idle position true) ws (rs ++ rows_of (placed names words))) (sym (append-nil words)) (goes_behind names words h position rs at fit away once holds))
+goes names (as_they_are words ∷ (item ∷ items)) h position rs at (none, fit) away once holds = absurd (cc)
 goes [] (plain word ∷ items) h position rs at are away once holds = absurd are
 goes (name ∷ names) (plain word ∷ items) h position rs (behind, x, at) (free, are) away once holds =
     let g = reading h position rs holds name (word ∷ []) in

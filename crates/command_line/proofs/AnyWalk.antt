@@ -1,11 +1,11 @@
 -- The walk over options with their values, flags and plain words, each name of which is used once.
-use Rattle.std.proofs.Common.{◌≡◌, ◌∙◌, ◌&&◌, ap, ap₂, ℕ, true, false, Bool, List, [], ◌∷◌, ◌++◌, codes, Option, Some, None, if◌then◌else◌, nat_lt}
+use Rattle.std.proofs.Common.{◌≡◌, ◌∙◌, ◌&&◌, ◌||◌, refl, ap, ap₂, ℕ, true, false, Bool, List, [], ◌∷◌, ◌++◌, codes, Option, Some, None, if◌then◌else◌, nat_lt}
 use Rattle.std.specs.Str.{bytes_eq}
 use Rattle.std.specs.Option.{option_map_or}
 use Rattle.clap.specs.Words.{Kinds, Row, Rule, Text}
 use Rattle.clap.specs.Kinds.{or_else}
 use Rattle.clap.specs.Lexer.{long_of}
-use Rattle.clap.specs.Walk.{Held, Step, Waiting, Walk, after_flag, after_step, arg_by_id, arg_by_index, arg_by_long, has_row, idle, is_multiple, is_pending, long_met, most_values, next, next_position, option, option_word, pending_count, positional, pushed, reacted, settled, takes_several, takes_values, to_positional, walked, word_met}
+use Rattle.clap.specs.Walk.{Held, Step, Waiting, Walk, after_flag, after_step, arg_by_id, arg_by_index, arg_by_long, has_row, idle, is_multiple, is_pending, long_met, most_values, next, next_position, option, option_word, pending_count, positional, pushed, reacted, settled, takes_several, takes_values, to_positional, value, walked, word_met}
 use Rattle.clap.specs.Faults.{long_fault, option_fault, positional_fault, react_fault, settle_fault, step_fault, stray_fault}
 use Rattle.clap.specs.declared.error.kind.ErrorKind.TheVariants as kind
 use Rattle.command_line.specs.PlainWords.{IsPlainWord}
@@ -13,7 +13,7 @@ use Rattle.command_line.proofs.PlainCommand.{top}
 use Rattle.command_line.proofs.PlainWordLemmas.{between, turn_plain, walked_plain}
 use Rattle.command_line.proofs.Walking.{dashes, flag_or_option}
 use Rattle.command_line.proofs.RefusedWords.{options_single}
-use Rattle.command_line.proofs.RepeatedOptions.{and_off, fault_is, met_is}
+use Rattle.command_line.proofs.RepeatedOptions.{and_off, fault_is, met_is, stood}
 use Rattle.command_line.proofs.OptionWords.{strict}
 use Rattle.command_line.proofs.AnyOrder.{Holds, IsUsed, Turn, react_clean, rule_of}
 
@@ -62,14 +62,14 @@ option_turn name word v vs given u called spelled apart h there position after m
     )
 
 module _ (h : Held) (position : ℕ) (rs : List Row) (holds : Holds h rs) where
-  pub joined_turn : (name value : Text) (x : IsValue name) → has_row name rs ≡ false
-      → Turn (between h idle position) (codes "--" ++ name ++ codes "=" ++ value) (between (reacted top.rules (rule_of name) (value ∷ []) h) idle position)
-  joined_turn name value x free =
-      let word : Text = codes "--" ++ name ++ codes "=" ++ value in
-      option_turn name word (Some value) (value ∷ []) value (x.used value) x.called (x.joins value).1 (x.joins value).0 h (reacted top.rules (rule_of name) (value ∷ []) h) position idle
-      (ap (λ (b : Bool). after_flag top.rules idle word (flag_or_option top.rules (rule_of name) h b (Some value)).0 (flag_or_option top.rules (rule_of name) h b (Some value)).1) x.takes)
-      (ap (λ (b : Bool). if b then option_fault top.rules top.args_override_self (rule_of name) (Some value) h else kind.TooManyValues ∷ []) x.takes
-      ∙ react_clean name (value ∷ []) value (x.used value) h rs holds free)
+  pub joined_turn : (name text : Text) (x : IsValue name) → has_row name rs ≡ false
+      → Turn (between h idle position) (codes "--" ++ name ++ codes "=" ++ text) (between (reacted top.rules (rule_of name) (text ∷ []) h) idle position)
+  joined_turn name text x free =
+      let word : Text = codes "--" ++ name ++ codes "=" ++ text in
+      option_turn name word (Some text) (text ∷ []) text (x.used text) x.called (x.joins text).1 (x.joins text).0 h (reacted top.rules (rule_of name) (text ∷ []) h) position idle
+      (ap (λ (b : Bool). after_flag top.rules idle word (flag_or_option top.rules (rule_of name) h b (Some text)).0 (flag_or_option top.rules (rule_of name) h b (Some text)).1) x.takes)
+      (ap (λ (b : Bool). if b then option_fault top.rules top.args_override_self (rule_of name) (Some text) h else kind.TooManyValues ∷ []) x.takes
+      ∙ react_clean name (text ∷ []) text (x.used text) h rs holds free)
 
   pub flag_turn : (name : Text) (x : IsFlag name) → has_row name rs ≡ false
       → Turn (between h idle position) (codes "--" ++ name) (between (reacted top.rules (rule_of name) [] h) idle position)
@@ -84,45 +84,62 @@ module _ (h : Held) (position : ℕ) (rs : List Row) (holds : Holds h rs) where
   abbrev pub reading : Text → List Text → Held
   reading name vs = record (settled top.rules h) { pending = Some (name, vs) }
 
-  pub name_turn : (name value : Text) (x : IsValue name)
+  pub name_turn : (name text : Text) (x : IsValue name)
       → Turn (between h idle position) (codes "--" ++ name) (between (reading name []) (option name) position)
-  name_turn name value x =
+  name_turn name text x =
       let word : Text = codes "--" ++ name in
-      option_turn name word None (value ∷ []) value (x.used value) x.called x.called.spelled x.called.apart h (reading name []) position (option name)
+      option_turn name word None (text ∷ []) text (x.used text) x.called x.called.spelled x.called.apart h (reading name []) position (option name)
       (ap (λ (b : Bool). after_flag top.rules idle word (flag_or_option top.rules (rule_of name) h b None).0 (flag_or_option top.rules (rule_of name) h b None).1) x.takes
-      ∙ ap (λ (id : Text). (reading id [], next (option id))) (x.used value).same)
+      ∙ ap (λ (id : Text). (reading id [], next (option id))) (x.used text).same)
       (ap (λ (b : Bool). if b then option_fault top.rules top.args_override_self (rule_of name) None h else react_fault top.rules top.args_override_self (rule_of name) [] h) x.takes
       ∙ holds.clean)
 
-  pub value_turn : (name value : Text) (x : IsValue name) → IsPlainWord value
-      → Turn (between (reading name []) (option name) position) value (between (reading name (value ∷ [])) idle position)
-  value_turn name value x p =
+  pub value_turn : (name text : Text) (x : IsValue name) → IsPlainWord text
+      → Turn (between (reading name []) (option name) position) text (between (reading name (text ∷ [])) idle position)
+  value_turn name text x p =
       let g = reading name [] in (
-        walked_plain top.rules g (option name) position value p
-            ∙ (ap (λ (o : Option Rule). between (option_word o name value g).0 (option_word o name value g).1 position) (x.used value).known
-            ∙ ap (λ (b : Bool). between (reading name (value ∷ [])) (if b then option name else idle) position) (x.last value)),
-        turn_plain top g (option name) position value p,
+        walked_plain top.rules g (option name) position text p
+            ∙ (ap (λ (o : Option Rule). between (option_word o name text g).0 (option_word o name text g).1 position) (x.used text).known
+            ∙ ap (λ (b : Bool). between (reading name (text ∷ [])) (if b then option name else idle) position) (x.last text)),
+        turn_plain top g (option name) position text p,
       )
 
-  pub place_turn : (name word : Text) (behind : ℕ) (x : IsPlace name position behind) → IsPlainWord word
-      → Turn (between h idle position) word (between (reading name (word ∷ [])) idle behind)
-  place_turn name word behind x p = (
-    walked_plain top.rules h idle position word p
-        ∙ (ap (λ (o : Option Rule). to_positional top.rules o word (between h idle position) h) x.at
-        ∙ (ap (λ (b : Bool). shape a.id b (if is_multiple a then positional else idle) (next_position a position) a.trailing_var_arg) off
-        ∙ (ap (λ (id : Text). shape id false (if is_multiple a then positional else idle) (next_position a position) a.trailing_var_arg) (x.used word).same
-        ∙ (ap (λ (b : Bool). shape name false (if b then positional else idle) (next_position a position) a.trailing_var_arg) x.multiple
-        ∙ (ap (λ (n : ℕ). shape name false idle n a.trailing_var_arg) x.after ∙ ap (λ (b : Bool). shape name false idle behind b) x.trailing))))),
-    turn_plain top h idle position word p
-        ∙ (ap (λ (o : Option Rule). option_map_or (λ r. positional_fault top.rules top.args_override_self r h) o (stray_fault top)) x.at
-        ∙ (ap (λ (b : Bool). if b then [] else settle_fault top.rules top.args_override_self h) off ∙ holds.clean)),
-  )
-    where
-      a : Rule
-      a = rule_of name
+  module _ (name word : Text) (behind : ℕ) (x : IsPlace name position behind) where
+    abbrev a : Rule
+    a = rule_of name
 
-      off : (is_pending (rule_of name) h.pending && takes_several (rule_of name)) ≡ false
-      off = and_off (is_pending (rule_of name) h.pending) (takes_several (rule_of name)) x.several
+    off : (is_pending a h.pending && takes_several a) ≡ false
+    off = and_off (is_pending a h.pending) (takes_several a) x.several
 
-      shape : Text → Bool → Waiting → ℕ → Bool → Walk
-      shape id b waiting n t = record { held = pushed id word (if b then h else settled top.rules h); waiting = waiting; position = n; is_trailing = t; stopped = None }
+    or_none : (b : Bool) → (b || false) ≡ b
+    or_none true = refl
+    or_none false = refl
+
+    abbrev shape : Text → Bool → Waiting → ℕ → Bool → Walk
+    shape id b waiting n t = record { held = pushed id word (if b then h else settled top.rules h); waiting = waiting; position = n; is_trailing = t; stopped = None }
+
+    placed_is : (t : Bool) → to_positional top.rules (arg_by_index top.rules position) word (stood h idle position t) h ≡ stood (reading name (word ∷ [])) idle behind t
+    placed_is t =
+        ap (λ (o : Option Rule). to_positional top.rules o word (stood h idle position t) h) x.at
+        ∙ (ap (λ (b : Bool). shape a.id b (if is_multiple a then positional else idle) (next_position a position) (t || a.trailing_var_arg)) off
+        ∙ (ap (λ (id : Text). shape id false (if is_multiple a then positional else idle) (next_position a position) (t || a.trailing_var_arg)) (x.used word).same
+        ∙ (ap (λ (b : Bool). shape name false (if b then positional else idle) (next_position a position) (t || a.trailing_var_arg)) x.multiple
+        ∙ (ap (λ (n : ℕ). shape name false idle n (t || a.trailing_var_arg)) x.after
+        ∙ ap (λ (b : Bool). shape name false idle behind b) (ap (λ (b : Bool). t || b) x.trailing ∙ or_none t)))))
+
+    placed_clean : step_fault top position h value ≡ []
+    placed_clean =
+        ap (λ (o : Option Rule). option_map_or (λ r. positional_fault top.rules top.args_override_self r h) o (stray_fault top)) x.at
+        ∙ (ap (λ (b : Bool). if b then [] else settle_fault top.rules top.args_override_self h) off ∙ holds.clean)
+
+    pub place_turn : IsPlainWord word → Turn (between h idle position) word (between (reading name (word ∷ [])) idle behind)
+    place_turn p = (walked_plain top.rules h idle position word p ∙ placed_is false, turn_plain top h idle position word p ∙ placed_clean)
+
+    -- behind `--` any word goes to its place
+    pub behind_turn : Turn (stood h idle position true) word (stood (reading name (word ∷ [])) idle behind true)
+    unfolding walked
+    behind_turn = (placed_is true, placed_clean)
+
+  pub dashes_turn : Turn (between h idle position) (codes "--") (stood h idle position true)
+  unfolding walked
+  dashes_turn = (refl, refl)

@@ -92,7 +92,7 @@ has_other a values rows id e has = go (bytes_eq a.id id) refl
         (has_with id a.id (reading_by a) CommandLine (values_or_missing a values) (without a.id rows) (has_without id a.id rows differ has))
 
 -- where the walk stands, in front of `--` or behind it
-abbrev stood : Held → Waiting → ℕ → Bool → Walk
+abbrev pub stood : Held → Waiting → ℕ → Bool → Walk
 stood held waiting position is_trailing = record { held = held; waiting = waiting; position = position; is_trailing = is_trailing; stopped = None }
 
 abbrev NoSubcommand : Step → Type 0

@@ -76,11 +76,12 @@ pub fn a_repeated_option_is_usage()
         → IsUsage (before ++ first ∷ (between ++ second ∷ behind)))) options }
 {}
 
-/// Options may stand anywhere: two lines of options with their values, flags and plain words say the same
-/// command where each option has the same value in both, or stands in neither, and the plain words are the
-/// same in the same order. `--NAME VALUE` and `--NAME=VALUE` are one. In a line each option stands once, a
-/// value that is a word of its own is plain, one behind `=` is any text, and there are no more than two plain
-/// words, and no `--`.
+/// Options may stand anywhere in front of `--`: two lines say the same command where each option has the
+/// same value in both, or stands in neither, and the words of no option are the same in the same order.
+/// `--NAME VALUE` and `--NAME=VALUE` are one, and a word of no option may stand in front of `--` or behind
+/// it. In a line each option stands once, a value that is a word of its own is plain, as is a word of no
+/// option in front of `--`, other values and words are any text, and there are no more than two words of no
+/// option.
 pub fn options_may_stand_anywhere()
     ensures { (items others : List Item) (command : Command) → IsLine items → IsLine others
         → HaveSameValues items others
