@@ -9,3 +9,8 @@ pub mod Walking
 pub mod RefusedWords
 pub mod RepeatedOptions
 pub mod OptionWords
+pub mod AnyOrder
+pub mod AnyWalk
+pub mod AnyRows
+pub mod AnyCommand
+pub mod SameCommand

@@ -26,7 +26,7 @@ abbrev pub IsOnce : Text → Type 0
 IsOnce name = (before middle behind : List Text) (first second : Text) → IsUse name first → IsUse name second → HasNoDashes before → HasNoDashes middle
     → IsUsage (before ++ first ∷ (middle ++ second ∷ behind))
 
-strict : top.args_override_self ≡ false
+pub strict : top.args_override_self ≡ false
 unfolding options desq
 strict = refl
 

@@ -54,7 +54,7 @@ unfolding walked
 walked_plain c held waiting position word p =
     ap (λ (q : Held × Step). after_step c word (between held waiting position) q.0 q.1) (met_plain c waiting position word held p)
 
-turn_plain : (s : Shape) (held : Held) (waiting : Waiting) (position : ℕ) (word : Text) → IsPlainWord word
+pub turn_plain : (s : Shape) (held : Held) (waiting : Waiting) (position : ℕ) (word : Text) → IsPlainWord word
     → turn_fault s [] (between held waiting position) word
     ≡ step_fault s position (plain_word s.rules waiting word held).0 (plain_word s.rules waiting word held).1
 turn_plain s held waiting position word p =

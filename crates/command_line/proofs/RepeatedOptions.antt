@@ -36,7 +36,7 @@ or_rest : (a b : Bool) → a ≡ false → (a || b) ≡ true → b ≡ true
 or_rest true b off h = absurd (true≢false off)
 or_rest false b off h = h
 
-and_off : (a b : Bool) → b ≡ false → (a && b) ≡ false
+pub and_off : (a b : Bool) → b ≡ false → (a && b) ≡ false
 and_off true b off = off
 and_off false b off = refl
 
@@ -70,7 +70,7 @@ has_without id other (r ∷ rows) differ h = go (bytes_eq r.id other) refl (has_
     go true e later has = or_rest (bytes_eq r.id id) _ (ap (λ (t : Text). bytes_eq t id) ((bytes_eq-Decides r.id other).0 e) ∙ differ) has
     go false e later has = or_map (bytes_eq r.id id) _ _ later has
 
-single_use : (action : ArgAction) (id : Text) (how : Reading) (values : List Text) (rows : List Row) → is_single action ≡ true
+pub single_use : (action : ArgAction) (id : Text) (how : Reading) (values : List Text) (rows : List Row) → is_single action ≡ true
     → used_as action id how values rows ≡ with_values id how CommandLine values (without id rows)
 single_use Set id how values rows e = refl
 single_use SetTrue id how values rows e = refl
@@ -92,7 +92,7 @@ has_other a values rows id e has = go (bytes_eq a.id id) refl
         (has_with id a.id (reading_by a) CommandLine (values_or_missing a values) (without a.id rows) (has_without id a.id rows differ has))
 
 -- where the walk stands, in front of `--` or behind it
-abbrev stood : Held → Waiting → ℕ → Bool → Walk
+abbrev pub stood : Held → Waiting → ℕ → Bool → Walk
 stood held waiting position is_trailing = record { held = held; waiting = waiting; position = position; is_trailing = is_trailing; stopped = None }
 
 abbrev NoSubcommand : Step → Type 0
@@ -254,16 +254,16 @@ module _ (s : Shape) (single : AreSingle s.rules) (strict : s.args_override_self
   module _ (word name : Text) (v : Option Text) (spelled : long_of word ≡ Some (name, v)) (apart : bytes_eq word dashes ≡ false)
       (named : arg_by_long s.rules name ≡ Some rule) where
     -- the held words and the step after the option
-    abbrev met : Waiting → Held → Held × Step
+    abbrev pub met : Waiting → Held → Held × Step
     met waiting h = after_flag s.rules waiting word (long_met s.rules (Some rule) v h).0 (long_met s.rules (Some rule) v h).1
 
-    met_is : (waiting : Waiting) (position : ℕ) (h : Held) → word_met s.rules [] false waiting position word h ≡ met waiting h
+    pub met_is : (waiting : Waiting) (position : ℕ) (h : Held) → word_met s.rules [] false waiting position word h ≡ met waiting h
     met_is waiting position h =
         ap (λ (o : Option Text). subcommand_or_other s.rules o waiting position word h) (no_subcommand waiting word)
         ∙ rw apart (ap (λ (o : Option (Text × Option Text)). long_or_other s.rules waiting word o h) spelled
         ∙ ap (λ (o : Option Rule). after_flag s.rules waiting word (long_met s.rules o v h).0 (long_met s.rules o v h).1) named)
 
-    fault_is : (waiting : Waiting) (h : Held) → word_fault s [] false waiting word h ≡ long_fault s.rules s.args_override_self (Some rule) v h
+    pub fault_is : (waiting : Waiting) (h : Held) → word_fault s [] false waiting word h ≡ long_fault s.rules s.args_override_self (Some rule) v h
     fault_is waiting h =
         ap (λ (o : Option Text). other_fault s o word h) (no_subcommand waiting word)
         ∙ rw apart (ap (λ (o : Option (Text × Option Text)). flag_word_fault s.rules s.args_override_self o word h) spelled

@@ -1,6 +1,6 @@
 //! Laws over the definitions. Each is the contract of a function that does nothing.
 
-ghost use Rattle.std.specs.Prelude.{◌≡◌, ◌≤◌, ℕ, false, IfSome, None, List, [], ◌∷◌, ◌++◌, codes};
+ghost use Rattle.std.specs.Prelude.{◌≡◌, ◌≤◌, ◌↔◌, ℕ, false, IfSome, None, List, [], ◌∷◌, ◌++◌, codes};
 ghost use Rattle.std.specs.List.{AllByRecursion};
 ghost use Rattle.clap.specs.Words.{Text};
 ghost use Rattle.mine_model.specs.Limits.{most_support};
@@ -9,6 +9,7 @@ ghost use Rattle.gap_front.specs.Embedding.{IsRule};
 ghost use Rattle.made_input.specs.Made.{most_made};
 ghost use Rattle.command_line.specs.Words.{Command, IsCommand, IsNumber, IsUsage, embed, make};
 ghost use Rattle.command_line.specs.Options.{options};
+ghost use Rattle.command_line.specs.Items.{HaveSameValues, IsLine, Item, words_of};
 ghost use Rattle.command_line.specs.PlainWords.{
   HasNoDashes,
   IsHelp,
@@ -73,4 +74,16 @@ pub fn a_repeated_option_is_usage()
         (before between behind : List Text) (first second : Text) → IsUse name first → IsUse name second
         → HasNoDashes before → HasNoDashes between
         → IsUsage (before ++ first ∷ (between ++ second ∷ behind)))) options }
+{}
+
+/// Options may stand anywhere in front of `--`: two lines say the same command where each option has the
+/// same value in both, or stands in neither, and the words of no option are the same in the same order.
+/// `--NAME VALUE` and `--NAME=VALUE` are one, and a word of no option may stand in front of `--` or behind
+/// it. In a line each option stands once, a value that is a word of its own is plain, as is a word of no
+/// option in front of `--`, other values and words are any text, and there are no more than two words of no
+/// option.
+pub fn options_may_stand_anywhere()
+    ensures { (items others : List Item) (command : Command) → IsLine items → IsLine others
+        → HaveSameValues items others
+        → IsCommand (words_of items) command ↔ IsCommand (words_of others) command }
 {}
