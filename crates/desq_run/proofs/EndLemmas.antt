@@ -137,8 +137,8 @@ module _ (words : List (List ℕ)) (holds : List ℕ → Option (List ℕ)) (c :
         (IfSome-at (λ bytes. IsHierarchySaid c.source bytes known h) (bytes_named holds c.hierarchy) input.hierarchy read (hierarchy_at input is))
 
     -- nothing of the hierarchy is refused
-    pub accepts : AcceptsHierarchy holds c
-    accepts bytes fault told refused =
+    pub hierarchy-accepted : AcceptsHierarchy holds c
+    hierarchy-accepted bytes fault told refused =
         (IfSome-at (λ bytes. IsHierarchySaid c.source bytes known h) (bytes_named holds c.hierarchy) bytes read told).accepted fault refused
 
     known_same : (input : Input) → IsInput words holds input → HoldSame known (hierarchy_names input)
@@ -158,7 +158,7 @@ module _ (words : List (List ℕ)) (holds : List ℕ → Option (List ℕ)) (c :
                 subst (λ (d : Command). RefusesSequences d.source d.weighted known input.sequences fault) (same_command input is) here in
                 (sequences-alike input.command.source input.command.weighted known (hierarchy_names input) input.sequences (known_same input is) fault).0 there),
           ),
-        )) (λ bytes other told also. absurd (accepts bytes other told also)) of_files
+        )) (λ bytes other told also. absurd (hierarchy-accepted bytes other told also)) of_files
 
     module _ (names : List (List ℕ)) (db : List (Sequence Item)) (found : IfSome (bytes_named holds (file_of c.source)) (λ bytes. IsDatabaseSaid c.source c.weighted bytes known names db)) where
       pub found_at : (input : Input) → IsInput words holds input → IsDatabaseSaid input.command.source input.command.weighted input.sequences known names db
@@ -201,7 +201,7 @@ module _ (words : List (List ℕ)) (holds : List ℕ → Option (List ℕ)) (c :
                 inr (no_sequences input is, (unknown_at input is fault).1 unknown),
               ),
             ))
-            (λ bytes other told also. absurd (accepts bytes other told also))
+            (λ bytes other told also. absurd (hierarchy-accepted bytes other told also))
             (let (u, inside, same) = unknown-use names [] uses fault unknown in inr (u, is_read.used u inside, same))
 
         -- where no name is unknown nothing is refused

@@ -25,7 +25,7 @@ use Rattle.desq_run.specs.Said.{RefusesHierarchy, RefusesSequences}
 use Rattle.desq_run.specs.Ends.{bytes_named, HasSource, NamesKind, IsOfKind, Ends}
 use Rattle.desq_run.specs.Ends as ends
 use Rattle.desq_run.specs.Inputs.{FailsBy, refused, failed, no_memory, IsHierarchyOf, IsHierarchySaid, IsDatabaseOf, IsDatabaseSaid}
-use Rattle.desq_run.proofs.EndLemmas.{hierarchy-refused, sequences-refused, accepts}
+use Rattle.desq_run.proofs.EndLemmas.{hierarchy-refused, sequences-refused, hierarchy-accepted}
 
 -- a refusal of the text and names of a hierarchy file is its first refusal
 whole : (told : Option (List ℕ)) (fault : Fault) → IfSome told (λ bytes. IsReadRefusal [] bytes fault) → IfSome told (λ bytes. IsHierarchyRefusal bytes fault)
@@ -127,7 +127,7 @@ module _ (words : List (List ℕ)) (holds : List ℕ → Option (List ℕ)) (c :
       → (fault : Fault) → FailsBy (bytes_named holds (file_of c.source)) (RefusesSequences c.source c.weighted known) Sequences (Unit {0}) Faulty fault → Ends words holds (Err fault)
   sequences-ends known h found file here _ (refused fault named is of_kind) =
       sequences-refused words holds c has known h found fault is (inl (Sequences, (file, here), of_kind))
-  sequences-ends known h found file here _ (failed named faulty) = ends.read_fault c Sequences has (file, here) (λ same. accepts words holds c has known h found)
+  sequences-ends known h found file here _ (failed named faulty) = ends.read_fault c Sequences has (file, here) (λ same. hierarchy-accepted words holds c has known h found)
   sequences-ends known h found file here _ no_memory = ends.no_memory
 
 module _ (told : Option (List ℕ)) (Faulty : Type 0) where

@@ -22,7 +22,7 @@ use Rattle.desq_run.specs.Sources.{SaysTree}
 use Rattle.desq_run.specs.Ends.{bytes_named, data_of, HasSource, AreRowsTo, IsWorkOf}
 use Rattle.desq_run.specs.Inputs.{IsHierarchySaid, IsDatabaseSaid, AreLinksWithin, AreInputs, HasRanges, IsRead, AreFound, AreRows, AreOrdered, IsMined}
 use Rattle.desq_run.proofs.HierarchyLemmas.{all-of}
-use Rattle.desq_run.proofs.EndLemmas.{same_command, read_at, found_at, nothing-refused, accepts}
+use Rattle.desq_run.proofs.EndLemmas.{same_command, read_at, found_at, nothing-refused, hierarchy-accepted}
 use Rattle.desq_run.proofs.SourceLemmas.{rows-to}
 use Rattle.desq_run.proofs.InputLemmas.{found-answer, work-answer}
 
@@ -76,7 +76,7 @@ module _ (words : List (List ℕ)) (holds : List ℕ → Option (List ℕ)) (c :
   unfolding Mines
   mined-at added within read is_read ranges some distinct found numbered known_all are = record {
     source = has;
-    hierarchy = accepts words holds c has known before read;
+    hierarchy = hierarchy-accepted words holds c has known before read;
     accepted = nothing-refused words holds c has known before read (known ++ added) db found uses tree is_read known_all;
     answer = λ input is.
         let same : c ≡ input.command = same_command words holds c has input is in

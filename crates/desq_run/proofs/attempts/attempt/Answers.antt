@@ -81,7 +81,10 @@ mine_input-requires-clause-ranges g c = λ _ _.
 pub returns-in_err-write_answer-clause-unchanged : goal.returns-in_err-write_answer-clause-unchanged
 returns-in_err-write_answer-clause-unchanged g c =
     let same : c.from_residual-in_err-write_answer.result ≡ Err c.in_err-write_answer.field-0.0 = search rules in
-    rw same c.in_err-write_answer.ensures.unchanged
+    rw same
+    (λ not_write. c.in_err-write_answer.ensures.unchanged (λ e.
+    let written : c.in_err-write_answer.field-0.0 ≡ Write = cc in
+    not_write (ap Err written)))
 
 -- the files are those that mining left
 pub returns-in_err-mined-clause-untouched : goal.returns-in_err-mined-clause-untouched
