@@ -7,7 +7,7 @@ import subprocess
 import sys
 
 sys.dont_write_bytecode = True
-from rows import PROGRAM, Rows, SECONDS, WORK, run, write
+from rows import PROGRAM, Rows, SECONDS, WORK, run, searches, write
 
 USAGE = b"desq: usage: desq --support N [options] EXPR [FILE]\n"
 READ_FAULT = b"desq: sequences: read fault\n"
@@ -103,7 +103,7 @@ def leaves(words, hierarchy, sequences, wanted):
               (status, out.encode(), f"desq: {err}\n".encode() if err else b""))
 
 
-SEARCHES = [["--engine", engine, "--workers", workers] for engine in ("count", "dfs", "pivot") for workers in ("1", "4", "64")]
+SEARCHES = [search for search, _ in searches()]
 for search in SEARCHES:
     for support, expression, hierarchy, sequences, answer in ANSWERS:
         leaves([*search, "--support", support, "--hierarchy", "h", expression, "f"], hierarchy, sequences, (0, answer, ""))
@@ -200,7 +200,9 @@ OPTIONS = ("--workers 0", "--workers 65", "--workers 18446744073709551617", "--w
            "--engine count --simulate 0", "--simulate 18446744073709551616", "--simulate -1", "--simulate=", "--simulate x",
            "--simulate 7 --simulate 7", "--simulate", "--other", "--hierarchy", "--hierarchy h --hierarchy h",
            "--weighted --weighted", "--weighted=true", "--max-gap 1", "--min-length 1", "--max-length 5", "--generalize",
-           "g")
+           "g", "--proof --proof", "--proof=true", "--check", "--check p --check p", "--proof --check p",
+           "--check p --stats", "--check p --simulate 7", "--engine pivot --split 1/2 --proof",
+           "--engine pivot --split 1/2 --check p")
 RULES = ("", "--max-gap 1001", "--max-gap -1", "--max-gap=", "--max-gap", "--max-gap 1 --max-gap 1", "--generalize",
          "--max-gap 1 --min-length 0", "--max-gap 1 --min-length 1001 --max-length 1001", "--max-gap 1 --min-length 6",
          "--max-gap 1 --min-length 3 --max-length 2", "--max-gap 1 --min-length", "--max-gap 1 --max-length 0",
@@ -208,21 +210,28 @@ RULES = ("", "--max-gap 1001", "--max-gap -1", "--max-gap=", "--max-gap", "--max
          "--max-gap 1 --max-length 5 --max-length 5", "--max-gap 1 --generalize --generalize",
          "--max-gap 1 --generalize=true")
 OTHERS = ("--support 2", "--support 2 -- (a) f --stats", "-- (a) f --support 2", "(a) f", "--support 2 (a)", "(a) f --support",
-          "--support 2 -a f", "--engine --support 1 (a) f", "--support 2 --max-gap 1")
+          "--support 2 -a f", "--engine --support 1 (a) f", "--support 2 --max-gap 1",
+          *(f"--support 2 {task} {input}" for task in ("--proof", "--check p")
+            for input in ("--max-gap 1 f", "--generated 1 (a)", "--merge f")))
 for words in (*(f"{number} (a) f" for number in NUMBERS), *(f"--support 2 (a) f {option}" for option in OPTIONS),
               *(f"--support 2 f {rule}".rstrip() for rule in RULES), *OTHERS):
     rows.ends(f"no command: {words}", run(*words.split(" "), cwd=WORK), (2, b"", USAGE))
 
-# Each option stands anywhere, and none twice. Three commands have all options, and a flag is one without a value.
+# Each option stands anywhere, and none twice. These commands have all options, and a flag is one without a value.
 write("h", "a A\n")
 write("f", "2 a b\n3 a b\n")
+PROOF = "5\tA b\n\t1 1 2\n\t2 1 2\n"
+write("p", PROOF)
 COMMANDS = (
     ({"support": "5", "hierarchy": "h", "weighted": "", "engine": "dfs", "workers": "3", "simulate": "7", "stats": ""},
      ["(A^=)(b)", "f"], (0, b"5\tA b\n", b"desq: nodes 3 parts 1 candidates 0\n")),
     ({"max-gap": "0", "support": "5", "min-length": "2", "generalize": "", "max-length": "2", "weighted": "", "hierarchy": "h"},
      ["f"], (0, b"5\tA b\n5\ta b\n", b"")),
     ({"support": "7", "stats": "", "generated": "7", "engine": "pivot", "workers": "2", "simulate": "7"}, [".*(top^=).*"],
-     (0, b"generated 7 patterns 1 support 7 longest 1\n", b"desq: nodes 2 parts 1 candidates 0\n")))
+     (0, b"generated 7 patterns 1 support 7 longest 1\n", b"desq: nodes 2 parts 1 candidates 0\n")),
+    ({"support": "5", "hierarchy": "h", "weighted": "", "proof": ""}, ["(A^=)(b)", "f"], (0, PROOF.encode(), b"")),
+    ({"support": "5", "hierarchy": "h", "weighted": "", "engine": "count", "workers": "2", "check": "p"}, ["(A^=)(b)", "f"],
+     (0, b"checked 1 rows\n", b"")))
 HELP = ("--help", "-h", "--version", "-V", "--help=x", "--stats=x", "--no-stats")
 
 

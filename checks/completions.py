@@ -115,6 +115,12 @@ def main():
                   ("desq --max-gap 1 alpha.seq be", set())]
     if "--generated" in valued:
         table += [("desq --generated 1 ", set()), ("desq --generated 1 x be", set())]
+    if "--merge" in flags:
+        table += [("desq --support 2 --merge ", files), ("desq --merge --support=2 alpha.seq be", {"beta.hier"}),
+                  ("desq alpha.seq with --merge be", {"beta.hier"})]
+    if "--check" in valued:
+        table += [("desq --check al", {"alpha.seq"}), ("desq --check=be", {"beta.hier"}),
+                  ("desq --check=alpha.seq --support 2 x be", {"beta.hier"}), ("desq --proof x be", {"beta.hier"})]
     # An option is offered by its beginning, and no second time.
     for option in options:
         table.append((f"desq {option}", {other for other in options if other.startswith(option)}))

@@ -21,7 +21,7 @@ import sys
 import time
 
 sys.dont_write_bytecode = True
-from rows import PROGRAM, Rows, SECONDS, WORK, run, running_example, shown, write
+from rows import ENGINES, PROGRAM, Rows, SECONDS, WORK, run, running_example, searches, shown, write
 
 FAULTY = r"""
 #define _GNU_SOURCE
@@ -133,13 +133,6 @@ subprocess.run(["cc", "-O1", "-shared", "-fPIC", "-o", library, write("faulty.c"
 rows = Rows()
 
 
-def searches():
-    """Each engine with each number of workers: the words, and how the row's name ends."""
-    for engine in WORKS:
-        for workers in ("1", "4", "64"):
-            yield ["--engine", engine, "--workers", workers], f"by {engine} with {workers} workers"
-
-
 def example(*more, hierarchy=kinds, sequences=running):
     """The words of the running example."""
     return ["--support", "2", "--hierarchy", hierarchy, *more, EXPRESSION, sequences]
@@ -225,26 +218,33 @@ def odd_files():
     listener.bind("socket")
     os.chdir(here)
     absent.append(("a socket", f"{WORK}/socket"))
-    for name, path in absent:
-        rows.ends(f"{name} as hierarchy", run(*example(hierarchy=path)), READ_FAULT["hierarchy"])
-        rows.ends(f"{name} as sequences", run(*example(sequences=path)), READ_FAULT["sequences"])
-    listener.close()
-    rows.ends("a terminal where there is none", run(*example(sequences="/dev/tty"), start_new_session=True),
-              READ_FAULT["sequences"])
-    for device in ("/dev/zero", "/dev/full", "/dev/urandom"):
-        rows.ends(f"{device} as hierarchy", run(*example(hierarchy=device)), TOO_LARGE["hierarchy"])
-        rows.ends(f"{device} as sequences", run(*example(sequences=device)), TOO_LARGE["sequences"])
-    sparse = write("sparse", b"")
-    os.truncate(sparse, MOST_FILE_BYTES)
-    rows.ends("the most bytes, which are no text", run(*example(sequences=sparse)),
-              (3, b"", b"desq: sequences: line 1 column 1: bad byte\n"))
-    os.truncate(sparse, MOST_FILE_BYTES + 1)
-    rows.ends("a byte more", run(*example(sequences=sparse)), TOO_LARGE["sequences"])
-    os.unlink(sparse)
+    most = write("most", b"")
+    os.truncate(most, MOST_FILE_BYTES)
+    above_most = write("above_most", b"")
+    os.truncate(above_most, MOST_FILE_BYTES + 1)
     column = len(os.fsencode(PROGRAM)) + 1
-    rows.ends("the program's own words, of which a byte 0 ends each, as sequences",
-              run(*example(sequences="/proc/self/cmdline")),
-              (3, b"", f"desq: sequences: line 1 column {column}: bad byte\n".encode()))
+    for search, by in searches():
+        for name, path in absent:
+            rows.ends(f"{name} as hierarchy, {by}", run(*example(*search, hierarchy=path)),
+                      READ_FAULT["hierarchy"])
+            rows.ends(f"{name} as sequences, {by}", run(*example(*search, sequences=path)),
+                      READ_FAULT["sequences"])
+        rows.ends(f"a terminal where there is none, {by}",
+                  run(*example(*search, sequences="/dev/tty"), start_new_session=True), READ_FAULT["sequences"])
+        for device in ("/dev/zero", "/dev/full", "/dev/urandom"):
+            rows.ends(f"{device} as hierarchy, {by}", run(*example(*search, hierarchy=device)),
+                      TOO_LARGE["hierarchy"])
+            rows.ends(f"{device} as sequences, {by}", run(*example(*search, sequences=device)),
+                      TOO_LARGE["sequences"])
+        rows.ends(f"the most bytes, which are no text, {by}", run(*example(*search, sequences=most)),
+                  (3, b"", b"desq: sequences: line 1 column 1: bad byte\n"))
+        rows.ends(f"a byte more, {by}", run(*example(*search, sequences=above_most)), TOO_LARGE["sequences"])
+        rows.ends(f"the program's own words, of which a byte 0 ends each, as sequences, {by}",
+                  run(*example(*search, sequences="/proc/self/cmdline")),
+                  (3, b"", f"desq: sequences: line 1 column {column}: bad byte\n".encode()))
+    listener.close()
+    os.unlink(most)
+    os.unlink(above_most)
     of_kernel = "/proc/sys/kernel/ostype"
     with open(of_kernel, "rb") as file:
         system = file.read().strip()
@@ -325,21 +325,22 @@ def streams():
         rows.ends(f"no stream at all, {by}", without([0, 1, 2], *words, "--stats"), (6, b"", b""))
         rows.ends(f"error output that is full, {by}",
                   untold(os.open("/dev/full", os.O_WRONLY), *words, "--stats"), DONE)
-    for status, name, words in (
-            (2, "no words", []),
-            (3, "an expression that is malformed", ["--support", "1", "(a", running]),
-            (4, "too many item expressions", ["--support", "1", "[a{32}]{33}", running]),
-            (5, "a hierarchy that cannot be read", example(hierarchy=WORK)),
-            (5, "sequences that cannot be read", example(sequences=f"{WORK}/absent"))):
-        rows.ends(f"{name}, and no error output", without([2], *words), (status, b"", b""))
-        rows.ends(f"{name}, and error output whose reader is gone", untold(lost_pipe(), *words),
-                  (status, b"", b""))
-    rows.ends("neither output nor error output", without([1, 2], *example()), (6, b"", b""))
-    with open(kinds, "rb") as file:
-        rows.ends("a hierarchy on standard input", run(*example(hierarchy="-"), stdin=file), DONE)
-    with open(kinds, "rb") as file:
-        rows.ends("both on standard input: the hierarchy takes all",
-                  run("--support", "1", "--hierarchy", "-", "(A)", "-", stdin=file), (0, b"", b""))
+        for status, name, words in (
+                (2, "no support", [*search, "(a)", running]),
+                (3, "an expression that is malformed", ["--support", "1", *search, "(a", running]),
+                (4, "too many item expressions", ["--support", "1", *search, "[a{32}]{33}", running]),
+                (5, "a hierarchy that cannot be read", example(*search, hierarchy=WORK)),
+                (5, "sequences that cannot be read", example(*search, sequences=f"{WORK}/absent"))):
+            rows.ends(f"{name}, and no error output, {by}", without([2], *words), (status, b"", b""))
+            rows.ends(f"{name}, and error output whose reader is gone, {by}", untold(lost_pipe(), *words),
+                      (status, b"", b""))
+        rows.ends(f"neither output nor error output, {by}", without([1, 2], *example(*search)), (6, b"", b""))
+        with open(kinds, "rb") as file:
+            rows.ends(f"a hierarchy on standard input, {by}", run(*example(*search, hierarchy="-"), stdin=file),
+                      DONE)
+        with open(kinds, "rb") as file:
+            rows.ends(f"both on standard input: the hierarchy takes all, {by}",
+                      run("--support", "1", *search, "--hierarchy", "-", "(A)", "-", stdin=file), (0, b"", b""))
 
 
 def is_cut(text):
@@ -367,93 +368,113 @@ def lost_readers():
 
 def failing_calls():
     """Opens, reads, writes, closes and starts of threads that fail or are interrupted, one by one."""
-    # Cut by four bytes, the hierarchy takes an open and four reads, the sequences an open and fourteen.
-    for search, by in searches():
-        words = example(*search)
-        for call in range(1, 21):
-            faults(f"call {call} of those that open and read fails, {by}", words,
-                   READ_FAULT["hierarchy" if call <= 5 else "sequences"], 1, named="or", first=call, CUT=4)
-        # The system is then asked in a file of its own how many processors there are.
-        rows.ends(f"each later call of those that open and read fails, {by}",
-                  faulty(words, named="or", first=21, last=ENDLESS, CUT=4)[0], DONE)
-        for call in (*range(1, 27), 27):
-            wanted = (6, ANSWER[:call - 1], WRITE_FAULT) if call <= 26 else DONE
-            faults(f"write {call} of single bytes fails, {by}", words, wanted, call <= 26,
-                   named="1", first=call, CUT=1)
-        told = WORKS[search[1]]
-        for call in range(1, len(told) + 1 if search[3] == "4" else 2):
-            faults(f"write {call} of the line of --stats fails, {by}", [*words, "--stats"],
-                   (0, ANSWER, told[:call - 1]), 1, named="2", first=call, CUT=1)
     usage = b"desq: usage: desq --support N [options] EXPR [FILE]\n"
     for call in range(1, len(usage) + 1):
         faults(f"write {call} of a message fails", [], (2, b"", usage[:call - 1]), 1,
                named="2", first=call, CUT=1)
-    words = example()
+    for search, by in searches():
+        failing_reads(search, by)
+        failing_writes(search, by)
+        interrupted_calls(search, by)
+        failing_threads(search, by)
+
+
+def failing_reads(search, by):
+    """Cut by four bytes, the hierarchy takes an open and four reads, the sequences an open and fourteen."""
+    words = example(*search)
+    for call in range(1, 21):
+        faults(f"call {call} of those that open and read fails, {by}", words,
+               READ_FAULT["hierarchy" if call <= 5 else "sequences"], 1, named="or", first=call, CUT=4)
+    # The system is then asked in a file of its own how many processors there are.
+    rows.ends(f"each later call of those that open and read fails, {by}",
+              faulty(words, named="or", first=21, last=ENDLESS, CUT=4)[0], DONE)
     for fault in (errno.EAGAIN, errno.EBADF, errno.EISDIR, errno.EMFILE, errno.ENOENT, errno.EPERM):
         name = errno.errorcode[fault]
         for call, which in ((1, "hierarchy"), (3, "hierarchy"), (6, "sequences"), (20, "sequences")):
-            faults(f"call {call} of those that open and read answers {name}", words, READ_FAULT[which], 1,
+            faults(f"call {call} of those that open and read answers {name}, {by}", words, READ_FAULT[which], 1,
                    named="or", first=call, fault=fault, CUT=4)
-    for fault in (0, errno.EAGAIN, errno.EBADF, errno.EDQUOT, errno.EFBIG, errno.ENOSPC, errno.EPIPE):
-        name = errno.errorcode.get(fault, "that it took nothing")
-        for call in (1, 2, 26):
-            faults(f"write {call} of single bytes answers {name}", words,
-                   (6, ANSWER[:call - 1], WRITE_FAULT), 1, named="1", first=call, fault=fault, CUT=1)
     # Each of these files is read by two reads of 4,096 bytes at most, and by one that finds its end.
     malformed = write("malformed", b"\x01\n" * 3_000)
     for call in (2, 3, 4):
-        faults(f"read {call - 1} of a malformed hierarchy fails", example(hierarchy=malformed),
+        faults(f"read {call - 1} of a malformed hierarchy fails, {by}", example(*search, hierarchy=malformed),
                READ_FAULT["hierarchy"], 1, named="or", first=call)
-        faults(f"read {call - 1} of malformed sequences fails", ["--support", "1", "(a)", malformed],
-               READ_FAULT["sequences"], 1, named="or", first=call)
+        faults(f"read {call - 1} of malformed sequences fails, {by}",
+               ["--support", "1", *search, "(a)", malformed], READ_FAULT["sequences"], 1, named="or", first=call)
+
+
+def failing_writes(search, by):
+    """The answer and the line of `--stats` are written by calls that take a byte."""
+    words = example(*search)
+    for call in (*range(1, 27), 27):
+        wanted = (6, ANSWER[:call - 1], WRITE_FAULT) if call <= 26 else DONE
+        faults(f"write {call} of single bytes fails, {by}", words, wanted, call <= 26,
+               named="1", first=call, CUT=1)
+    told = WORKS[search[1]]
+    for call in range(1, len(told) + 1 if search[3] == "4" else 2):
+        faults(f"write {call} of the line of --stats fails, {by}", [*words, "--stats"],
+               (0, ANSWER, told[:call - 1]), 1, named="2", first=call, CUT=1)
+    for fault in (0, errno.EAGAIN, errno.EBADF, errno.EDQUOT, errno.EFBIG, errno.ENOSPC, errno.EPIPE):
+        name = errno.errorcode.get(fault, "that it took nothing")
+        for call in (1, 2, 26):
+            faults(f"write {call} of single bytes answers {name}, {by}", words,
+                   (6, ANSWER[:call - 1], WRITE_FAULT), 1, named="1", first=call, fault=fault, CUT=1)
+
+
+def interrupted_calls(search, by):
+    """An interrupted call is made again, and is a fault where it always is."""
+    words = example(*search)
     for call in (1, 2):
-        faults(f"open {call} is interrupted 1,000 times", words, DONE, 1_000,
+        faults(f"open {call} is interrupted 1,000 times, {by}", words, DONE, 1_000,
                named="o", first=call, last=call + 999, fault=errno.EINTR)
     for call in range(1, 19):
         for times in (1, TRIES - 1):
-            faults(f"read {call} is interrupted {times} times", words, DONE, times,
+            faults(f"read {call} is interrupted {times} times, {by}", words, DONE, times,
                    named="r", first=call, last=call + times - 1, fault=errno.EINTR, CUT=4)
-        faults(f"read {call} is always interrupted", words,
+        faults(f"read {call} is always interrupted, {by}", words,
                READ_FAULT["hierarchy" if call <= 4 else "sequences"], TRIES,
                named="r", first=call, last=ENDLESS, fault=errno.EINTR, CUT=4)
     for call in range(1, 27):
         for times in (1, TRIES - 1):
-            faults(f"write {call} of single bytes is interrupted {times} times", words, DONE, times,
+            faults(f"write {call} of single bytes is interrupted {times} times, {by}", words, DONE, times,
                    named="1", first=call, last=call + times - 1, fault=errno.EINTR, CUT=1)
-        faults(f"write {call} of single bytes is always interrupted", words,
+        faults(f"write {call} of single bytes is always interrupted, {by}", words,
                (6, ANSWER[:call - 1], WRITE_FAULT), TRIES,
                named="1", first=call, last=ENDLESS, fault=errno.EINTR, CUT=1)
-    for search, by in searches():
-        done = (0, ANSWER, WORKS[search[1]])
-        words = example(*search, "--stats")
-        rows.ends(f"reads and writes of single bytes, {by}", faulty(words, CUT=1)[0], done)
-        ran, met = faulty(words, named="c", last=ENDLESS)
-        rows.hold(f"files that cannot be closed, {by}", ran == done and met >= 2,
-                  f"{met} faults and {shown(ran)}")
-        rows.ends(f"processors that are not told, {by}",
-                  faulty(words, named="a", last=ENDLESS, fault=errno.EPERM)[0], done)
-        # There is a thread for each worker but the first, and others that may count frequencies.
-        for first in (1, 2, 3, 33, 63):
-            for last, later in ((first, ""), (ENDLESS, " and all later ones")):
-                ran, met = faulty(words, named="t", first=first, last=last)
-                rows.hold(f"thread {first}{later} cannot be started, {by}",
-                          ran == done and (met > 0 or first >= int(search[3])),
-                          f"{met} faults and {shown(ran)}")
+
+
+def failing_threads(search, by):
+    """Threads that cannot be started, processors that are not told, and files that cannot be closed."""
+    done = (0, ANSWER, WORKS[search[1]])
+    words = example(*search, "--stats")
+    rows.ends(f"reads and writes of single bytes, {by}", faulty(words, CUT=1)[0], done)
+    ran, met = faulty(words, named="c", last=ENDLESS)
+    rows.hold(f"files that cannot be closed, {by}", ran == done and met >= 2,
+              f"{met} faults and {shown(ran)}")
+    rows.ends(f"processors that are not told, {by}",
+              faulty(words, named="a", last=ENDLESS, fault=errno.EPERM)[0], done)
+    # There is a thread for each worker but the first, and others that may count frequencies.
+    for first in (1, 2, 3, 33, 63):
+        for last, later in ((first, ""), (ENDLESS, " and all later ones")):
+            ran, met = faulty(words, named="t", first=first, last=last)
+            rows.hold(f"thread {first}{later} cannot be started, {by}",
+                      ran == done and (met > 0 or first >= int(search[3])),
+                      f"{met} faults and {shown(ran)}")
 
 
 def read_to_the_end():
     """A file is opened once and read to its end, and not behind it, however its bytes are cut."""
-    words = example()
-    for cut in range(1, len(first_bytes[running]) + 2):
-        # Of the reads of a file the last finds its end.
-        above, below = (-(-len(first_bytes[path]) // cut) + 1 for path in (kinds, running))
-        for name, call, which in (("the read that finds the end of the hierarchy", 1 + above, "hierarchy"),
-                                  ("the open of the sequences behind it", 2 + above, "sequences"),
-                                  ("the read that finds their end", 2 + above + below, "sequences")):
-            faults(f"{name} fails, by {cut} bytes at a time", words, READ_FAULT[which], 1,
-                   named="or", first=call, CUT=cut)
-        rows.ends(f"each call of those that open and read behind that fails, by {cut} bytes at a time",
-                  faulty(words, named="or", first=3 + above + below, last=ENDLESS, CUT=cut)[0], DONE)
+    for search, by in searches():
+        words = example(*search)
+        for cut in range(1, len(first_bytes[running]) + 2):
+            # Of the reads of a file the last finds its end.
+            above, below = (-(-len(first_bytes[path]) // cut) + 1 for path in (kinds, running))
+            for name, call, which in (("the read that finds the end of the hierarchy", 1 + above, "hierarchy"),
+                                      ("the open of the sequences behind it", 2 + above, "sequences"),
+                                      ("the read that finds their end", 2 + above + below, "sequences")):
+                faults(f"{name} fails, by {cut} bytes at a time, {by}", words, READ_FAULT[which], 1,
+                       named="or", first=call, CUT=cut)
+            rows.ends(f"each call of those that open and read behind that fails, by {cut} bytes at a time, {by}",
+                      faulty(words, named="or", first=3 + above + below, last=ENDLESS, CUT=cut)[0], DONE)
 
 
 def typed(text, words, rest):
@@ -494,7 +515,7 @@ def terminals():
 def made_input():
     """Made input opens and reads nothing, and its summary is cut where a write fails."""
     summary = b"generated 7 patterns 1 support 7 longest 1\n"
-    for search, by in searches():
+    for search, by in searches(ENGINES):
         words = ["--support", "7", *search, "--generated", "7", ".*(top^=).*"]
         rows.ends(f"made input where nothing can be opened or read, {by}",
                   faulty(words, named="or", last=ENDLESS)[0], (0, summary, b""))
@@ -503,6 +524,73 @@ def made_input():
         for call in range(1, len(summary) + 1 if search[3] == "4" else 2):
             faults(f"write {call} of the summary of made input fails, {by}", words,
                    (6, summary[:call - 1], WRITE_FAULT), 1, named="1", first=call, CUT=1)
+
+
+def merges():
+    """Merges of files that are odd, that fail, or whose rows come by bytes; their output is one like any other."""
+    first, second = b"3\tb\n1\tb c\n", b"1\ta\n1\ta b\n"
+    paths = [write("first_rows", first), write("second_rows", second)]
+    words = ["--support", "1", "--merge", *paths]
+    answer = b"3\tb\n1\ta\n1\ta b\n1\tb c\n"
+    done = (0, answer, b"")
+
+    def refused(number, status, text):
+        return status, b"", f"desq: file {number}: {text}\n".encode()
+
+    def in_place(number, path):
+        """The words in which this path stands in the place of a file."""
+        return ["--support", "1", "--merge", *paths[:number - 1], path, *paths[number:]]
+
+    for name, path in (("a folder", WORK), ("a file that is missing", f"{WORK}/absent"), ("a name of no bytes", ""),
+                       ("a path through a file", f"{running}/f"), ("a name of 5,000 bytes", "n" * 5_000)):
+        for number in (1, 2):
+            rows.ends(f"{name} as file {number} of a merge", run(*in_place(number, path)), refused(number, 5, "read fault"))
+    for device in ("/dev/zero", "/dev/urandom"):
+        rows.ends(f"{device} as a file of a merge", run(*in_place(2, device)),
+                  refused(2, 4, f"more than {MOST_FILE_BYTES} bytes"))
+    rows.ends("a file of the kernel whose size is 0 as a file of a merge", run(*in_place(2, "/proc/sys/kernel/ostype")),
+              refused(2, 3, "line 1: bad row"))
+    rows.ends("/dev/null as a file of a merge", run(*words, "/dev/null"), done)
+    above, below = named_pipe("merged_first"), named_pipe("merged_second")
+    rows.ends("named pipes that give rows a byte at a time",
+              fed(["--support", "1", "--merge", above, below],
+                  [(above, [bytes([byte]) for byte in first]), (below, [bytes([byte]) for byte in second])]), done)
+    grown = write("grown_rows", b"1\ta\n")
+    ran = faulty(["--support", "1", "--merge", grown], GROWS=grown)[0]
+    rows.ends("a file of a merge that gains a line that is no row", ran, refused(1, 3, "line 2: bad row"))
+    rows.ends("no input, which is merged", without([0], *words, "-"), refused(3, 5, "read fault"))
+    rows.ends("two files of a merge typed at a terminal",
+              typed(first + b"\x04" + second + b"\x04", ["--support", "1", "--merge", "-", "-"], b"1\tz\n"),
+              (done, b"1\tz\n"))
+    # Cut by four bytes, each file takes an open and four reads.
+    for call in range(1, 11):
+        number = 1 if call <= 5 else 2
+        faults(f"call {call} of those that open and read fails in a merge", words, refused(number, 5, "read fault"), 1,
+               named="or", first=call, CUT=4)
+    rows.ends("each later call of those that open and read fails in a merge",
+              faulty(words, named="or", first=11, last=ENDLESS, CUT=4)[0], done)
+    for call in range(1, 9):
+        faults(f"read {call} of a merge is interrupted {TRIES - 1} times", words, done, TRIES - 1,
+               named="r", first=call, last=call + TRIES - 2, fault=errno.EINTR, CUT=4)
+        faults(f"read {call} of a merge is always interrupted", words, refused(1 if call <= 4 else 2, 5, "read fault"),
+               TRIES, named="r", first=call, last=ENDLESS, fault=errno.EINTR, CUT=4)
+    for call in range(1, len(answer) + 1):
+        faults(f"write {call} of a merge fails", words, (6, answer[:call - 1], WRITE_FAULT), 1,
+               named="1", first=call, CUT=1)
+    rows.ends("a merge onto a full device", onto(os.open("/dev/full", os.O_WRONLY), *words), (6, b"", WRITE_FAULT))
+    rows.ends("a merge into a pipe whose reader is gone", onto(lost_pipe(), *words), (6, b"", WRITE_FAULT))
+    rows.ends("a merge, and no output", without([1], *words), (6, b"", WRITE_FAULT))
+    rows.ends("a merge of no rows, and no output", without([1], "--support", "9", "--merge", "/dev/null"), (0, b"", b""))
+    rows.ends("a merge, and no stream at all", without([0, 1, 2], *words), (6, b"", b""))
+    rows.ends("a merge that is refused, and no error output", without([2], *words, paths[0]), (3, b"", b""))
+    many = [write(f"rows{number:02d}", b"1\tn%02d\n" % number) for number in range(64)]
+    rows.ends("64 files and four descriptors",
+              within(resource.RLIMIT_NOFILE, 4, "--support", "1", "--merge", *many),
+              (0, b"".join(b"1\tn%02d\n" % number for number in range(64)), b""))
+    rows.ends("a merge in a stack of 64 KiB", within(resource.RLIMIT_STACK, 64 << 10, *words), done)
+    for path, text in zip(paths, (first, second)):
+        with open(path, "rb") as file:
+            rows.hold(f"the merged file {os.path.basename(path)} is as it was", file.read() == text)
 
 
 def within(kind, most, *words, **options):
@@ -542,11 +630,12 @@ def limits():
                 rows.ends(f"files of ten bytes at most, and {name}, {by}", (ran[0], file.read(), ran[2]),
                           wanted)
     above = named_pipe("kinds_pipe")
-    ran = started(example(hierarchy=above))
-    with feed(ran, above) as pipe, contextlib.suppress(ProcessLookupError):
-        resource.prlimit(ran.pid, resource.RLIMIT_NOFILE, (3, 3))
-        pipe.write(first_bytes[kinds])
-    rows.ends("no descriptor is left for the sequences", ended(ran), READ_FAULT["sequences"])
+    for search, by in searches():
+        ran = started(example(*search, hierarchy=above))
+        with feed(ran, above) as pipe, contextlib.suppress(ProcessLookupError):
+            resource.prlimit(ran.pid, resource.RLIMIT_NOFILE, (3, 3))
+            pipe.write(first_bytes[kinds])
+        rows.ends(f"no descriptor is left for the sequences, {by}", ended(ran), READ_FAULT["sequences"])
     # The deepest expressions: dots in a repetition that is there no time, items, choices, signs of repetition,
     # and dots that are too many, but are counted and dropped. Each runs in half of the default stack. In a
     # small one it may end by a signal.
@@ -556,15 +645,16 @@ def limits():
             "128 signs of repetition": ("a" + "?" * 128, (0, b"", b"")),
             "4,096 dots": ("." * 4_096, (4, b"", b"desq: expression: 4096 leaves, over 1024\n"))}
     one = write("one", b"a\n")
-    for name, (expression, wanted) in deep.items():
-        words = ["--support", "1", expression, one]
-        for mebibytes in (4, 8):
-            rows.ends(f"{name} in a stack of {mebibytes} MiB",
-                      within(resource.RLIMIT_STACK, mebibytes << 20, *words), wanted)
-        for kibibytes in (64, 256):
-            ran = within(resource.RLIMIT_STACK, kibibytes << 10, *words)
-            rows.hold(f"{name} in a stack of {kibibytes} KiB: done, or ended by the signal with nothing written",
-                      ran in (wanted, (-signal.SIGSEGV, b"", b"")), shown(ran))
+    for search, by in searches():
+        for name, (expression, wanted) in deep.items():
+            words = ["--support", "1", *search, expression, one]
+            for mebibytes in (4, 8):
+                rows.ends(f"{name} in a stack of {mebibytes} MiB, {by}",
+                          within(resource.RLIMIT_STACK, mebibytes << 20, *words), wanted)
+            for kibibytes in (64, 256):
+                ran = within(resource.RLIMIT_STACK, kibibytes << 10, *words)
+                rows.hold(f"{name} in a stack of {kibibytes} KiB: done, or ended by the signal with nothing"
+                          f" written, {by}", ran in (wanted, (-signal.SIGSEGV, b"", b"")), shown(ran))
     address_space()
 
 
@@ -587,6 +677,8 @@ def address_space():
                  (0, b"".join(b"1\tx%04d y%04d\n" % (number, number) for number in range(4_000)), b""), [0, *large]),
                 ("made input", ["--support", "9000", *search, "--generated", "9000", ".*(top^=).*"],
                  (0, b"generated 9000 patterns 1 support 9000 longest 1\n", b""), [0, *large])):
+            if "--split" in search and "--generated" in words:
+                continue
             wrong, ends = [], set()
             for more in sizes:
                 ran = within(resource.RLIMIT_AS, least + more, *words)
@@ -595,6 +687,17 @@ def address_space():
                     wrong.append(f"{least + more} bytes: {shown(ran)}")
             rows.hold(f"{name} in any address space, {by}", not wrong and ends == {done, NO_MEMORY},
                       "\n".join(wrong[:4]) or f"there are {len(ends)} ends")
+    merge_in_any_space(least)
+
+
+def merge_in_any_space(least):
+    """The same of a merge of 40,000 rows."""
+    names = [b"n%05d" % number for number in range(40_000)]
+    halves = [write(f"half{first}", b"".join(b"1\t" + name + b"\n" for name in names[first::2])) for first in (0, 1)]
+    done = (0, b"".join(b"1\t" + name + b"\n" for name in names), b"")
+    ends = {within(resource.RLIMIT_AS, least + more, "--support", "1", "--merge", *halves)
+            for more in (0, *(1 << power for power in range(20, 30)))}
+    rows.hold("a merge in any address space", ends == {done, NO_MEMORY}, f"there are {len(ends)} ends")
 
 
 def default_signals():
@@ -608,51 +711,58 @@ def used_ticks(pid):
         return sum(map(int, file.read().rpartition(")")[2].split()[11:13]))
 
 
+def stopped(number, when, words, below, what):
+    """A row: the signal ends a run of these words while it reads from the named pipe, mines or writes."""
+    ran = started(words, preexec_fn=default_signals)
+    begun, pipe = b"", None
+    if when.startswith("reads"):
+        pipe = feed(ran, below)
+        pipe.write(first_bytes[running])
+    elif when.startswith("mines"):
+        give_up = time.monotonic() + SECONDS
+        while ran.poll() is None and used_ticks(ran.pid) < 5 and time.monotonic() < give_up:
+            time.sleep(0.005)
+    else:
+        begun = ran.stdout.read(1)
+    ran.send_signal(number)
+    # What it waits for comes only after its end.
+    try:
+        ran.wait(SECONDS)
+    except subprocess.TimeoutExpired:
+        ran.kill()
+    out, told = ran.communicate()
+    if pipe:
+        pipe.close()
+    text = begun + out
+    holds = (ran.returncode, told) == (-number, b"") and (is_cut(text) if when.startswith("writes") else text == b"")
+    rows.hold(what, holds, f"status {ran.returncode}, {len(text)} bytes and {shown([told])}")
+
+
 def signals():
     """A signal ends a run while it reads, mines or writes: the status tells the signal, and what is written
     is no more than the first bytes of the answer."""
     many = write("many", b"".join(b" ".join(b"n%d" % (line * place % 97) for place in range(1, 40)) + b"\n"
                                   for line in range(1, 400)))
-    below = named_pipe("below_signals")
+    below, merged = named_pipe("below_signals"), ["--support", "1", "--merge"]
+    long_rows = write("long_rows", LONG_ANSWER)
     for number in (signal.SIGINT, signal.SIGTERM):
         name = signal.Signals(number).name
+        for when, words in (("reads merged files", [*merged, long_rows, below]), ("writes merged rows", [*merged, long_rows])):
+            stopped(number, when, words, below, f"{name} while it {when}")
         for search, by in searches():
             mines = ["--support", "1", *search, ".*(.)[.*(.)]{1,6}.*"]
             runs = [("reads", example(*search, sequences=below)), ("mines", [*mines, many]),
-                    ("mines made input", [*mines, "--generated", "1000000"]),
                     ("writes", ["--support", "1", *search, "(a)*", long])]
-            if search[1] != "count":
+            if "--split" not in search:
+                runs.append(("mines made input", [*mines, "--generated", "1000000"]))
+            if search[1] != "count" and "--split" not in search:
                 runs.append(("mines simulated", [*mines, "--simulate", "7", many]))
             for when, words in runs:
-                ran = started(words, preexec_fn=default_signals)
-                begun, pipe = b"", None
-                if when == "reads":
-                    pipe = feed(ran, below)
-                    pipe.write(first_bytes[running])
-                elif when.startswith("mines"):
-                    give_up = time.monotonic() + SECONDS
-                    while ran.poll() is None and used_ticks(ran.pid) < 5 and time.monotonic() < give_up:
-                        time.sleep(0.005)
-                else:
-                    begun = ran.stdout.read(1)
-                ran.send_signal(number)
-                # What it waits for comes only after its end.
-                try:
-                    ran.wait(SECONDS)
-                except subprocess.TimeoutExpired:
-                    ran.kill()
-                out, told = ran.communicate()
-                if pipe:
-                    pipe.close()
-                text = begun + out
-                holds = (ran.returncode, told) == (-number, b"") and (
-                    is_cut(text) if when == "writes" else text == b"")
-                rows.hold(f"{name} while it {when}, {by}", holds,
-                          f"status {ran.returncode}, {len(text)} bytes and {shown([told])}")
+                stopped(number, when, words, below, f"{name} while it {when}, {by}")
 
 
-for part in (odd_files, streams, lost_readers, failing_calls, read_to_the_end, terminals, made_input, limits,
-             signals):
+for part in (odd_files, streams, lost_readers, failing_calls, read_to_the_end, terminals, made_input, merges,
+             limits, signals):
     part()
 for path, text in first_bytes.items():
     with open(path, "rb") as file:

@@ -15,7 +15,7 @@ import sys
 
 PROGRAM, WORK = os.path.abspath(os.environ["DESQ"]), os.environ["WORK"]
 FOLDERS = sorted(os.path.dirname(page) for page in glob.glob("examples/*/README.md"))
-GUIDES = ["docs/COMING_FROM.md", "docs/ENGINES.md", "docs/EXPRESSIONS.md", "docs/GAPS.md"]
+GUIDES = ["docs/COMING_FROM.md", "docs/ENGINES.md", "docs/EXPRESSIONS.md", "docs/GAPS.md", "docs/PROOFS.md"]
 # One order for `sort`, that of bytes. The programs of the system come first, as its python3 has pandas.
 ENVIRONMENT = {**os.environ, "LC_ALL": "C.UTF-8", "PATH": f"{os.defpath}:{os.environ['PATH']}"}
 rows = []

@@ -1,8 +1,9 @@
 #!/usr/bin/env python3
 """Of two refusals that stand together the first is told: of the words, the expression, the hierarchy, the sequences, an unknown
-name, in this order, which is also that in which files are opened. A hierarchy is refused whatever the sequences hold, also where
-they never come. In an expression the kind decides, in a file first its size, then the line, and in a line the bytes before the
-line as a whole. A row for each pair that can be."""
+name, and a proof that is checked, in this order, which is also that in which files are opened. A hierarchy is refused whatever the
+sequences hold, also where they never come, and all is refused before a proof that never comes. In an expression the kind decides,
+in a file first its size, then the line, and in a line the bytes before the line as a whole. Of a merge the files stand in the order
+of the words. A row for each pair that can be."""
 import os
 import sys
 
@@ -94,6 +95,27 @@ for options, path, status, told in of_sequences:
     refuses(f"usage, and sequences: {told}", ["--hierarchy", never, *options, "(a)", path, "--help"], *USAGE)
     refuses(f"sequences: {told}, and an unknown name", [*options, "(z)", path], status, f"sequences: {told}")
 
+# A proof that never comes, and whatever is refused before it.
+of_proof = ["--check", never]
+refuses("usage, and a proof", [*of_proof, "(a)", lines, "--help"], *USAGE)
+for text, status, message in expressions:
+    refuses(f"{message}, and a proof", [*of_proof, text, never], status, message)
+for path, status, told in of_hierarchies:
+    refuses(f"hierarchy: {told}, and a proof", [*of_proof, "--hierarchy", path, "(a)", never], status,
+            f"hierarchy: {told}")
+for options, path, status, told in of_sequences:
+    refuses(f"sequences: {told}, and a proof", [*of_proof, *options, "(a)", path], status,
+            f"sequences: {told}")
+refuses("an unknown name, and a proof", [*of_proof, "(z)", lines], *unknown)
+for text, status, told in (("\x01\n", 3, "line 1 column 1: bad byte"),
+                           (f"{long_name}\n", 4, "line 1 column 256: name over 255 bytes"),
+                           ("1\tb\n", 3, "line 1: refused"), ("1\ta\n\t1 2\n", 3, "line 2: refused")):
+    proof = write("proof", text)
+    refuses(f"proof: {told}", ["--check", proof, "(a)", lines], status, f"proof: {told}")
+    refuses(f"an unknown name, and proof: {told}", ["--check", proof, "(z)", lines], *unknown)
+    refuses(f"proof: {told}, and too large", ["--check", of_size(proof, MOST_BYTES + 1), "(a)", lines], 4,
+            f"proof: more than {MOST_BYTES} bytes")
+
 # What is refused is no fault of an output that takes nothing, and no fault of standard input that is closed.
 for (status, message), words in ((USAGE, []), ((3, "expression: column 3: unexpected"), ["(a", "-"]),
                                  ((3, "hierarchy: line 3: cycle"), ["--hierarchy", f"{WORK}/cycle", "(a)", "-"]),
@@ -160,4 +182,27 @@ for text in ("a\x01\n", f"{long_name}\n", "x x\n", "a\n"):
             f"hierarchy: more than {MOST_BYTES} bytes")
     refuses(f"sequences of {text[:12]!r}, and too large", ["--weighted", "(a)", large], 4,
             f"sequences: more than {MOST_BYTES} bytes")
+
+# Of the files of a merge the first that is refused is told, and those behind it are not opened. In one file its size comes
+# before its lines, in one line its text before the row, and the row before its names.
+merged = ((absent, 5, "read fault"), (WORK, 5, "read fault"),
+          (of_size(write("large_rows", "1\ta\n"), MOST_BYTES + 1), 4, f"more than {MOST_BYTES} bytes"),
+          (write("bad_byte_rows", "1\ta\n1\tb\x01\n"), 3, "line 2 column 4: bad byte"),
+          (write("long_name_rows", f"1\ta\n1\t{long_name}\n"), 4, "line 2 column 258: name over 255 bytes"),
+          (write("bad_rows", "1\ta\n1\ta b\n1\ta\n"), 3, "line 3: bad row"))
+one = write("one", "7\tone\n")
+for path, status, told in merged:
+    refuses(f"usage, and file 1: {told}", ["--merge", path, never, "--help"], *USAGE)
+    refuses(f"file 1: {told}, and one that never comes", ["--merge", path, never], status, f"file 1: {told}")
+    refuses(f"file 2: {told}, and one that never comes", ["--merge", one, path, never], status, f"file 2: {told}")
+    for other, _, behind in merged:
+        refuses(f"file 1: {told}, and file 2: {behind}", ["--merge", path, other], status, f"file 1: {told}")
+full = "".join(f"1\t{name}\n" for name in sorted(f"{number:x}" for number in range(MOST_NAMES)))
+for line, status, told in (("1\tz", 4, f": {MANY_NAMES}"), ("1\tz\x01", 3, " column 4: bad byte"), ("2\tz", 3, ": bad row"),
+                           (f"1\tz {long_name}", 4, " column 260: name over 255 bytes"), ("1\tz ", 3, ": bad row"),
+                           ("1\tz\nx\x01", 4, f": {MANY_NAMES}"), ("1\t0\n1\tz", 3, ": bad row")):
+    refuses(f"{line[:6]!r} behind as many names as may be", ["--merge", write("text", f"{full}{line}\n"), never], status,
+            f"file 1: line {MOST_NAMES + 1}{told}")
+refuses("a bad byte before a bad row in a line", ["--merge", write("text", "x\x01\n")], 3, "file 1: line 1 column 2: bad byte")
+refuses("a bad row before a bad byte in the next line", ["--merge", write("text", "x\n1\ta\x01\n")], 3, "file 1: line 1: bad row")
 rows.finish()

@@ -1,14 +1,14 @@
 #!/usr/bin/env python3
 """Runs on made input: what a plain program gives for small numbers of sequences, for each engine, and what is refused."""
+import functools
 import itertools
 import sys
 
 sys.dont_write_bytecode = True
-from rows import Rows, run, write
+from rows import ENGINES, Rows, run, searches, write
 
 USAGE = b"desq: usage: desq --support N [options] EXPR [FILE]\n"
 WRITE_FAULT = b"desq: write fault\n"
-ENGINES = ("count", "dfs", "pivot")
 
 
 class Draws:
@@ -55,6 +55,7 @@ def ends(words):
     return {(f"w{words[0]}", f"w{words[-1]}")} if len(words) > 1 else set()
 
 
+@functools.lru_cache(maxsize=None)
 def summary(count, support, generated):
     """The summary of the answer, from what each sequence generates."""
     supports = {}
@@ -67,26 +68,26 @@ def summary(count, support, generated):
 
 
 rows = Rows()
-for engine in ENGINES:
-    def by(support, count, expression, *others):
-        return run("--support", str(support), "--generated", str(count), expression, "--engine", engine, *others)
+many = (0, summary(100_000, 1_000, beside), b"")
+simulated = [f"{engine} --simulate 7" for engine in ("dfs", "pivot")]
+for search, by in (*searches((*ENGINES, *simulated)), ([], "by no engine that is named")):
+    def made_by(support, count, expression):
+        return run("--support", str(support), "--generated", str(count), expression, *search)
 
-    rows.ends(f"each of seven sequences is under top, by {engine}", by(7, 7, ".*(top^=).*"),
+    rows.ends(f"each of seven sequences is under top, {by}", made_by(7, 7, ".*(top^=).*"),
               (0, b"generated 7 patterns 1 support 7 longest 1\n", b""))
-    rows.ends(f"no pattern reaches the support, by {engine}", by(6, 5, "(.)"),
+    rows.ends(f"no pattern reaches the support, {by}", made_by(6, 5, "(.)"),
               (0, b"generated 5 patterns 0 support 0 longest 0\n", b""))
-    rows.ends(f"one sequence, by {engine}", by(1, 1, ".*(top^=).*"),
+    rows.ends(f"one sequence, {by}", made_by(1, 1, ".*(top^=).*"),
               (0, b"generated 1 patterns 1 support 1 longest 1\n", b""))
-    rows.ends(f"a million sequences, by {engine}", by(1_000_000, 1_000_000, ".*(top^=).*"),
+    rows.ends(f"a million sequences, {by}", made_by(1_000_000, 1_000_000, ".*(top^=).*"),
               (0, b"generated 1000000 patterns 1 support 1000000 longest 1\n", b""))
     for expression, generated in ((".*(.^)(c3).*", beside), (".*(c1^).*(c5^=).*", apart), ("(.).*(.)", ends)):
         for count, support in ((1, 1), (2, 1), (12, 1), (12, 2), (100, 3), (1_000, 5)):
-            rows.ends(f"{count} sequences with support {support}, {expression}, by {engine}",
-                      by(support, count, expression), (0, summary(count, support, generated), b""))
-    many = (0, summary(100_000, 1_000, beside), b"")
-    for others in ([], [], ["--workers", "1"], ["--workers", "64"], *([["--simulate", "7"]] if engine != "count" else [])):
-        rows.ends(f"a hundred thousand sequences, by {engine} {' '.join(others)}",
-                  by(1_000, 100_000, ".*(.^)(c3).*", *others), many)
+            rows.ends(f"{count} sequences with support {support}, {expression}, {by}",
+                      made_by(support, count, expression), (0, summary(count, support, generated), b""))
+    for which in ("first", "second"):
+        rows.ends(f"a hundred thousand sequences, {by}, the {which} run", made_by(1_000, 100_000, ".*(.^)(c3).*"), many)
 rows.hold("a hundred thousand sequences have patterns", b" patterns 0 " not in many[1])
 rows.ends("the work of counting", run("--support", "7", "--generated", "7", ".*(top^=).*", "--engine", "count", "--stats"),
           (0, b"generated 7 patterns 1 support 7 longest 1\n", b"desq: nodes 0 parts 0 candidates 7\n"))

@@ -199,7 +199,7 @@ write(f"{kit}/wait_at_middle", "")
 first = begun("one")
 reached = is_at("middle")
 second = begun("two")
-told = second.stderr.readline() if select.select([second.stderr], [], [], 20)[0] else "nothing"
+told = second.stderr.readline() if select.select([second.stderr], [], [], SECONDS)[0] else "nothing"
 rows.hold("who waits for another's build is told so", reached and "waiting" in told, f"told {told!r}")
 os.remove(f"{kit}/wait_at_middle")
 ends = ended(first)[:2], ended(second)[:2]

@@ -4,7 +4,7 @@ import resource
 import sys
 
 sys.dont_write_bytecode = True
-from rows import Rows, run, write
+from rows import MODES, Rows, run, searches, write
 
 SPACE = 4_000_000 * 1024
 
@@ -30,20 +30,20 @@ def once(times):
     return 0, b"1\t" + repeated("a", times).encode(), b""
 
 
-for engine in ("count", "dfs", "pivot"):
-    words = ["--support", "1", "--engine", engine]
-    rows.ends(f"a line of 30,000 items with one output, by 64 pieces, by {engine}",
+for search, by in searches():
+    words = ["--support", "1", *search]
+    rows.ends(f"a line of 30,000 items with one output, by 64 pieces, {by}",
               run(*words, "(a)*" * 64, long), once(30_000))
     with open(long, "rb") as file:
-        rows.ends(f"30,000 items on standard input, by {engine}", run(*words, "(a)*", "-", stdin=file), once(30_000))
-    rows.ends(f"30,000 items of which none leads to an output, within 4 GB, by {engine}",
+        rows.ends(f"30,000 items on standard input, {by}", run(*words, "(a)*", "-", stdin=file), once(30_000))
+    rows.ends(f"30,000 items of which none leads to an output, within 4 GB, {by}",
               run_within(*words, "(a)*.*b", late), (0, b"", b""))
-    rows.ends(f"an answer above 64 KiB is whole, by {engine}", run(*words, "(a)*", longer), once(60_000))
-for search in ("dfs", "pivot", "dfs --simulate 0", "pivot --simulate 0"):
-    words = ["--support", "1", "--engine", *search.split()]
-    rows.ends(f"the longest line of one item, each written alone, by {search}",
+    rows.ends(f"an answer above 64 KiB is whole, {by}", run(*words, "(a)*", longer), once(60_000))
+for search, by in searches((*MODES[1:], "dfs --simulate 0", "pivot --simulate 0")):
+    words = ["--support", "1", *search]
+    rows.ends(f"the longest line of one item, each written alone, {by}",
               run(*words, ".*(a).*", longest), (0, b"1\ta\n", b""))
-    rows.ends(f"a chain of 65,536 prefixes, within 4 GB, by {search}", run_within(*words, "(a)*", longest), once(65_535))
-    rows.ends(f"places that many silent paths reach, by {search}", run(*words, "--stats", "[.*]{8}(a)", behind),
+    rows.ends(f"a chain of 65,536 prefixes, within 4 GB, {by}", run_within(*words, "(a)*", longest), once(65_535))
+    rows.ends(f"places that many silent paths reach, {by}", run(*words, "--stats", "[.*]{8}(a)", behind),
               (0, b"1\ta\n", b"desq: nodes 2 parts 1 candidates 0\n"))
 rows.finish()

@@ -82,6 +82,8 @@ def write(name, data):
 
 LINES = write("lines", b"a b\na b\na c\n")
 ABOVE = write("above", b"b B\nc B\n")
+ROWS = write("rows", b"2\ta\n")
+EMPTY = write("empty", b"")
 
 
 def check_form():
@@ -98,7 +100,7 @@ def check_options():
     source = open("crates/command_line/src/options.rt", encoding="utf-8").read()
     table = source.partition("static ARGUMENTS")[2].partition("];")[0]
     kinds = {name: kind for kind, name in re.findall(r'Argument::(\w+)\("([\w-]+)"\)', table)}
-    options = {name: kind for name, kind in kinds.items() if not kind.endswith("Word")}
+    options = {name: kind for name, kind in kinds.items() if not kind.endswith(("Word", "Words"))}
     hold("the options", list(OPTIONS), list(options))
     synopsis = "\n".join(SECTIONS["SYNOPSIS"])
     for name, (tag, _) in OPTIONS.items():
@@ -106,7 +108,7 @@ def check_options():
              options.get(name) in ("Value", "NeededValue"))
         hold(f"{name} in the synopsis", bool(re.search(rf"^\.(Op )?Fl -{name}( |$)", synopsis, re.M)), True)
         hold(f"{name} is needed", bool(re.search(rf"^\.Fl -{name}( |$)", synopsis, re.M)),
-             options.get(name) == "NeededValue" or name in ("max-gap", "generated"))
+             options.get(name) == "NeededValue" or name in ("max-gap", "generated", "merge", "check"))
     engines = re.findall(r'^engine_name \w+ = codes "(\w+)"', WORDS, re.M)
     told = re.match(r"Fl -engine Cm (.*)", OPTIONS["engine"][0]).group(1).split(" | ")
     hold("the engines", sorted(told), sorted(engines))
@@ -128,6 +130,9 @@ USES = {
     "generalize": lambda: ["--support", "1", "--max-gap", "0", "--generalize", LINES],
     "generated": lambda value: ["--support", "1000000", "--generated", value, ".*(top^=).*"],
     "split": lambda value: ["--support", "1", "--engine", "pivot", "--split", f"1/{value}", "(a).*", LINES],
+    "merge": lambda: ["--support", "1", "--merge", ROWS],
+    "proof": lambda: ["--support", "1", "--proof", "(a).*", LINES],
+    "check": lambda value: ["--support", "1", "--check", value, "(a).*", LINES],
 }
 
 
@@ -154,6 +159,9 @@ def check_uses():
         elif name == "hierarchy":
             words = USES[name](ABOVE)
             hold("hierarchy", runs(words)[0], 0)
+        elif name == "check":
+            words = USES[name](EMPTY)
+            hold("check", runs(words), (0, b"checked 0 rows\n", ""))
         else:
             words = USES[name]()
             hold(name, runs(words)[0], 0)
@@ -181,6 +189,41 @@ def check_uses():
     if "generated" in OPTIONS:
         for given in (["--hierarchy", ABOVE], ["--weighted"], ["--max-gap", "0"], [LINES]):
             hold(f"{given[0]} beside generated", runs(["--support", "1", "--generated", "1", "(.)", *given])[0], 2)
+
+    check_merges()
+    check_proofs()
+
+
+def check_proofs():
+    """A proof is checked, and no option stands beside either that the page says does not."""
+    whole = runs(USES["proof"]())
+    hold("a proof", whole, (0, b"3\ta\n\t1 1 2\n\t2 1 2\n\t3 1 2\n", ""))
+    hold("its check", runs(USES["check"]("-"), whole[1]), (0, b"checked 1 rows\n", ""))
+    values = {"check": EMPTY, "split": "1/1", "simulate": "1"}
+    for name in ("proof", "check"):
+        beside = re.search(r"Neither (.*) stands beside it", OPTIONS[name][1]).group(1)
+        for other in re.findall(r"Fl -([\w-]+)", beside):
+            words = [f"--{other}", values.get(other, "1")] if " Ar " in OPTIONS[other][0] else [f"--{other}"]
+            words += ["--engine", "pivot"] if other == "split" else []
+            given = [f"--{name}", EMPTY] if name == "check" else [f"--{name}"]
+            places = {"max-gap": [LINES], "generated": ["(.)"]}.get(other, ["(a).*", LINES])
+            hold(f"{other} beside {name}", runs(["--support", "1", *given, *words, *places])[0], 2)
+            hold(f"{other} without {name}", runs(["--support", "1", *words, *places])[0], 0)
+
+
+def check_merges():
+    """A merge takes so many files as the page says, and no other option but the support."""
+    most = told("merge", "the most files of a merge", r"at most (\d+) of them")[0] or "0"
+    hold("the most files of a merge", most, str(constants("crates/command_line/specs/Words.antt")["most_merged"]))
+    merge = ["--support", "1", "--merge"]
+    hold("as many files", runs([*merge, ROWS, *[EMPTY] * (int(most) - 1)]), (0, b"2\ta\n", ""))
+    hold("one more", runs([*merge, ROWS, *[EMPTY] * int(most)])[0], 2)
+    hold("no file", runs(merge)[0], 2)
+    values = {"hierarchy": ABOVE, "engine": "dfs", "split": "1/1", "check": EMPTY}
+    for name in set(OPTIONS) - {"support", "merge"}:
+        has_value = " Ar " in OPTIONS[name][0] or " Cm " in OPTIONS[name][0]
+        given = [f"--{name}", values.get(name, "1")] if has_value else [f"--{name}"]
+        hold(f"{name} beside merge", runs([*merge, *given, ROWS])[0], 2)
 
 
 def told(name, what, pattern):
@@ -246,6 +289,8 @@ MESSAGES = [
     ("sequences: line N column N: bad weight", lambda: sequences(b"1000000001 a\n", "--weighted"),
      lambda: sequences(b"1000000000 a\n", "--weighted")),
     ("hierarchy: line N: cycle", lambda: hierarchy(b"a b\nb a\n"), None),
+    ("FILE: line N: bad row", lambda: (["--support", "1", "--merge", "-"], b"1\ta\n2\tb\n"), None),
+    ("proof: line N: refused", lambda: (["--support", "1", "--check", "-", "(a).*", LINES], b"1\ta\n"), None),
     ("expression: more than 4096 bytes", lambda: expression("(a)" + " " * 4094),
      lambda: expression("(a)" + " " * 4093)),
     ("expression: column N: repeat over 1024", lambda: expression("(a){1025}"),
@@ -270,7 +315,7 @@ MESSAGES = [
 
 def pattern(message):
     """What the message looks like, with numbers and the name of a file for the page's words."""
-    text = re.escape(f"desq: {message}\n").replace("FILE", "(hierarchy|sequences)")
+    text = re.escape(f"desq: {message}\n").replace("FILE", r"(hierarchy|sequences|proof|file \d+)")
     return re.sub(r"\bN\b", r"\\d+", text)
 
 
@@ -286,6 +331,7 @@ def defined_messages():
         body = re.sub(r"at_line (\S+) line \(codes \"(.*)\"\)", r'\1: codes "line N\2"', body)
         body = re.sub(r"file_text file \+\+ codes", "FILE codes", body).replace("file:", "FILE: ")
         body = body.replace("Sequences: ", "sequences: ").replace("Hierarchy: ", "hierarchy: ")
+        body = body.replace("Proof: ", "proof: ")
         body = re.sub(r"decimal \w+", '"N"', body)
         body = body.replace("FILE codes ", "FILE")
         words = re.sub(r' ?\+\+ ?|codes |"', "", body)
@@ -352,7 +398,7 @@ def check_limits():
     names = {
         "bytes of a file": "most_file_bytes",
         "bytes of a name in a file": "most_name_bytes",
-        "different names in both files": "most_items",
+        "different names in all files": "most_items",
         "ancestors of all items, each its own": "most_ancestors",
         "sequences": "most_sequences",
         "items of a sequence": "most_length",

@@ -8,22 +8,22 @@ import sys
 import time
 
 sys.dont_write_bytecode = True
-from rows import PROGRAM, Rows, SECONDS, processors, run, running_example, shown, write
+from rows import MODES, PROGRAM, Rows, SECONDS, processors, run, running_example, shown, write
 
 RUNS = 1_000
 ANSWER = (0, b"3\ta1 b\n2\ta1 A b\n2\ta1 a1 b\n", b"")
 kinds, running = running_example()
 
 
-def end(engine):
-    return run("--support", "2", "--workers", "64", "--engine", engine, "--hierarchy", kinds, ".*(A)[(.^)|.]*(b).*", running)
+def end(mode):
+    return run("--support", "2", "--workers", "64", "--engine", *mode.split(), "--hierarchy", kinds, ".*(A)[(.^)|.]*(b).*", running)
 
 
 rows = Rows()
 with multiprocessing.get_context("fork").Pool(processors()) as pool:
-    for engine in ("dfs", "pivot", "count"):
-        others = [ran for ran in pool.imap(end, [engine] * RUNS) if ran != ANSWER]
-        rows.hold(f"{RUNS} runs of 64 workers by {engine} give one answer", not others,
+    for mode in MODES:
+        others = [ran for ran in pool.imap(end, [mode] * RUNS) if ran != ANSWER]
+        rows.hold(f"{RUNS} runs of 64 workers by {mode} give one answer", not others,
                   f"{len(others)} do not, and the first of them is {shown(others[0])}" if others else "")
 
 
@@ -69,7 +69,12 @@ line = [f"n{number}" for number in range(24)]
 turned = [["m", *line[turn % 24:], *line[:turn % 24]] for turn in range(14_999)] + [line]
 lines = write("lines", "".join(" ".join(items) + "\n" for items in turned))
 for workers in (2, 4):
-    shared(f"pivots are looked for by {workers} threads",
+    shared(f"pivots are looked for by {workers} threads, where there are as many processors",
            ["--support", "15000", "--engine", "pivot", "--workers", str(workers), "m .*(.)[.{0,3}(.)]{1,4}.*", lines], b"",
-           workers)
+           min(workers, processors()))
+# Little but the reading of lines in which no item stands.
+blanks = write("blanks", (" " * 999 + "\n") * 60_000)
+for workers in (2, 4):
+    shared(f"a file is read by {workers} threads, where there are as many processors",
+           ["--support", "1", "--workers", str(workers), "(.)", blanks], b"", min(workers, processors()))
 rows.finish()

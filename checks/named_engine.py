@@ -4,7 +4,7 @@ are several pivots. Each number is counted by hand from what the words of the li
 import sys
 
 sys.dont_write_bytecode = True
-from rows import Rows, run, write
+from rows import MODES, Rows, run, searches, write
 
 rows = Rows()
 
@@ -13,17 +13,14 @@ def stats(nodes, parts, candidates):
     return f"desq: nodes {nodes} parts {parts} candidates {candidates}\n".encode()
 
 
-def check(name, words, answer, works, searches=("dfs", "pivot")):
+def check(name, words, answer, works):
     """Rows: each engine gives the answer and tells its own work, with any number of workers, and simulated.
     """
     def ends(how, more, engine):
         rows.ends(f"{name}, {how}", run(*words, *more, "--stats"), (0, answer, stats(*works[engine])))
-    for engine in works:
-        for workers in ("1", "4", "64"):
-            ends(f"{engine} with {workers} workers", ["--engine", engine, "--workers", workers], engine)
-    for engine in searches:
-        for seed in ("0", "7"):
-            ends(f"{engine} with the seed {seed}", ["--engine", engine, "--simulate", seed], engine)
+    simulated = [f"{engine} --simulate {seed}" for engine in ("dfs", "pivot") for seed in (0, 7)]
+    for search, by in searches((*MODES, *simulated)):
+        ends(by, search, search[1])
     ends("no engine is named", [], "dfs")
     ends("no engine is named, with a seed", ["--simulate", "7"], "dfs")
 

@@ -10,7 +10,6 @@ sys.dont_write_bytecode = True
 from rows import Rows
 
 COLUMNS = 110
-OWN_CRATES = ("mine_model", "gap_front", "made_input", "command_line", "desq_run", "text_ports")
 
 
 def text_of(path):
@@ -58,6 +57,10 @@ for name, below in listed.items():
     own = [crate for crate in below if crate in listed]
     told = [] if mapped.get(name) == "none" else re.findall(r"\w+", mapped.get(name, ""))
     rows.hold(f"the map tells what {name} stands on", sorted(own) == sorted(told), f"it stands on {own}, told {told}")
+tests = {"layer_tests", "reader_tests", "run_tests"}
+wanting = [name for row in rows_behind(map_page, "| Crate | What could give up |") for name in re.findall(r"`(\w+)`", row[0])]
+rows.hold("the map says of each crate but those of tests what could want memory without cause",
+          sorted(wanting) == sorted(set(listed) - tests), f"in one of both alone: {set(wanting) ^ (set(listed) - tests)}")
 rows.hold("the handles", text_of("HANDLES") == "Handles allowed: Threads, Wait.\n")
 versions = re.findall(r"`(rattle-kit-\S+ logic \w+)`", readme)
 ran = subprocess.run(["rt", "version"], capture_output=True, text=True)
@@ -101,7 +104,7 @@ def imports_of(text):
 
 modules = {}
 page = subprocess.run(["rt", "doc"], capture_output=True, text=True).stdout.strip()
-SPECS = {"clap": f"{os.path.dirname(page)}/rattle/clap/specs", **{crate: f"crates/{crate}/specs" for crate in OWN_CRATES}}
+SPECS = {"clap": f"{os.path.dirname(page)}/rattle/clap/specs", **{crate: f"crates/{crate}/specs" for crate in listed}}
 
 
 def module_of(crate, path):
@@ -152,7 +155,7 @@ while left:
         left += cited(" ".join(blocks[word]), imports, blocks, owner, (crate, path))
 counted = {}
 for (crate, path, word), lines in promise.items():
-    file = f"{crate}/specs/{path.replace('.', '/')}.antt" if crate in OWN_CRATES else crate
+    file = f"{crate}/specs/{path.replace('.', '/')}.antt" if crate in listed else crate
     words_before, lines_before = counted.get(file, (0, 0))
     counted[file] = words_before + 1, lines_before + lines
 own = {file: counts for file, counts in counted.items() if file != "clap"}
@@ -251,6 +254,24 @@ for word, path in re.findall(r"\[`(\w+)`\]\(\.\./(crates/[^)]*)\)", map_page):
     if not re.search(rf"pub (?:fn|struct|enum|trait) {word}\b", code.get(path, "")):
         lost.append(f"{word} is no public item of {path}")
 rows.hold("the contracts of the map are those of public items", not lost, "\n".join(lost))
+
+# In the tables of answers and their causes each clause is one of a call that its row names, or of `run`, or it is a law.
+clauses = {}
+for text in code.values():
+    name = None
+    for function, label in re.findall(r"(?m)^\s*(?:pub(?:\(crate\))? )?fn (\w+)|^\s*ensures (\w+) \{", text):
+        name = function or name
+        clauses.setdefault(name, set()).update({label} - {""})
+of_ends = set(re.findall(r"(?m)^  (\w+) :", text_of("crates/desq_run/specs/Ends.antt")))
+answers, calls = (rows_behind(definitions_page, head) for head in ("| Answer of `run` | Comes | Clauses |",
+                                                                   "| Call | Answer | Comes | Clauses |"))
+lost = [f"{word} is no clause of run" for row in answers for word in re.findall(r"`(\w+)`", row[-1])
+        if word not in labels | of_ends | {"IsReported"}]
+for row in calls:
+    named = re.findall(r"`(\w+)`", row[0])
+    lost += [f"{word} is no clause of {named}" for word in re.findall(r"`(\w+)`", row[-1])
+             if word not in clauses and not any(word in clauses.get(name, ()) for name in named)]
+rows.hold("the tables of answers name clauses of their calls", answers and calls and not lost, "\n".join(lost))
 
 # The repository stands alone: no citation by number, no absolute path.
 CITED = re.compile(r"(?i)\b(?:issue|paper|demand|theorem|proposition|corollary|section|chapter|footnote|requirement)s? #?\d"

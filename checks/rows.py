@@ -7,6 +7,11 @@ PROGRAM = os.environ["DESQ"]
 WORK = os.environ["WORK"]
 SECONDS = 120
 MOST_TOLD = 4_000
+ENGINES = ("count", "dfs", "pivot")
+# The ways to mine, each by an engine and more words; one more is a word here. The first share of one has all pivots, so it
+# leaves the whole answer, with its work.
+MODES = (*ENGINES, "pivot --split 1/1")
+WORKERS = ("1", "4", "64")
 
 
 class Rows:
@@ -45,6 +50,15 @@ def run(*words, **options):
     except subprocess.TimeoutExpired:
         return None, b"", b""
     return ran.returncode, ran.stdout or b"", ran.stderr
+
+
+def searches(modes=MODES, workers=WORKERS):
+    """Each of these ways to mine with each number of workers: the words, of which the second is the engine and the fourth the
+    number, and how it is told."""
+    for mode in modes:
+        engine, *more = mode.split()
+        for number in workers:
+            yield ["--engine", engine, "--workers", number, *more], f"by {mode} with {number} workers"
 
 
 def write(name, text):

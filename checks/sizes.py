@@ -1,15 +1,14 @@
 #!/usr/bin/env python3
 """Nothing gives up at sizes: want of memory may come at any time by the contracts, so only runs show that it does not come
-without cause. By each engine, with one worker and with four, the answers are those that the definition gives. Each size is above those with which the tables begin. A part for each of thousands of pivots
+without cause. By each engine, with 1, 4 and 64 workers, the answers are those that the definition gives. Each size is above those with which the tables begin. A part for each of thousands of pivots
 over one long line costs `pivot` the square of their number, so there its line has as many items, but few of them frequent."""
 import os
 import resource
 import sys
 
 sys.dont_write_bytecode = True
-from rows import Rows, run, write
+from rows import MODES, Rows, WORKERS, run, searches, write
 
-ENGINES = ("count", "dfs", "pivot")
 SPACE = 512 << 20
 
 rows = Rows()
@@ -33,13 +32,11 @@ def within(space):
     return {"preexec_fn": lambda: resource.setrlimit(resource.RLIMIT_AS, (space, space))} if space else {}
 
 
-def by_each(name, support, words, wanted, engines=ENGINES, space=None, numbers=("1", "4")):
-    """A row for each engine, with one worker and with four, or with other numbers of workers."""
-    for engine in engines:
-        for workers in numbers:
-            rows.ends(f"{name}, by {engine} with {workers}",
-                      run("--support", str(support), "--engine", engine, "--workers", workers, *words, **within(space)),
-                      (0, wanted, b""))
+def by_each(name, support, words, wanted, modes=MODES, space=None):
+    """A row for each way to mine and each number of workers. Where addresses are few, the stacks of 64 threads would take them.
+    """
+    for search, by in searches(modes, WORKERS[:2] if space else WORKERS):
+        rows.ends(f"{name}, {by}", run("--support", str(support), *search, *words, **within(space)), (0, wanted, b""))
 
 
 def subsets(items):
@@ -61,10 +58,8 @@ names = [named(number) for number in range(20_000)]
 own = write("own", lines_of([name] for name in names))
 each_once = answer(([name], 1) for name in names)
 by_each("20,000 names", 1, ["(.)", own], each_once)
-for engine in ("dfs", "pivot"):
-    for seed in ("0", "18446744073709551615"):
-        rows.ends(f"20,000 names, by {engine} simulated with {seed}",
-                  run("--support", "1", "--engine", engine, "--simulate", seed, "(.)", own), (0, each_once, b""))
+by_each("20,000 names, simulated", 1, ["(.)", own], each_once,
+        [f"{engine} --simulate {seed}" for engine in ("dfs", "pivot") for seed in (0, 18446744073709551615)])
 
 # Many candidates: of one line, and of many lines that have none in common.
 line = [named(number) for number in range(19)]
@@ -100,14 +95,24 @@ os.remove(million)
 chain = [named(number) for number in range(8_191)]
 above, lowest = write("chain", lines_of(zip(chain[1:], chain))), write("lowest", chain[-1] + "\n")
 by_each("33,550,336 ancestors", 1, ["--hierarchy", above, "(.^)", lowest], answer(([name], 1) for name in chain), ("dfs",))
-for search in (["count", "--workers", "1"], ["dfs", "--workers", "64"], ["pivot"]):
-    rows.ends(f"the highest of 33,550,336 ancestors, by {' '.join(search)}",
-              run("--support", "1", "--engine", *search, "--hierarchy", above, f"({chain[0]}^=)", lowest),
-              (0, answer([([chain[0]], 1)]), b""))
+by_each("the highest of 33,550,336 ancestors", 1, ["--hierarchy", above, f"({chain[0]}^=)", lowest],
+        answer([([chain[0]], 1)]))
 parents = [f"p{number}" for number in range(10_000)]
 by_each("10,000 parents of one item", 1,
         ["--hierarchy", write("parents", lines_of([["x", *parents]])), "(.^)", write("below", "x\n")],
-        answer(([name], 1) for name in ["x", *parents]), numbers=("1", "4", "64"))
+        answer(([name], 1) for name in ["x", *parents]))
+
+# Merges of as many rows as there may be names, and of a row as long as a sequence may be.
+halves = [write(f"half{first}", lines_of([f"1\t{number:06x}"] for number in range(first, 1 << 20, 2))) for first in (0, 1)]
+rows.ends("1,048,576 rows of two files are merged", run("--support", "1", "--merge", *halves),
+          (0, lines_of([f"1\t{number:06x}"] for number in range(1 << 20)).encode(), b""))
+rows.ends("a name more in a third file", run("--support", "1", "--merge", *halves, write("third", "1\tz\n")),
+          (4, b"", b"desq: file 3: line 1: more than 1048576 items\n"))
+for half in halves:
+    os.remove(half)
+long_row = "1\t" + " ".join(line) + "\n"
+rows.ends("a row of 65,535 names is merged", run("--support", "1", "--merge", write("long_row", long_row)),
+          (0, long_row.encode(), b""))
 
 # Long names, which the table of names finds by a hash and not by their bytes.
 long_names = [named(number) + "x" * 40 for number in range(100_000)]
@@ -136,24 +141,26 @@ by_each("a gap of 509, lengths of 2 to 3, and 3,000 items", 1,
 # Every option at once. x is not frequent, and b ranks before A, and A before a.
 kinds = write("kinds", "a A\n")
 weighted = write("weighted", "2 a b\n3 a x b\n1 b\n")
-for engine, told in (("count", b"nodes 0 parts 0 candidates 4"), ("dfs", b"nodes 5 parts 1 candidates 0"),
-                     ("pivot", b"nodes 6 parts 2 candidates 0")):
-    seed = [] if engine == "count" else ["--simulate", "7"]
-    words = ["--stats", "--support=5", "--engine", engine, *seed, "--weighted", f"--hierarchy={kinds}", "--workers", "3"]
-    ends = (0, b"5\tA b\n5\ta b\n", b"desq: " + told + b"\n")
-    rows.ends(f"every option and an expression, by {engine}", run(*words, "--", ".*(.^).{0,1}(.^).*", weighted), ends)
-    rows.ends(f"every option and a gap, by {engine}",
-              run(weighted, "--generalize", "--max-gap=1", *words, "--max-length", "2", "--min-length", "2"), ends)
+for mode, told in (("count", b"nodes 0 parts 0 candidates 4"), ("dfs --simulate 7", b"nodes 5 parts 1 candidates 0"),
+                   ("pivot --simulate 7", b"nodes 6 parts 2 candidates 0"), ("pivot --split 1/1", b"nodes 6 parts 2 candidates 0")):
+    for search, by in searches([mode]):
+        words = ["--stats", "--support=5", *search, "--weighted", f"--hierarchy={kinds}"]
+        ends = (0, b"5\tA b\n5\ta b\n", b"desq: " + told + b"\n")
+        rows.ends(f"every option and an expression, {by}", run(*words, "--", ".*(.^).{0,1}(.^).*", weighted), ends)
+        rows.ends(f"every option and a gap, {by}",
+                  run(weighted, "--generalize", "--max-gap=1", *words, "--max-length", "2", "--min-length", "2"), ends)
 
 # What is too long is refused, and told by its own message.
-rows.ends("a quoted name of 300 bytes", run("--support", "1", f"(a|'{'n' * 300}')", kinds),
-          (3, b"", b"desq: expression: column 4: unknown name\n"))
-rows.ends("an expression of 4,097 bytes", run("--support", "1", f"({'a ' * 2_047} )", kinds),
-          (4, b"", b"desq: expression: more than 4096 bytes\n"))
-rows.ends("a file name of 5,000 bytes", run("--support", "1", "(a)", "f" * 5_000),
-          (5, b"", b"desq: sequences: read fault\n"))
-rows.ends("a hierarchy's file name of 5,000 bytes", run("--support", "1", "--hierarchy", "f" * 5_000, "(a)", kinds),
-          (5, b"", b"desq: hierarchy: read fault\n"))
+for search, by in searches():
+    words = ["--support", "1", *search]
+    rows.ends(f"a quoted name of 300 bytes, {by}", run(*words, f"(a|'{'n' * 300}')", kinds),
+              (3, b"", b"desq: expression: column 4: unknown name\n"))
+    rows.ends(f"an expression of 4,097 bytes, {by}", run(*words, f"({'a ' * 2_047} )", kinds),
+              (4, b"", b"desq: expression: more than 4096 bytes\n"))
+    rows.ends(f"a file name of 5,000 bytes, {by}", run(*words, "(a)", "f" * 5_000),
+              (5, b"", b"desq: sequences: read fault\n"))
+    rows.ends(f"a hierarchy's file name of 5,000 bytes, {by}", run(*words, "--hierarchy", "f" * 5_000, "(a)", kinds),
+              (5, b"", b"desq: hierarchy: read fault\n"))
 
 # An expression is refused before anything is read: nobody writes to these, so a run that reads first has no end.
 fifo = f"{os.environ['WORK']}/fifo"
@@ -169,8 +176,11 @@ for words, status, told in (([], 2, "usage: desq --support N [options] EXPR [FIL
                             (["a" * 4_097], 4, "expression: more than 4096 bytes"),
                             (["--max-gap", "1", "--max-length", "512"], 4, "expression: 1025 leaves, over 1024")):
     ends = (status, b"", f"desq: {told}\n".encode())
-    rows.ends(f"refused before a file is opened: {told}", run("--support", "1", "--hierarchy", fifo, *words, fifo), ends)
-    rows.ends(f"refused before standard input is read: {told}", run("--support", "1", *words, "-", stdin=reading), ends)
+    for search, by in searches():
+        rows.ends(f"refused before a file is opened, {by}: {told}",
+                  run("--support", "1", *search, "--hierarchy", fifo, *words, fifo), ends)
+        rows.ends(f"refused before standard input is read, {by}: {told}",
+                  run("--support", "1", *search, *words, "-", stdin=reading), ends)
 os.close(reading)
 os.close(writing)
 
@@ -183,5 +193,5 @@ def plane(slopes):
 
 points = [[f"{place}_{height}"] for place in range(101) for height in range(101)]
 few = write("few", lines_of(plane(8)))
-by_each("10,201 prefixes that end", 8, [".*(.)[.*(.)]?.*", few], answer((point, 8) for point in points), ("dfs", "pivot"))
+by_each("10,201 prefixes that end", 8, [".*(.)[.*(.)]?.*", few], answer((point, 8) for point in points), MODES[1:])
 rows.finish()

@@ -9,8 +9,8 @@ _desq_files() {
 # Answers by COMPREPLY.
 _desq() {
     local with_value=" --support --hierarchy --engine --workers --simulate "
-    with_value+="--max-gap --min-length --max-length --generated --split "
-    local alone=" --weighted --stats --generalize "
+    with_value+="--max-gap --min-length --max-length --generated --split --check "
+    local alone=" --weighted --stats --generalize --merge --proof "
     local given=" " value_of="" named=0 bare=0 word i
     # What stands before the cursor: the options that were given, the one whose value comes now, and how many
     # words are no options. Bash may cut --option=value into three words.
@@ -37,7 +37,7 @@ _desq() {
     fi
     case $value_of in
         --engine) mapfile -t COMPREPLY < <(compgen -W "dfs pivot count" -- "$word") ;;
-        --hierarchy) _desq_files "$word" ;;
+        --hierarchy | --check) _desq_files "$word" ;;
         "")
             if [[ $named == 0 && $word == -* ]]; then
                 local left=() option
@@ -47,10 +47,11 @@ _desq() {
                 mapfile -t COMPREPLY < <(compgen -W "${left[*]}" -- "$word")
             else
                 # The sequence file stands behind the expression, or with --max-gap alone; with --generated
-                # there is none.
+                # there is none, and with --merge all are files.
                 local file_at=1
                 [[ $given != *" --max-gap "* ]] || file_at=0
                 [[ $given != *" --generated "* ]] || file_at=none
+                [[ $given != *" --merge "* ]] || file_at=$bare
                 [[ $bare != "$file_at" ]] || _desq_files "$word"
             fi
             ;;

@@ -17,7 +17,7 @@ function __desq_before
             switch $word
                 case --
                     set named yes
-                case --weighted --stats --generalize
+                case --weighted --stats --generalize --merge --proof
                     set -a given $word
                 case '--*=*'
                     set -a given (string split -m 1 = -- $word)[1]
@@ -30,7 +30,9 @@ function __desq_before
     end
     string join \n -- $given
     if test -z "$value_of"
-        if contains -- --max-gap $given
+        if contains -- --merge $given
+            echo file
+        else if contains -- --max-gap $given
             test $bare = 0; and echo file
         else
             test $bare = 0; and echo expression
@@ -63,3 +65,6 @@ complete -c desq -n 'not __desq_has --generalize' -l generalize -d 'items may be
 complete -c desq -n 'not __desq_has --generated' -l generated -x \
     -d 'mine so many made sequences, with no file'
 complete -c desq -n 'not __desq_has --split' -l split -x -d 'mine one share of the pivots, as 1/4'
+complete -c desq -n 'not __desq_has --merge' -l merge -d 'merge outputs of other runs, and mine nothing'
+complete -c desq -n 'not __desq_has --proof' -l proof -d 'write a proof of the answer in its place'
+complete -c desq -n 'not __desq_has --check' -l check -r -F -d 'judge a proof, and mine nothing'

@@ -4,12 +4,11 @@ use Rattle.std.specs.Prelude.{not}
 use Rattle.std.proofs.lemmas.Bool.{cases_Bool, cases_eq}
 use Rattle.std.proofs.lemmas.Bool.Decides.{nat_tests}
 use Rattle.mine_model.specs.Bytes.{quote, open_brace, close_brace}
-use Rattle.mine_model.specs.Tokens.{Token, name, sign, repeat, open_repeat, Placed, is_free, is_bare_byte, is_sign, is_quote, is_closing_brace, doubled, Each, BeginsOtherwise, Spells, AreTokensBefore, AreTokens, BeginsToken, IsBadToken}
-use Rattle.patex_grammar.proofs.BoundLemmas.{each-map}
+use Rattle.mine_model.specs.Tokens.{Token, name, sign, repeat, open_repeat, Placed, is_free, is_bare_byte, is_sign, is_quote, is_closing_brace, doubled, BeginsOtherwise, Spells, AreTokensBefore, AreTokens, BeginsToken, IsBadToken}
 use Rattle.patex_grammar.proofs.TokenLemmas.{doubled-cases, never-quote, quote-ends, nothing-begins-none}
 use Rattle.patex_parser.specs.Scanning.{IsUnclosed}
 use Rattle.patex_parser.proofs.PartLemmas.{IsCutAt}
-use Rattle.patex_parser.proofs.LexemeLemmas.{quote-begins-none, nothing-begins}
+use Rattle.patex_parser.proofs.LexemeLemmas.{quote-begins-none, nothing-begins, inner-each, brace-is}
 
 -- the bytes in front that pass a test
 pub cut-run : (test : ℕ → Bool) (bytes : List ℕ) → (front : List ℕ) × (back : List ℕ) × IsCutAt test bytes front back
@@ -95,23 +94,14 @@ closed-or-not (c ∷ e ∷ rest) = elim (cases_eq c quote) [
 
 -- One token
 
-brace-is : (b : ℕ) → not (is_closing_brace b) ≡ false → b ≡ close_brace
-brace-is b h = grind (arith, nat_tests)
-
-no-braces : (bytes : List ℕ) → Each (λ b. not (is_closing_brace b)) true bytes → Each is_closing_brace false bytes
-no-braces bytes each = each-map (λ b. not (is_closing_brace b)) is_closing_brace true false (λ b h. no-brace b h) bytes each
-  where
-    no-brace : (b : ℕ) → not (is_closing_brace b) ≡ true → is_closing_brace b ≡ false
-    no-brace b h = grind (arith, nat_tests)
-
 brace-begins : (more front back : List ℕ) → IsCutAt (λ b. not (is_closing_brace b)) more front back → BeginsToken (open_brace ∷ more)
-brace-begins more front [] cut = (open_brace ∷ front, open_repeat front, [], ap (λ l. open_brace ∷ l) cut.whole, (refl, no-braces front cut.each, refl))
+brace-begins more front [] cut = (open_brace ∷ front, open_repeat front, [], ap (λ l. open_brace ∷ l) cut.whole, (refl, inner-each front cut.each, refl))
 brace-begins more front (c ∷ back) cut = (
   open_brace ∷ front ++ close_brace ∷ [],
   repeat front,
   back,
   ap (λ l. open_brace ∷ l) (cut.whole ∙ ap (λ x. front ++ x ∷ back) (brace-is c cut.longest) ∙ sym (append_assoc front (close_brace ∷ []) back)),
-  (refl, no-braces front cut.each),
+  (refl, inner-each front cut.each),
 )
 
 bare-begins : (b : ℕ) (more : List ℕ) → is_bare_byte b ≡ true → BeginsToken (b ∷ more)

@@ -1,19 +1,15 @@
 -- What stands between the braces of a repeat says bounds, or none.
-use Rattle.std.proofs.Common.{◌≡◌, ◌≢◌, ◌⊎◌, ◌+◌, inl, inr, ℕ, true, false, min, Option, Some, None, List, [], ◌∷◌, ◌++◌, refl, sym, ap, ◌∙◌, subst, append-nil, true≢false, arith}
+use Rattle.std.proofs.Common.{◌≡◌, ◌≢◌, ◌⊎◌, ◌+◌, inl, inr, ℕ, true, false, min, Option, Some, None, List, [], ◌∷◌, ◌++◌, refl, sym, ap, ◌∙◌, subst, append-nil}
 use Rattle.std.specs.Prelude.{not, ◌==◌}
 use Rattle.std.specs.Char.{is_ascii_digit}
 use Rattle.std.proofs.lemmas.Bool.{cases_Bool, false≢true}
-use Rattle.std.proofs.lemmas.Bool.Decides.{nat_tests}
 use Rattle.mine_model.specs.Bytes.{comma}
 use Rattle.mine_model.specs.Limits.{most_times}
 use Rattle.mine_model.specs.Tokens.{Each, is_free, repeat}
 use Rattle.mine_model.specs.Grammar.{value_of_digits, IsPadded, IsRepeat}
 use Rattle.mine_model.specs.Refusal.{IsBadRepeat}
-use Rattle.mine_model.proofs.ListLemmas.{back_of_both}
 use Rattle.patex_grammar.specs.Bounds.{is_comma}
-use Rattle.patex_grammar.proofs.BoundLemmas.{each-map, each-append, free-commas, digit_no_comma}
-use Rattle.patex_grammar.proofs.TokenLemmas.{cut-same}
-use Rattle.patex_parser.proofs.PartLemmas.{IsCutAt, part-number, part-other, padded-not-free}
+use Rattle.patex_parser.proofs.PartLemmas.{IsCutAt, part-number, part-other, padded-not-free, comma-is, before-comma, AreParts, no-comma-in, repeat-parts}
 use Rattle.answer_laws.proofs.ListingLemmas.{Decided}
 use Rattle.answer_laws.proofs.CuttingLemmas.{cut-run}
 
@@ -50,39 +46,6 @@ number-or-not bytes = let (free, rest, cut) = cut-run is_free bytes in by free r
 
 -- Round the first comma
 
--- what the parts before and behind a comma say of the bounds
-abbrev AreParts : List ℕ → List ℕ → ℕ → Option ℕ → Type 0
-AreParts left right least most =
-    (IsPadded left least × Each is_free true right × (most ≡ None))
-    ⊎ (Each is_free true left × (least ≡ 0) × (m : ℕ) × IsPadded right m × (most ≡ Some m))
-    ⊎ (IsPadded left least × (m : ℕ) × IsPadded right m × (most ≡ Some m))
-
-number-no-comma : (bytes : List ℕ) (n : ℕ) → IsPadded bytes n → Each is_comma false bytes
-number-no-comma bytes n (before, digits, after, same, free, free', (are, some, value)) =
-    subst (Each is_comma false) (sym same)
-    (each-append is_comma false (before ++ digits) after
-    (each-append is_comma false before digits (free-commas before free) (each-map is_ascii_digit is_comma true false digit_no_comma digits are)) (free-commas after free'))
-
-left-no-comma : (left right : List ℕ) (least : ℕ) (most : Option ℕ) → AreParts left right least most → Each is_comma false left
-left-no-comma left right least most (inl is) = number-no-comma left least is.0
-left-no-comma left right least most (inr (inl is)) = free-commas left is.0
-left-no-comma left right least most (inr (inr is)) = number-no-comma left least is.0
-
-holds-comma : (left right bytes : List ℕ) → bytes ≡ left ++ comma ∷ right → Each is_comma false bytes → ⊥
-holds-comma left right bytes same none =
-    let both : Each is_comma false (left ++ comma ∷ right) = subst (Each is_comma false) same none in
-    true≢false (back_of_both (λ b. is_comma b ≡ false) left (comma ∷ right) both).0
-
--- bounds are said by the parts round the first comma
-first-comma : (between left right : List ℕ) (least : ℕ) (most : Option ℕ) → between ≡ left ++ comma ∷ right → Each is_comma false left
-    → IsRepeat between least most → AreParts left right least most
-first-comma between left right least most same none (inl is) = absurd (holds-comma left right between same (number-no-comma between least is.0))
-first-comma between left right least most same none (inr (left', right', same', parts)) =
-    let both = cut-same (λ b. is_comma b ≡ false) left left' (comma ∷ right) (comma ∷ right') none (left-no-comma left' right' least most parts)
-    (λ e. true≢false e) (λ e. true≢false e) (sym same ∙ same') in
-    let behind : right ≡ right' = let e : comma ∷ right ≡ comma ∷ right' = both.1 in cc in
-    subst (λ l. AreParts l right least most) (sym both.0) (subst (λ r. AreParts left' r least most) (sym behind) parts)
-
 -- bounds are said, or no bounds are
 abbrev pub SaysBounds : List ℕ → Type 0
 SaysBounds between = (least : ℕ) × (most : Option ℕ) × IsRepeat between least most
@@ -94,7 +57,7 @@ parts-or-none : (between left right : List ℕ) → between ≡ left ++ comma �
 parts-or-none between left right same none = by (number-or-not left) (number-or-not right) (blank-or-not left) (blank-or-not right)
   where
     neither : ((least : ℕ) (most : Option ℕ) → AreParts left right least most → ⊥) → SaysNone between
-    neither never least most is = never least most (first-comma between left right least most same none is)
+    neither never least most is = never least most (repeat-parts between left right least most same none is)
 
     by : Decided (HasNumber left) → Decided (HasNumber right) → Decided (Each is_free true left) → Decided (Each is_free true right) → SaysBounds between ⊎ SaysNone between
     by (inl n) right_number left_blank (inl free) = inl (n.0, None, inr (left, right, same, inl (n.1, free, refl)))
@@ -113,27 +76,18 @@ parts-or-none between left right same none = by (number-or-not left) (number-or-
       | inr other ↦ elim other [ inl is ↦ no_right (is.2, is.3) | inr is ↦ never (least, is.0) ]
     ]))
 
-no-commas : (bytes : List ℕ) → Each (λ b. not (b == comma)) true bytes → Each is_comma false bytes
-no-commas bytes each = each-map (λ b. not (b == comma)) is_comma true false (λ b h. no-comma b h) bytes each
-  where
-    no-comma : (b : ℕ) → not (b == comma) ≡ true → is_comma b ≡ false
-    no-comma b h = grind (arith, nat_tests)
-
-comma-is : (b : ℕ) → not (b == comma) ≡ false → b ≡ comma
-comma-is b h = grind (arith, nat_tests)
-
 bounds-or-none : (between : List ℕ) → SaysBounds between ⊎ SaysNone between
 bounds-or-none between = let (front, behind, cut) = cut-run (λ b. not (b == comma)) between in by front behind cut
   where
     by : (front behind : List ℕ) → IsCutAt (λ b. not (b == comma)) between front behind → SaysBounds between ⊎ SaysNone between
-    by front (b ∷ back) cut = parts-or-none between front back (cut.whole ∙ ap (λ x. front ++ x ∷ back) (comma-is b cut.longest)) (no-commas front cut.each)
+    by front (b ∷ back) cut = parts-or-none between front back (cut.whole ∙ ap (λ x. front ++ x ∷ back) (comma-is b cut.longest)) (before-comma front cut.each)
     by front [] cut = elim (number-or-not between) [
       | inl n ↦ inl (n.0, Some n.0, inl (n.1, refl))
       | inr never ↦
-          let none : Each is_comma false between = subst (Each is_comma false) (sym (cut.whole ∙ append-nil front)) (no-commas front cut.each) in
+          let none : Each is_comma false between = subst (Each is_comma false) (sym (cut.whole ∙ append-nil front)) (before-comma front cut.each) in
           inr (λ least most is. elim is [
             | inl one ↦ never (least, one.0)
-            | inr parts ↦ holds-comma parts.0 parts.1 between parts.2 none
+            | inr parts ↦ no-comma-in parts.0 parts.1 between parts.2 none
           ])
     ]
 

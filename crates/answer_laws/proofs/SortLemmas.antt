@@ -1,7 +1,6 @@
 -- Rows, sorted.
 use Rattle.std.proofs.Common.{◌≡◌, ◌⊎◌, ◌↔◌, inl, inr, ℕ, List, [], ◌∷◌, refl, sym, ap, ◌∙◌, subst, arith, Contains}
-use Rattle.std.specs.List.{AllByRecursion}
-use Rattle.std.specs.Ordering.{nat_cmp, ordering_then, ordering_reverse, is_eq}
+use Rattle.std.specs.Ordering.{nat_cmp, ordering_reverse, is_eq}
 use Rattle.std.specs.Cmp.Lexicographic.{slice_cmp}
 use Rattle.std.specs.declared.cmp.Ordering.{Ordering}
 use Rattle.std.specs.declared.cmp.Ordering.TheVariants.{Less, Equal, Greater}
@@ -10,13 +9,8 @@ use Rattle.std.proofs.lemmas.Cmp.{lists_total, nat_list_cmp_total}
 use Rattle.std.proofs.lemmas.Map.Text.{is_eq-slice_cmp}
 use Rattle.std.proofs.lemmas.Slice.Eq.{bytes_eq-Decides}
 use Rattle.mine_model.specs.Answer.{NamedRow, ComesBefore, Rises}
-use Rattle.mine_model.proofs.ListLemmas.{Contains-cases, Contains-first, Contains-other, AllByRecursion-contained, AllByRecursion-weaker}
-use Rattle.mine_model.proofs.AnswerLemmas.{ComesBefore-chain}
-
-both_equal : (first second : Ordering) → ordering_then first second ≡ Equal → (first ≡ Equal) × (second ≡ Equal)
-both_equal Less second e = cc
-both_equal Equal second e = (refl, e)
-both_equal Greater second e = cc
+use Rattle.mine_model.proofs.ListLemmas.{Contains-cases, Contains-first, Contains-other, AllByRecursion-contained, AllByRecursion-from, AllByRecursion-weaker}
+use Rattle.mine_model.proofs.AnswerLemmas.{both_equal, ComesBefore-chain}
 
 -- names that compare as equal are the same
 names_same : (names others : List (List ℕ)) → slice_cmp (slice_cmp nat_cmp) names others ≡ Equal → names ≡ others
@@ -53,10 +47,6 @@ pub record IsSorted (rows sorted : List NamedRow) : Type 0 where
   pub ordered : Rises sorted
   pub exact : (row : NamedRow) → Contains sorted row ↔ Contains rows row
 
-all_of : {X : Type 0} (P : X → Type 0) (xs : List X) → ((x : X) → Contains xs x → P x) → AllByRecursion P xs
-all_of P [] each = tt
-all_of P (x ∷ xs) each = (each x (Contains-first x xs), all_of P xs (λ y held. each y (Contains-other x xs y held)))
-
 -- one more row in its place
 inserted : (row : NamedRow) (rows : List NamedRow) → Rises rows → (sorted : List NamedRow) × IsSorted (row ∷ rows) sorted
 inserted row [] rises = (row ∷ [], record { ordered = (tt, tt); exact = λ other. (λ held. held, λ held. held) })
@@ -90,7 +80,7 @@ inserted row (first ∷ rows) rises = by (ComesBefore-cases row first) (inserted
     by (inr (inr after)) (sorted, is) = (
       first ∷ sorted,
       record {
-        ordered = (all_of (ComesBefore first) sorted (λ other held. behind other ((is.exact other).0 held)), is.ordered);
+        ordered = (AllByRecursion-from (ComesBefore first) sorted (λ other held. behind other ((is.exact other).0 held)), is.ordered);
         exact = λ other. (λ held. forth other (Contains-cases first sorted other held), λ held. back other (Contains-cases row (first ∷ rows) other held));
       },
     )

@@ -12,5 +12,9 @@ pub mod OptionWords
 pub mod AnyOrder
 pub mod AnyWalk
 pub mod AnyRows
+pub mod AnyUses
 pub mod AnyCommand
 pub mod SameCommand
+pub mod LineCommand
+pub mod MergedCommand
+pub mod ProofCommand

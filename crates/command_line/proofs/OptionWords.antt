@@ -97,6 +97,18 @@ split : IsNamed (codes "split")
 unfolding options desq
 split = (rule_named (codes "split"), refl, refl, refl, refl, refl, (λ value. (refl, refl)))
 
+merge : IsNamed (codes "merge")
+unfolding options desq
+merge = (rule_named (codes "merge"), refl, refl, refl, refl, refl, (λ value. (refl, refl)))
+
+proof : IsNamed (codes "proof")
+unfolding options desq
+proof = (rule_named (codes "proof"), refl, refl, refl, refl, refl, (λ value. (refl, refl)))
+
+check : IsNamed (codes "check")
+unfolding options desq
+check = (rule_named (codes "check"), refl, refl, refl, refl, refl, (λ value. (refl, refl)))
+
 -- each option of the command
 pub each_once : AllByRecursion (λ rule. IfSome rule.long IsOnce) options
 unfolding options
@@ -126,7 +138,10 @@ each_once = (
                         once (codes "generated") generated,
                         (
                           once (codes "split") split,
-                          (tt, (tt, tt)),
+                          (
+                            once (codes "merge") merge,
+                            (once (codes "proof") proof, (once (codes "check") check, (tt, (tt, tt)))),
+                          ),
                         ),
                       ),
                     ),

@@ -3,11 +3,11 @@ use Rattle.std.proofs.Common.{◌≡◌, ◌∙◌, ◌↔◌, ap, ap₂, arith,
 use Rattle.clap.specs.Words.{Row, Text, Kinds, Shape, built}
 use Rattle.clap.specs.Kinds.{or_else}
 use Rattle.clap.specs.Simple.{entered}
-use Rattle.clap.specs.Walk.{Walk, finished, idle, nothing_held, option, settled, walk, walk_from, walked}
+use Rattle.clap.specs.Walk.{Walk, finished, idle, nothing_held, option, positional, settled, walk, walk_from, walked}
 use Rattle.clap.specs.Faults.{check_fault, defaults_fault, entered_fault, settle_fault, turn_fault, walk_fault}
 use Rattle.clap.proofs.OnLiterals.{clap_on_literals}
 use Rattle.command_line.specs.Options.{options, desq, faults, rows}
-use Rattle.command_line.specs.Words.{GivesSource, GivesSupport, GivesMode, HasNoRule, IsCommand, IsNumber, KeepsRules, Says, read}
+use Rattle.command_line.specs.Words.{GivesSource, GivesSupport, GivesMode, GivesTask, HasNoRule, IsCommand, IsNumber, KeepsRules, Says, mine, read}
 use Rattle.mine_model.specs.Limits.{most_support, most_workers}
 use Rattle.command_line.specs.declared.words.Engine.TheVariants.{Dfs}
 use Rattle.command_line.specs.PlainWords.{IsPlainWord, plain_command}
@@ -31,11 +31,11 @@ flag_off : (value : Option Text) → value ≡ Some (codes "false") → IsTrue f
 flag_off value off = search rules
 
 -- an option that stands alone and was not given is not given
-not_given : (value : Option Text) → value ≡ Some (codes "false") → value ≡ Some (codes "true") → ⊥
+pub not_given : (value : Option Text) → value ≡ Some (codes "false") → value ≡ Some (codes "true") → ⊥
 not_given value off = search rules
 
 -- the number of workers of a run that asks for none
-four : IsNumber 1 most_workers (codes "4") 4
+pub four : IsNumber 1 most_workers (codes "4") 4
 four = record { decimal = ((refl, tt), (λ none. absurd (cc)), refl); within = (omega arith, omega arith) }
 
 module _ (digits : Text) (p : IsPlainWord digits) where
@@ -94,7 +94,7 @@ module _ (digits : Text) (p : IsPlainWord digits) where
     w3 = between (plain_step top.rules w2 expression).held idle 2
 
     abbrev w4 : Walk
-    w4 = between (plain_step top.rules w3 file).held idle 3
+    w4 = between (plain_step top.rules w3 file).held positional 2
 
     -- what is found at the end
     abbrev found : List Row
@@ -118,7 +118,11 @@ module _ (digits : Text) (p : IsPlainWord digits) where
 
     end_source : GivesSource found (read expression file)
     unfolding clap_on_literals options desq
-    end_source = (refl, refl, refl, no_rule)
+    end_source = (refl, refl, refl, no_rule, not_given _ refl)
+
+    end_task : GivesTask found mine
+    unfolding clap_on_literals options desq
+    end_task = (not_given _ refl, refl)
 
     end_rules : KeepsRules found
     unfolding clap_on_literals options desq
@@ -127,9 +131,10 @@ module _ (digits : Text) (p : IsPlainWord digits) where
       mode = (Dfs, None, None, end_mode);
       workers = (4, four);
       source = (read expression file, end_source);
+      task = (mine, end_task);
     }
 
-    end_says : Says found (plain_command n expression file)
+    end_says : Says found (plain_command n (read expression file))
     unfolding clap_on_literals options desq
     end_says = record {
       support = end_support;
@@ -139,13 +144,14 @@ module _ (digits : Text) (p : IsPlainWord digits) where
       mode = end_mode;
       workers = four;
       stats = flag_off _ refl;
+      task = end_task;
     }
 
-    says : (all : List Text) → faults all ≡ [] → rows all ≡ found → IsCommand all (plain_command n expression file)
+    says : (all : List Text) → faults all ≡ [] → rows all ≡ found → IsCommand all (plain_command n (read expression file))
     says all taken is = record {
       taken = taken;
       rules = subst KeepsRules (sym is) end_rules;
-      says = subst (λ (r : List Row). Says r (plain_command n expression file)) (sym is) end_says;
+      says = subst (λ (r : List Row). Says r (plain_command n (read expression file))) (sym is) end_says;
     }
 
     module _ (q : IsPlainWord expression) (r : IsPlainWord file) where
@@ -171,7 +177,7 @@ module _ (digits : Text) (p : IsPlainWord digits) where
       unfolding options desq
       faults3 = walk_fault_plain top w2.held w2.waiting w2.position expression (file ∷ []) q ∙ faults4
 
-      pub plain_says : IsCommand (words plain) (plain_command n expression file)
+      pub plain_says : IsCommand (words plain) (plain_command n (read expression file))
       plain_says = says (words plain) (faults_end plain w4 ends faults3 ∙ none_at_end) (rows_end plain w4 ends)
 
     -- the same behind --, where each word is taken as it is
@@ -189,5 +195,5 @@ module _ (digits : Text) (p : IsPlainWord digits) where
     unfolding clap_on_literals options desq
     behind_clean = refl
 
-    pub behind_says : IsCommand (words behind) (plain_command n expression file)
+    pub behind_says : IsCommand (words behind) (plain_command n (read expression file))
     behind_says = says (words behind) (faults_end behind b4 behind_ends behind_clean ∙ none_at_end) (rows_end behind b4 behind_ends)

@@ -24,7 +24,7 @@ no_dashes (word ∷ words) free = (go (bytes_eq word dashes) refl, no_dashes wor
 
 pub options_single : AreSingle top.rules
 unfolding options desq
-options_single = record { shorts = λ x. refl; trailing = refl; single = refl; several = refl }
+options_single = record { shorts = λ x. refl; trailing = refl; kept = refl; several = refl }
 
 pub faults_are : (words : List Text) → faults words ≡ faults_at (walk top.rules [] nothing_held words) (walk_fault top [] (walk_from nothing_held) words)
 unfolding faults options desq

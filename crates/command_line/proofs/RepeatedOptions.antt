@@ -8,7 +8,7 @@ use Rattle.clap.specs.Lexer.{long_of, short_of}
 use Rattle.clap.specs.Walk.{Held, Step, Waiting, Walk, action_of, after_flag, after_step, arg_by_id, arg_by_index, arg_by_long, has_row, idle, is_pending, long_met, long_or_other, more_values, next, nothing_held, option, option_word, plain_word, positional, pushed, reading_by, settled, settled_rows, short_or_plain, started, subcommand, subcommand_or_other, takes_several, takes_values, trailing, used, used_as, used_by_id, value, values_or_missing, walked, with_values, without, word_met}
 use Rattle.clap.specs.Faults.{action_fault, flag_word_fault, long_fault, option_fault, other_fault, positional_fault, react_fault, repeat_fault, settle_fault, step_fault, stray_fault, turn_fault, use_fault, walk_fault, word_fault}
 use Rattle.clap.specs.declared.builder.action.ArgAction.{ArgAction}
-use Rattle.clap.specs.declared.builder.action.ArgAction.TheVariants.{Set, SetTrue}
+use Rattle.clap.specs.declared.builder.action.ArgAction.TheVariants.{Set, SetTrue, Append}
 use Rattle.clap.specs.declared.builder.value_parser.Reading.{Reading}
 use Rattle.clap.specs.declared.error.kind.ErrorKind.{ErrorKind}
 use Rattle.clap.specs.declared.error.kind.ErrorKind.TheVariants as kind
@@ -16,7 +16,7 @@ use Rattle.clap.specs.declared.parser.matches.ValueSource.{ValueSource}
 use Rattle.clap.specs.declared.parser.matches.ValueSource.TheVariants.{CommandLine}
 use Rattle.clap.proofs.SimpleLemmas.{is_false}
 use Rattle.command_line.proofs.PlainWordLemmas.{between, no_subcommand}
-use Rattle.command_line.proofs.Walking.{AreSingle, Lasts, NoDashes, dashes, flag_or_option, found_has, goes_from, is_single, or_else-nil, short_is}
+use Rattle.command_line.proofs.Walking.{AreSingle, Lasts, NoDashes, dashes, flag_or_option, found_has, goes_from, is_kept, is_single, or_else-nil, short_is, single-kept}
 
 nonempty : (k : ErrorKind) (ks : Kinds) → k ∷ ks ≡ [] → ⊥
 nonempty k ks e = cc
@@ -76,20 +76,37 @@ single_use Set id how values rows e = refl
 single_use SetTrue id how values rows e = refl
 single_use action id how values rows e = absurd (true≢false (sym e))
 
--- a use of an argument gives it a row
-has_own : (a : Rule) (values : List Text) (rows : List Row) → is_single (action_of a) ≡ true → has_row a.id (used a values rows) ≡ true
-has_own a values rows e =
-    subst (λ (rs : List Row). has_row a.id rs ≡ true) (sym (single_use (action_of a) a.id (reading_by a) (values_or_missing a values) rows e))
-    (has_added a.id (reading_by a) CommandLine (values_or_missing a values) (without a.id rows))
+-- a use of an argument is one more row, or one more value of its row
+kept_use : (action : ArgAction) (id : Text) (how : Reading) (values : List Text) (rows : List Row) → is_kept action ≡ true
+    → (used_as action id how values rows ≡ with_values id how CommandLine values (without id rows)) ⊎ (used_as action id how values rows ≡ with_values id how CommandLine values rows)
+kept_use Set id how values rows e = inl refl
+kept_use SetTrue id how values rows e = inl refl
+kept_use Append id how values rows e = inr refl
+kept_use action id how values rows e = absurd (true≢false (sym e))
 
-has_other : (a : Rule) (values : List Text) (rows : List Row) (id : Text) → is_single (action_of a) ≡ true → has_row id rows ≡ true → has_row id (used a values rows) ≡ true
+-- a use of an argument gives it a row
+has_own : (a : Rule) (values : List Text) (rows : List Row) → is_kept (action_of a) ≡ true → has_row a.id (used a values rows) ≡ true
+has_own a values rows e =
+    let given = values_or_missing a values in
+    let how = reading_by a in
+    elim (kept_use (action_of a) a.id how given rows e) [
+      | inl is ↦ subst (λ (rs : List Row). has_row a.id rs ≡ true) (sym is) (has_added a.id how CommandLine given (without a.id rows))
+      | inr is ↦ subst (λ (rs : List Row). has_row a.id rs ≡ true) (sym is) (has_added a.id how CommandLine given rows)
+    ]
+
+has_other : (a : Rule) (values : List Text) (rows : List Row) (id : Text) → is_kept (action_of a) ≡ true → has_row id rows ≡ true → has_row id (used a values rows) ≡ true
 has_other a values rows id e has = go (bytes_eq a.id id) refl
   where
+    given : List Text
+    given = values_or_missing a values
+
     go : (b : Bool) → bytes_eq a.id id ≡ b → has_row id (used a values rows) ≡ true
     go true same = subst (λ (t : Text). has_row t (used a values rows) ≡ true) ((bytes_eq-Decides a.id id).0 same) (has_own a values rows e)
-    go false differ =
-        subst (λ (rs : List Row). has_row id rs ≡ true) (sym (single_use (action_of a) a.id (reading_by a) (values_or_missing a values) rows e))
-        (has_with id a.id (reading_by a) CommandLine (values_or_missing a values) (without a.id rows) (has_without id a.id rows differ has))
+    go false differ = elim (kept_use (action_of a) a.id (reading_by a) given rows e) [
+      | inl is ↦
+          subst (λ (rs : List Row). has_row id rs ≡ true) (sym is) (has_with id a.id (reading_by a) CommandLine given (without a.id rows) (has_without id a.id rows differ has))
+      | inr is ↦ subst (λ (rs : List Row). has_row id rs ≡ true) (sym is) (has_with id a.id (reading_by a) CommandLine given rows has)
+    ]
 
 -- where the walk stands, in front of `--` or behind it
 abbrev pub stood : Held → Waiting → ℕ → Bool → Walk
@@ -112,6 +129,9 @@ action_refused action again a values rows e strict has f = absurd (true≢false 
 
 module _ (s : Shape) (single : AreSingle s.rules) (strict : s.args_override_self ≡ false) (rule : Rule) (one : is_single (action_of rule) ≡ true)
     (known : arg_by_id s.rules rule.id ≡ Some rule) where
+  kept : is_kept (action_of rule) ≡ true
+  kept = single-kept (action_of rule) one
+
   -- a use that follows another is refused
   use_refused : (values : List Text) (rows : List Row) → has_row rule.id rows ≡ true → use_fault s.args_override_self rule values rows ≡ [] → ⊥
   use_refused values rows has f = action_refused (action_of rule) s.args_override_self rule (values_or_missing rule values) rows one strict has (or_else-nil _ _ f).1
@@ -126,18 +146,18 @@ module _ (s : Shape) (single : AreSingle s.rules) (strict : s.args_override_self
     where
       go : (o : Option Rule) → arg_by_id s.rules p.0 ≡ o → has_row rule.id (used_by_id o p.1 rows) ≡ true
       go None e = has
-      go (Some a) e = has_other a p.1 rows rule.id (found_has _ (λ r. is_single (action_of r)) s.rules a single.single e) has
+      go (Some a) e = has_other a p.1 rows rule.id (found_has _ (λ r. is_kept (action_of r)) s.rules a single.kept e) has
 
   settled_has : (h : Held) → IsUsed h → has_row rule.id (settled s.rules h).rows ≡ true
   settled_has h (inl has) = settled_kept h.pending h.rows has
   settled_has h (inr (values, e)) =
       subst (λ (p : Option (Text × List Text)). has_row rule.id (settled_rows s.rules p h.rows) ≡ true) (sym e)
-      (subst (λ (o : Option Rule). has_row rule.id (used_by_id o values h.rows) ≡ true) (sym known) (has_own rule values h.rows one))
+      (subst (λ (o : Option Rule). has_row rule.id (used_by_id o values h.rows) ≡ true) (sym known) (has_own rule values h.rows kept))
 
   pushed_is : (id word : Text) (h : Held) (values : List Text) → h.pending ≡ Some (rule.id, values) → (pushed id word h).pending ≡ Some (rule.id, values ++ word ∷ [])
   pushed_is id word h values e = ap (λ (p : Option (Text × List Text)). Some ((started id p).0, (started id p).1 ++ word ∷ [])) e
 
-  used_used : (a : Rule) (values : List Text) (h : Held) → is_single (action_of a) ≡ true → IsUsed h → IsUsed (record h { rows = used a values h.rows })
+  used_used : (a : Rule) (values : List Text) (h : Held) → is_kept (action_of a) ≡ true → IsUsed h → IsUsed (record h { rows = used a values h.rows })
   used_used a values h e (inl has) = inl (has_other a values h.rows rule.id e has)
   used_used a values h e (inr pending) = inr pending
 
@@ -275,10 +295,10 @@ module _ (s : Shape) (single : AreSingle s.rules) (strict : s.args_override_self
         go : (b : Bool) (w : Option Text) → (if b then option_fault s.rules s.args_override_self rule w h
             else (if is_some w then kind.TooManyValues ∷ [] else react_fault s.rules s.args_override_self rule [] h)) ≡ []
             → GoesTo IsUsed (after_flag s.rules waiting word (flag_or_option s.rules rule h b w).0 (flag_or_option s.rules rule h b w).1)
-        go true (Some x) g = (idle, refl, inl (has_own rule (x ∷ []) (settled s.rules h).rows one))
+        go true (Some x) g = (idle, refl, inl (has_own rule (x ∷ []) (settled s.rules h).rows kept))
         go true None g = (option rule.id, refl, inr ([], refl))
         go false (Some x) g = absurd (nonempty kind.TooManyValues [] g)
-        go false None g = (idle, refl, inl (has_own rule [] (settled s.rules h).rows one))
+        go false None g = (idle, refl, inl (has_own rule [] (settled s.rules h).rows kept))
 
     met_again : (waiting : Waiting) (h : Held) → IsUsed h → long_fault s.rules s.args_override_self (Some rule) v h ≡ [] → GoesTo IsTwice (met waiting h)
     met_again waiting h q f = go (takes_values rule) v f

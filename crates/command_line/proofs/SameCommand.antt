@@ -1,17 +1,17 @@
--- What rows say is said by the first value of each name.
-use Rattle.std.proofs.Common.{◌≡◌, ◌↔◌, ◌∙◌, sym, ap, subst, ℕ, List, codes, Option, Some, None, unwrap_or}
+-- What rows say is said by the values of each name.
+use Rattle.std.proofs.Common.{◌≡◌, ◌↔◌, ◌∙◌, sym, ap, subst, ℕ, List, [], ◌∷◌, codes, Option, Some, None, unwrap_or}
 use Rattle.mine_model.specs.Limits.{most_workers}
 use Rattle.gap_front.specs.declared.rule.GapRule.{GapRule}
 use Rattle.gap_front.specs.Embedding.{most_rule_length}
-use Rattle.clap.specs.Words.{Row, Text, first_of}
+use Rattle.clap.specs.Words.{Row, Text, all_of, first_of}
 use Rattle.command_line.specs.Options.{rows}
-use Rattle.command_line.specs.Words.{Command, GivesEngine, GivesLength, GivesMade, GivesMode, GivesRule, GivesSeed, GivesShare, GivesSource, GivesSupport, GivesWorkers, HasNoRule, IsCommand, IsGiven, IsNumber, KeepsRules, Says, Source, embed, make, read}
+use Rattle.command_line.specs.Words.{Command, GivesEngine, GivesLength, GivesMade, GivesMerge, GivesMode, GivesRule, GivesSeed, GivesShare, GivesSource, GivesSupport, GivesTask, GivesWorkers, HasNoOther, HasNoRule, IsCommand, IsGiven, IsNumber, IsProvable, KeepsRules, Says, Source, Task, check, embed, files_in, make, merge, mine, prove, read}
 use Rattle.command_line.specs.declared.words.Engine.{Engine}
 use Rattle.command_line.specs.declared.share.Share.{Share}
 use Rattle.command_line.specs.Items.{HaveSameValues, IsLine, Item, words_of}
-use Rattle.command_line.proofs.AnyCommand.{same_faults, same_values}
+use Rattle.command_line.proofs.AnyCommand.{same_all, same_faults, same_first}
 
-module _ (a b : List Row) (same : (id : Text) → first_of id a ≡ first_of id b) where
+module _ (a b : List Row) (same : (id : Text) → first_of id a ≡ first_of id b) (all : (id : Text) → all_of id a ≡ all_of id b) where
   is_in : (name : Text) (o : Option Text) → first_of name a ≡ o → first_of name b ≡ o
   is_in name o e = sym (same name) ∙ e
 
@@ -80,22 +80,80 @@ module _ (a b : List Row) (same : (id : Text) → first_of id a ≡ first_of id 
     rule = no_rule_in m.rule;
   }
 
-  source_in : (source : Source) → GivesSource a source → GivesSource b source
-  source_in (read expression file) (e, f, g, r) =
-      (is_in (codes "expression") (Some expression) e, is_in (codes "file") (Some file) f, is_in (codes "generated") None g, no_rule_in r)
-  source_in (embed rule file) (e, f, g, r) =
-      (is_in (codes "expression") (Some file) e, is_in (codes "file") None f, is_in (codes "generated") None g, rule_in rule r)
-  source_in (make count expression) (e, m) = (is_in (codes "expression") (Some expression) e, made_in count m)
+  files_same : files_in b ≡ files_in a
+  files_same = ap (λ (o : Option (List Text)). unwrap_or o []) (sym (all (codes "file")))
 
-  keeps_in : KeepsRules a → KeepsRules b
+  no_other_in : HasNoOther a → HasNoOther b
+  no_other_in n = record {
+    generated = is_in (codes "generated") None n.generated;
+    rule = no_rule_in n.rule;
+    hierarchy = is_in (codes "hierarchy") None n.hierarchy;
+    weighted = not_in (codes "weighted") n.weighted;
+    engine = is_in (codes "engine") None n.engine;
+    workers = is_in (codes "workers") None n.workers;
+    simulate = is_in (codes "simulate") None n.simulate;
+    split = is_in (codes "split") None n.split;
+    stats = not_in (codes "stats") n.stats;
+    proof = not_in (codes "proof") n.proof;
+    check = is_in (codes "check") None n.check;
+  }
+
+  merge_in : (files : List Text) → GivesMerge a files → GivesMerge b files
+  merge_in files m = record {
+    given = is_in (codes "merge") (Some (codes "true")) m.given;
+    first = m.first;
+    named = is_in (codes "expression") (Some m.first) m.named;
+    all = m.all ∙ ap (λ (l : List Text). m.first ∷ l) (sym files_same);
+    few = m.few;
+    alone = no_other_in m.alone;
+  }
+
+  source_in : (source : Source) → GivesSource a source → GivesSource b source
+  source_in (read expression file) (e, f, g, r, m) = (
+    is_in (codes "expression") (Some expression) e,
+    files_same ∙ f,
+    is_in (codes "generated") None g,
+    no_rule_in r,
+    not_in (codes "merge") m,
+  )
+  source_in (embed rule file) (e, f, g, r, m) = (
+    is_in (codes "expression") (Some file) e,
+    is_in (codes "file") None f,
+    is_in (codes "generated") None g,
+    rule_in rule r,
+    not_in (codes "merge") m,
+  )
+  source_in (make count expression) (e, g, m) = (is_in (codes "expression") (Some expression) e, made_in count g, not_in (codes "merge") m)
+  source_in (merge files) m = merge_in files m
+
+  provable_in : IsProvable a → IsProvable b
+  provable_in p = record {
+    generated = is_in (codes "generated") None p.generated;
+    gap = is_in (codes "max-gap") None p.gap;
+    split = is_in (codes "split") None p.split;
+  }
+
+  task_in : (task : Task) → GivesTask a task → GivesTask b task
+  task_in mine (p, c) = (not_in (codes "proof") p, is_in (codes "check") None c)
+  task_in prove (p, c, r) = (is_in (codes "proof") (Some (codes "true")) p, is_in (codes "check") None c, provable_in r)
+  task_in (check proof) c = record {
+    given = is_in (codes "check") (Some proof) c.given;
+    only = not_in (codes "proof") c.only;
+    provable = provable_in c.provable;
+    stats = not_in (codes "stats") c.stats;
+    simulate = is_in (codes "simulate") None c.simulate;
+  }
+
+  pub keeps_in : KeepsRules a → KeepsRules b
   keeps_in k = record {
     support = (k.support.0, support_in k.support.0 k.support.1);
     mode = (k.mode.0, k.mode.1, k.mode.2, mode_in k.mode.0 k.mode.1 k.mode.2 k.mode.3);
     workers = (k.workers.0, workers_in k.workers.0 k.workers.1);
     source = (k.source.0, source_in k.source.0 k.source.1);
+    task = (k.task.0, task_in k.task.0 k.task.1);
   }
 
-  says_in : (command : Command) → Says a command → Says b command
+  pub says_in : (command : Command) → Says a command → Says b command
   says_in command s = record {
     support = support_in command.threshold s.support;
     source = source_in command.source s.source;
@@ -104,18 +162,20 @@ module _ (a b : List Row) (same : (id : Text) → first_of id a ≡ first_of id 
     mode = mode_in command.engine command.seed command.share s.mode;
     workers = workers_in command.workers s.workers;
     stats = given_in (codes "stats") s.stats;
+    task = task_in command.task s.task;
   }
 
 says_as : (items others : List Item) (command : Command) → IsLine items → IsLine others → HaveSameValues items others
     → IsCommand (words_of items) command → IsCommand (words_of others) command
 says_as items others command line other same is =
-    let values = same_values items others line.0 line.1 other.0 other.1 same in record {
-      taken = sym (same_faults items others line.0 line.1 other.0 other.1 same) ∙ is.taken;
-      rules = keeps_in (rows (words_of items)) (rows (words_of others)) values is.rules;
-      says = says_in (rows (words_of items)) (rows (words_of others)) values command is.says;
+    let first = same_first items others line other same in
+    let all = same_all items others line other same in record {
+      taken = sym (same_faults items others line other same) ∙ is.taken;
+      rules = keeps_in (rows (words_of items)) (rows (words_of others)) first all is.rules;
+      says = says_in (rows (words_of items)) (rows (words_of others)) first all command is.says;
     }
 
 pub says_the_same : (items others : List Item) (command : Command) → IsLine items → IsLine others → HaveSameValues items others
     → IsCommand (words_of items) command ↔ IsCommand (words_of others) command
 says_the_same items others command line other same =
-    (says_as items others command line other same, says_as others items command other line (λ name. sym (same name)))
+    (says_as items others command line other same, says_as others items command other line (sym same.0, (λ name. sym (same.1 name))))

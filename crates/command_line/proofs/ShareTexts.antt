@@ -1,5 +1,5 @@
 -- A text says at most one share.
-use Rattle.std.proofs.Common.{◌≡◌, ◌≢◌, ◌∙◌, ℕ, ◌≤◌, ◌<◌, sym, ap, subst, refl, arith, true, true≢false, false, List, [], ◌∷◌, ◌++◌, Option, Some, None, get_or, length, zero, suc, codes}
+use Rattle.std.proofs.Common.{◌≡◌, ◌≢◌, ◌∙◌, ℕ, ◌<◌, sym, ap, subst, refl, arith, true, true≢false, false, List, [], ◌∷◌, ◌++◌, Option, Some, None, get_or, length, suc, codes}
 use Rattle.std.specs.Char.{is_ascii_digit}
 use Rattle.std.specs.List.{AllByRecursion}
 use Rattle.std.proofs.lemmas.Option.{none-some}

@@ -9,7 +9,7 @@ use Rattle.clap.specs.Lexer.{long_of, short_of}
 use Rattle.clap.specs.Walk.{Held, Outcome, Step, Waiting, Walk, action_of, after_flag, after_step, arg_by_id, arg_by_index, arg_by_long, arg_by_short, bundle_met, bundle_step, flag_met, idle, is_multiple, is_pending, long_met, long_or_other, next, next_position, option, option_met, option_word, plain, plain_word, positional, positional_held, pushed, refused, settled, short_or_plain, short_word, subcommand, takes_several, takes_values, to_positional, trailing, used, value, walked, word_met}
 use Rattle.clap.specs.Faults.{turn_fault, walk_fault}
 use Rattle.clap.specs.declared.builder.action.ArgAction.{ArgAction}
-use Rattle.clap.specs.declared.builder.action.ArgAction.TheVariants.{Set, SetTrue}
+use Rattle.clap.specs.declared.builder.action.ArgAction.TheVariants.{Set, SetTrue, Append}
 use Rattle.clap.proofs.WalkLemmas.{both}
 use Rattle.clap.proofs.SimpleLemmas.{is_false}
 use Rattle.command_line.proofs.PlainWordLemmas.{between, no_subcommand}
@@ -37,12 +37,23 @@ is_single Set = true
 is_single SetTrue = true
 is_single _ = false
 
+-- a use of the argument leaves what was found of others, and is found
+abbrev pub is_kept : ArgAction → Bool
+is_kept Append = true
+is_kept action = is_single action
+
+pub single-kept : (action : ArgAction) → is_single action ≡ true → is_kept action ≡ true
+single-kept Append e = refl
+single-kept Set e = refl
+single-kept SetTrue e = refl
+single-kept action e = e
+
 -- the arguments of a command as this one: none has a short name or reads what follows it as it is, and each
--- takes one use, of one value at the most
+-- use, of one value at the most, is found
 pub record AreSingle (c : List Rule) : Type 0 where
   pub shorts : (x : ℕ) → arg_by_short c x ≡ None
   pub trailing : list_all (λ r. not r.trailing_var_arg) c ≡ true
-  pub single : list_all (λ r. is_single (action_of r)) c ≡ true
+  pub kept : list_all (λ r. is_kept (action_of r)) c ≡ true
   pub several : list_all (λ r. not (takes_several r)) c ≡ true
 
 -- what the steps of a walk keep
@@ -50,7 +61,7 @@ pub record Lasts (c : List Rule) (Q : Held → Type 0) : Type 0 where
   pub skips : (h : Held) → Q h → Q (record h { skip = 0 })
   pub settles : (h : Held) → Q h → Q (settled c h)
   pub begins : (id : Text) (h : Held) → Q h → Q (record (settled c h) { pending = Some (id, []) })
-  pub uses : (a : Rule) (values : List Text) (h : Held) → is_single (action_of a) ≡ true → Q h → Q (record h { rows = used a values h.rows })
+  pub uses : (a : Rule) (values : List Text) (h : Held) → is_kept (action_of a) ≡ true → Q h → Q (record h { rows = used a values h.rows })
   pub pushes : (id word : Text) (h : Held) → Q h → Q (pushed id word h)
 
 -- neither `--` nor a subcommand
@@ -103,8 +114,8 @@ module _ (c : List Rule) (single : AreSingle c) where
         go None e = plain_kept waiting word h q
         go (Some a) e = take (takes_values a) v
           where
-            is : is_single (action_of a) ≡ true
-            is = found_has _ (λ r. is_single (action_of r)) c a single.single e
+            is : is_kept (action_of a) ≡ true
+            is = found_has _ (λ r. is_kept (action_of r)) c a single.kept e
 
             take : (b : Bool) (w : Option Text) → Kept (after_flag c waiting word (flag_or_option c a h b w).0 (flag_or_option c a h b w).1)
             take true (Some x) = (lasts.uses a (x ∷ []) (settled c h) is (lasts.settles h q), tt)

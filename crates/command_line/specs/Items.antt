@@ -31,40 +31,33 @@ IsNameIn [] action name = ⊥
 IsNameIn (rule ∷ rules) action name =
     ((rule.long ≡ Some name) × (rule.action ≡ Some action)) ⊎ IsNameIn rules action name
 
--- there is a place for each of the words
-abbrev pub HavePlaces : List Text → List Text → Type 0
-HavePlaces places [] = Unit {0}
-HavePlaces [] (word ∷ words) = ⊥
-HavePlaces (place ∷ places) (word ∷ words) = HavePlaces places words
-
 -- Each name is that of an option of its kind. A value that is a word of its own is plain, as is a word in
--- front of `--` that is of no option. `--` comes last. There is a place for each word that is of no option.
-abbrev pub AreItems : List Text → List Item → Type 0
-AreItems places [] = Unit {0}
-AreItems places (spaced name value ∷ items) =
-    IsNameIn options Set name × IsPlainWord value × AreItems places items
-AreItems places (joined name value ∷ items) = IsNameIn options Set name × AreItems places items
-AreItems places (alone name ∷ items) = IsNameIn options SetTrue name × AreItems places items
-AreItems [] (plain word ∷ items) = ⊥
-AreItems (place ∷ places) (plain word ∷ items) = IsPlainWord word × AreItems places items
-AreItems places (as_they_are words ∷ items) = (items ≡ []) × HavePlaces places words
+-- front of `--` that is of no option. `--` comes last.
+abbrev pub AreItems : List Item → Type 0
+AreItems [] = Unit {0}
+AreItems (spaced name value ∷ items) = IsNameIn options Set name × IsPlainWord value × AreItems items
+AreItems (joined name value ∷ items) = IsNameIn options Set name × AreItems items
+AreItems (alone name ∷ items) = IsNameIn options SetTrue name × AreItems items
+AreItems (plain word ∷ items) = IsPlainWord word × AreItems items
+AreItems (as_they_are words ∷ items) = items ≡ []
 
--- the places of the words, with the words
-abbrev pub placed : List Text → List Text → List (Text × Text)
-placed places [] = []
-placed [] (word ∷ words) = []
-placed (place ∷ places) (word ∷ words) = (place, word) ∷ placed places words
+-- the options that are used, in order, with their values: that of a flag is `true`
+abbrev pub uses : List Item → List (Text × Text)
+uses [] = []
+uses (spaced name value ∷ items) = (name, value) ∷ uses items
+uses (joined name value ∷ items) = (name, value) ∷ uses items
+uses (alone name ∷ items) = (name, codes "true") ∷ uses items
+uses (plain word ∷ items) = uses items
+uses (as_they_are words ∷ items) = uses items
 
--- the names that are used, in order, with their values: that of a flag is `true`, and the words that are of
--- no option are the values of the places
-abbrev pub uses : List Text → List Item → List (Text × Text)
-uses places [] = []
-uses places (spaced name value ∷ items) = (name, value) ∷ uses places items
-uses places (joined name value ∷ items) = (name, value) ∷ uses places items
-uses places (alone name ∷ items) = (name, codes "true") ∷ uses places items
-uses [] (plain word ∷ items) = uses [] items
-uses (place ∷ places) (plain word ∷ items) = (place, word) ∷ uses places items
-uses places (as_they_are words ∷ items) = placed places words
+-- the words that are of no option, in order
+abbrev pub words_by_place : List Item → List Text
+words_by_place [] = []
+words_by_place (spaced name value ∷ items) = words_by_place items
+words_by_place (joined name value ∷ items) = words_by_place items
+words_by_place (alone name ∷ items) = words_by_place items
+words_by_place (plain word ∷ items) = word ∷ words_by_place items
+words_by_place (as_they_are words ∷ items) = words ++ words_by_place items
 
 -- no name is used twice
 abbrev pub IsEachOnce : List (Text × Text) → Type 0
@@ -75,15 +68,11 @@ IsEachOnce (first ∷ later) = AllByRecursion (λ other. first.0 ≢ other.0) la
 abbrev pub value_in : List (Text × Text) → Text → Option Text
 value_in all name = option_map (λ found. found.1) (find (λ one. bytes_eq one.0 name) all)
 
--- the names of the words by their places
-abbrev pub places : List Text
-places = codes "expression" ∷ codes "file" ∷ []
-
--- the items are as they should be, and each name is used once
+-- the items are as they should be, and each option is used once
 abbrev pub IsLine : List Item → Type 0
-IsLine items = AreItems places items × IsEachOnce (uses places items)
+IsLine items = AreItems items × IsEachOnce (uses items)
 
--- each name has the same value in both, or none in both
+-- the words of no option are the same, and each option has the same value in both, or none in both
 abbrev pub HaveSameValues : List Item → List Item → Type 0
-HaveSameValues items others =
-    (name : Text) → value_in (uses places items) name ≡ value_in (uses places others) name
+HaveSameValues items others = (words_by_place items ≡ words_by_place others)
+    × ((name : Text) → value_in (uses items) name ≡ value_in (uses others) name)

@@ -2,7 +2,7 @@
 use Rattle.std.specs.Prelude.{true, List, [], ◌∷◌, codes, Some}
 use Rattle.clap.specs.Words.{App, Row, Rule, Text, Kinds, fault_of, matches_of, new_rule}
 use Rattle.clap.specs.Simple.{new_shape}
-use Rattle.clap.specs.declared.builder.action.ArgAction.TheVariants.{Set, SetTrue}
+use Rattle.clap.specs.declared.builder.action.ArgAction.TheVariants.{Set, SetTrue, Append}
 
 -- an option with one value, `--name VALUE` or `--name=VALUE`
 abbrev pub value : Text → Rule
@@ -16,6 +16,10 @@ flag name = record (new_rule name) { long = Some name; action = Some SetTrue }
 abbrev pub word : Text → Rule
 word name = record (new_rule name) { action = Some Set }
 
+-- the words from this place on, each of which is one more value
+abbrev pub words : Text → Rule
+words name = record (new_rule name) { action = Some Append }
+
 -- the words are refused without it
 abbrev pub needed : Rule → Rule
 needed rule = record rule { required = true }
@@ -26,7 +30,8 @@ options = needed (value (codes "support")) ∷ value (codes "hierarchy") ∷ fla
     ∷ value (codes "engine") ∷ value (codes "workers") ∷ value (codes "simulate") ∷ flag (codes "stats")
     ∷ value (codes "max-gap") ∷ value (codes "min-length") ∷ value (codes "max-length")
     ∷ flag (codes "generalize") ∷ value (codes "generated") ∷ value (codes "split")
-    ∷ needed (word (codes "expression")) ∷ word (codes "file") ∷ []
+    ∷ flag (codes "merge") ∷ flag (codes "proof") ∷ value (codes "check")
+    ∷ needed (word (codes "expression")) ∷ words (codes "file") ∷ []
 
 -- the command, as clap sees it: no program's name comes before the words, and no word asks for help
 unfoldable pub desq : App
@@ -38,8 +43,8 @@ desq = record {
 
 -- why clap refuses the words; empty where it takes them
 unfoldable pub faults : List Text → Kinds
-faults words = fault_of desq words
+faults all = fault_of desq all
 
 -- the values that clap finds in words that it takes
 unfoldable pub rows : List Text → List Row
-rows words = matches_of desq words
+rows all = matches_of desq all

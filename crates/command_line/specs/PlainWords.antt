@@ -4,7 +4,7 @@ use Rattle.std.specs.List.{AllByRecursion}
 use Rattle.mine_model.specs.Bytes.{dash}
 use Rattle.mine_model.specs.Tokens.{BeginsOtherwise}
 use Rattle.clap.specs.Words.{Text}
-use Rattle.command_line.specs.Words.{Command, read}
+use Rattle.command_line.specs.Words.{Command, Source, mine}
 use Rattle.command_line.specs.declared.words.Engine.TheVariants.{Dfs}
 
 abbrev pub is_dash : ℕ → Bool
@@ -27,11 +27,11 @@ abbrev pub IsUse : Text → Text → Type 0
 IsUse name word =
     (word ≡ codes "--" ++ name) ⊎ ((value : Text) × (word ≡ codes "--" ++ name ++ codes "=" ++ value))
 
--- the command of these values, where no other option is given
-abbrev pub plain_command : ℕ → Text → Text → Command
-plain_command threshold expression file = record {
+-- the command of this support and source, where no other option is given
+abbrev pub plain_command : ℕ → Source → Command
+plain_command threshold source = record {
   threshold = threshold;
-  source = read expression file;
+  source = source;
   hierarchy = None;
   weighted = false;
   engine = Dfs;
@@ -39,4 +39,5 @@ plain_command threshold expression file = record {
   seed = None;
   share = None;
   stats = false;
+  task = mine;
 }

@@ -1,8 +1,8 @@
 -- What the words of a command say: what clap finds in them, and the rules beyond clap's.
-use Rattle.std.specs.Prelude.{◌≡◌, ◌≢◌, ◌↔◌, ◌⊎◌, ℕ, ◌≤◌, Bool, List, [], ◌∷◌, ◌++◌, codes, Option, Some, None, unwrap_or, IsTrue}
+use Rattle.std.specs.Prelude.{◌≡◌, ◌≢◌, ◌↔◌, ◌⊎◌, ℕ, ◌≤◌, Bool, false, List, [], ◌∷◌, ◌++◌, codes, length, Contains, Option, Some, None, unwrap_or, IsTrue}
 use Rattle.mine_model.specs.Limits.{most_support, most_workers}
 use Rattle.mine_model.specs.Grammar.{IsDecimal}
-use Rattle.clap.specs.Words.{Row, Text, first_of}
+use Rattle.clap.specs.Words.{Row, Text, all_of, first_of}
 use Rattle.gap_front.specs.declared.rule.GapRule.{GapRule}
 use Rattle.gap_front.specs.Embedding.{most_gap, most_rule_length}
 use Rattle.made_input.specs.Made.{most_made}
@@ -11,12 +11,21 @@ use Rattle.command_line.specs.declared.words.Engine.{Engine}
 use Rattle.command_line.specs.declared.words.Engine.TheVariants.{Count, Dfs, Pivot}
 use Rattle.command_line.specs.declared.share.Share.{Share}
 
--- what a run mines: the patterns of an expression in the sequences of a file, or those that are embedded in
--- them under a rule on gaps and lengths, or the patterns of an expression in so many made sequences
+-- where the rows of a run come from: they are the patterns of an expression in the sequences of a file, or
+-- those that are embedded in them under a rule on gaps and lengths, or the patterns of an expression in so
+-- many made sequences; or no patterns are sought, and they are the rows of these files, outputs of other runs
 pub data Source : Type 0 where
   read : (expression file : Text) → Source
   embed : (rule : GapRule) → (file : Text) → Source
   make : (count : ℕ) → (expression : Text) → Source
+  merge : (files : List Text) → Source
+
+-- what a run does with its data: it mines and writes the answer, or a proof of the answer in its place, or it
+-- mines nothing and judges the proof in this file
+pub data Task : Type 0 where
+  mine : Task
+  prove : Task
+  check : (proof : Text) → Task
 
 -- what the words of a command say
 pub record Command : Type 0 where
@@ -29,6 +38,7 @@ pub record Command : Type 0 where
   pub seed : Option ℕ
   pub share : Option Share
   pub stats : Bool
+  pub task : Task
 
 -- one or more decimal digits, leading zeros allowed, of a number in this range
 pub record IsNumber (least most : ℕ) (digits : Text) (n : ℕ) : Type 0 where
@@ -130,6 +140,10 @@ pub record GivesRule (found : List Row) (rule : GapRule) : Type 0 where
   pub order : rule.min_length ≤ rule.max_length
   pub generalize : IsTrue rule.generalize ↔ IsGiven found (codes "generalize")
 
+-- the words from the place of FILE on, in their order
+abbrev pub files_in : List Row → List Text
+files_in found = unwrap_or (all_of (codes "file") found) []
+
 -- so many sequences are to be made, and no file is named, no weight is read and no share is asked for
 pub record GivesMade (found : List Row) (count : ℕ) : Type 0 where
   pub digits : Text
@@ -141,24 +155,77 @@ pub record GivesMade (found : List Row) (count : ℕ) : Type 0 where
   pub split : IsAway found (codes "split")
   pub rule : HasNoRule found
 
--- Exactly one of FILE, a greatest gap and a number of made sequences is there. With a gap the one word by its
--- place, which is else the expression, is the name of the file.
+-- no option was given beside which no proof is written or judged: proofs are of the patterns of an expression
+-- in the sequences of a file, and of all of them
+pub record IsProvable (found : List Row) : Type 0 where
+  pub generated : IsAway found (codes "generated")
+  pub gap : IsAway found (codes "max-gap")
+  pub split : IsAway found (codes "split")
+
+-- a proof is to be judged, in this file; nothing is mined, so no work is counted or simulated
+pub record GivesCheck (found : List Row) (proof : Text) : Type 0 where
+  pub given : first_of (codes "check") found ≡ Some proof
+  pub only : IsGiven found (codes "proof") → ⊥
+  pub provable : IsProvable found
+  pub stats : IsGiven found (codes "stats") → ⊥
+  pub simulate : IsAway found (codes "simulate")
+
+-- this is asked for: an answer where neither a proof nor a check is, and never both
+abbrev pub GivesTask : List Row → Task → Type 0
+GivesTask found mine = (IsGiven found (codes "proof") → ⊥) × IsAway found (codes "check")
+GivesTask found prove = IsGiven found (codes "proof") × IsAway found (codes "check") × IsProvable found
+GivesTask found (check proof) = GivesCheck found proof
+
+-- no option was given but the support and the one that asks for a merge
+pub record HasNoOther (found : List Row) : Type 0 where
+  pub generated : IsAway found (codes "generated")
+  pub rule : HasNoRule found
+  pub hierarchy : IsAway found (codes "hierarchy")
+  pub weighted : IsGiven found (codes "weighted") → ⊥
+  pub engine : IsAway found (codes "engine")
+  pub workers : IsAway found (codes "workers")
+  pub simulate : IsAway found (codes "simulate")
+  pub split : IsAway found (codes "split")
+  pub stats : IsGiven found (codes "stats") → ⊥
+  pub proof : IsGiven found (codes "proof") → ⊥
+  pub check : IsAway found (codes "check")
+
+-- the most files of a merge
+abbrev pub most_merged : ℕ
+most_merged = 64
+
+-- These files are to be merged. The word by the first place, which is else the expression, names the first of
+-- them.
+pub record GivesMerge (found : List Row) (files : List Text) : Type 0 where
+  pub given : IsGiven found (codes "merge")
+  pub first : Text
+  pub named : first_of (codes "expression") found ≡ Some first
+  pub all : files ≡ first ∷ files_in found
+  pub few : length files ≤ most_merged
+  pub alone : HasNoOther found
+
+-- Without a merge exactly one of FILE, a greatest gap and a number of made sequences is there. With a gap the
+-- one word by its place, which is else the expression, is the name of the file.
 abbrev pub GivesSource : List Row → Source → Type 0
 GivesSource found (read expression file) = (first_of (codes "expression") found ≡ Some expression)
-    × (first_of (codes "file") found ≡ Some file) × IsAway found (codes "generated") × HasNoRule found
+    × (files_in found ≡ file ∷ []) × IsAway found (codes "generated") × HasNoRule found
+    × (IsGiven found (codes "merge") → ⊥)
 GivesSource found (embed rule file) = (first_of (codes "expression") found ≡ Some file)
     × IsAway found (codes "file") × IsAway found (codes "generated") × GivesRule found rule
+    × (IsGiven found (codes "merge") → ⊥)
 GivesSource found (make count expression) = (first_of (codes "expression") found ≡ Some expression)
-    × GivesMade found count
+    × GivesMade found count × (IsGiven found (codes "merge") → ⊥)
+GivesSource found (merge files) = GivesMerge found files
 
 -- the rules beyond clap's, a line each: each number is in its range, the engine is one that there is, and a
--- seed and a share suit it, there is one source
+-- seed and a share suit it, there is one source, and there is one task, beside nothing that does not suit it
 pub record KeepsRules (found : List Row) : Type 0 where
   pub support : (n : ℕ) × GivesSupport found n
   pub mode : (engine : Engine) × (seed : Option ℕ) × (share : Option Share)
       × GivesMode found engine seed share
   pub workers : (n : ℕ) × GivesWorkers found n
   pub source : (source : Source) × GivesSource found source
+  pub task : (task : Task) × GivesTask found task
 
 -- the values that were found say this command, a line for each argument
 pub record Says (found : List Row) (command : Command) : Type 0 where
@@ -169,6 +236,7 @@ pub record Says (found : List Row) (command : Command) : Type 0 where
   pub mode : GivesMode found command.engine command.seed command.share
   pub workers : GivesWorkers found command.workers
   pub stats : IsTrue command.stats ↔ IsGiven found (codes "stats")
+  pub task : GivesTask found command.task
 
 -- the words say this command: clap takes them, and what it finds in them keeps the rules and says it
 pub record IsCommand (words : List Text) (command : Command) : Type 0 where
@@ -180,15 +248,36 @@ pub record IsCommand (words : List Text) (command : Command) : Type 0 where
 abbrev pub IsUsage : List Text → Type 0
 IsUsage words = (faults words ≢ []) ⊎ (KeepsRules (rows words) → ⊥)
 
--- the file of sequences; made ones have none
+-- the run is about the patterns of an expression in the sequences of a file, and about all of them
+pub record IsOfFile (command : Command) : Type 0 where
+  pub expression : Text
+  pub file : Text
+  pub source : command.source ≡ read expression file
+  pub share : command.share ≡ None
+
+-- what the other words say suits this task: a proof is of the patterns of an expression in a file, and where
+-- one is judged no run is simulated and no work is told
+abbrev pub SuitsTask : Task → Command → Type 0
+SuitsTask mine command = Unit {0}
+SuitsTask prove command = IsOfFile command
+SuitsTask (check proof) command = IsOfFile command × (command.seed ≡ None) × (command.stats ≡ false)
+
+-- the file of sequences; made ones have none, and a merge has none
 abbrev pub file_of : Source → Option Text
 file_of (read expression file) = Some file
 file_of (embed rule file) = Some file
 file_of (make count expression) = None
+file_of (merge files) = None
 
--- the command names this file
+-- the files that are merged
+abbrev pub merged_in : Source → List Text
+merged_in (merge files) = files
+merged_in other = []
+
+-- the command names this file: for the sequences, for the hierarchy, to be merged, or for a proof
 abbrev pub NamesFile : Command → Text → Type 0
 NamesFile command name = (file_of command.source ≡ Some name) ⊎ (command.hierarchy ≡ Some name)
+    ⊎ Contains (merged_in command.source) name ⊎ (command.task ≡ check name)
 
 -- the words name this file
 abbrev pub IsNamed : List Text → Text → Type 0

@@ -22,12 +22,12 @@ pub enum Argument {
     Flag(&'static str),
     /// A word by its place, without which the words are refused.
     NeededWord(&'static str),
-    /// A word by its place.
-    Word(&'static str),
+    /// The words from a place on, any number of them.
+    Words(&'static str),
 }
 
 /// The arguments of the command, in order.
-static ARGUMENTS: [Argument; 15] = [
+static ARGUMENTS: [Argument; 18] = [
     Argument::NeededValue("support"),
     Argument::Value("hierarchy"),
     Argument::Flag("weighted"),
@@ -41,8 +41,11 @@ static ARGUMENTS: [Argument; 15] = [
     Argument::Flag("generalize"),
     Argument::Value("generated"),
     Argument::Value("split"),
+    Argument::Flag("merge"),
+    Argument::Flag("proof"),
+    Argument::Value("check"),
     Argument::NeededWord("expression"),
-    Argument::Word("file"),
+    Argument::Words("file"),
 ];
 
 /// The argument, as clap takes it.
@@ -57,7 +60,7 @@ fn made<'a>(alloc: Global, argument: Argument) -> Arg<'a>
         Argument::Value(name) => Arg::new(alloc, name).long(name).action(ArgAction::Set),
         Argument::Flag(name) => Arg::new(alloc, name).long(name).action(ArgAction::SetTrue),
         Argument::NeededWord(name) => Arg::new(alloc, name).action(ArgAction::Set).required(true),
-        Argument::Word(name) => Arg::new(alloc, name).action(ArgAction::Set),
+        Argument::Words(name) => Arg::new(alloc, name).action(ArgAction::Append),
     }
 }
 

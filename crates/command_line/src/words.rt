@@ -1,10 +1,10 @@
 //! From the words to the command that they say.
 
-ghost use Rattle.std.specs.Prelude.{◌≡◌, ◌↔◌, ℕ, List, Option, Some, IsTrue, IfOk, MatchOption, map, option_map, unwrap_or, string_bytes, codes};
+ghost use Rattle.std.specs.Prelude.{◌≡◌, ◌↔◌, ◌∷◌, [], ℕ, List, Option, Some, IsTrue, IfOk, MatchOption, map, option_map, unwrap_or, string_bytes, codes};
 ghost use Rattle.clap.specs.Words.{first_of, found_of, rows_of};
-ghost use Rattle.command_line.specs.Words.{GivesSupport, GivesEngine, GivesWorkers, GivesSeed, GivesShare, GivesLength, GivesMode, GivesRule, GivesMade, GivesSource, HasNoRule, IsAway, Source as SourceSaid, Suits, IsGiven, KeepsRules, Says, IsCommand, IsUsage};
+ghost use Rattle.command_line.specs.Words.{GivesSupport, GivesEngine, GivesWorkers, GivesSeed, GivesShare, GivesLength, GivesMode, GivesRule, GivesMade, GivesSource, GivesTask, HasNoOther, HasNoRule, IsAway, IsProvable, Source as SourceSaid, Task as TaskSaid, embed, files_in, Suits, IsGiven, KeepsRules, Says, IsCommand, IsUsage};
 ghost use Rattle.command_line.specs.Arguments.{HasNeeded};
-ghost use Rattle.command_line.specs.Commands.{command_said, source_said};
+ghost use Rattle.command_line.specs.Commands.{command_said, source_said, task_said};
 ghost use Rattle.command_line.specs.declared.words.Engine.{Engine};
 ghost use Rattle.command_line.specs.declared.share.Share.{Share as TheShare};
 
@@ -24,6 +24,9 @@ const MOST_WORKERS: u64 = 64;
 
 /// The greatest seed that may be given.
 const MOST_SEED: u64 = 18_446_744_073_709_551_615;
+
+/// The most files that may be merged.
+const MOST_MERGED: usize = 64;
 
 /// The greatest gap that may be asked for.
 const MOST_GAP: u64 = 1_000;
@@ -45,7 +48,7 @@ pub enum Engine {
     Pivot,
 }
 
-/// What a run mines.
+/// Where the rows of a run come from.
 #[derive(Debug, Drop)]
 pub enum Source {
     /// The patterns of an expression.
@@ -69,6 +72,26 @@ pub enum Source {
         /// The pattern expression, as it was given. It may be empty.
         expression: String,
     },
+    /// Nothing is mined: the outputs of other runs are merged. The other fields are then those of a command
+    /// in which no other option is given.
+    Merge {
+        /// The names of the files of the outputs, 1 to 64 of them, `-` for standard input.
+        files: Vec<String>,
+    },
+}
+
+/// What a run does with its data.
+#[derive(Debug, Drop)]
+pub enum Task {
+    /// It mines, and writes the answer.
+    Mine,
+    /// It mines, and writes a proof of the answer in place of the answer.
+    Prove,
+    /// It mines nothing, and judges a proof.
+    Check {
+        /// The name of the file of the proof, `-` for standard input.
+        proof: String,
+    },
 }
 
 /// What the words of a command say.
@@ -76,7 +99,7 @@ pub enum Source {
 pub struct Command {
     /// The least support of a pattern of the answer, 1 to 1,000,000,000,000,000,000.
     pub support: u64,
-    /// What is mined, and in which sequences.
+    /// What is mined, and in which sequences, or which files are merged.
     pub source: Source,
     /// The name of the file of the hierarchy, `-` for standard input.
     pub hierarchy: Option<String>,
@@ -94,6 +117,9 @@ pub struct Command {
     pub share: Option<Share>,
     /// Whether the counted work of the run is told on the error output.
     pub stats: bool,
+    /// What the run does. Where it writes or judges a proof, the source is `Read` and there is no share.
+    /// Where it judges one, there is no seed, and no work is told either.
+    pub task: Task,
 }
 
 /// The value that was given for an argument.
@@ -284,6 +310,28 @@ fn given_rule(matches: &ArgMatches<'_>) -> Option<GapRule>
     }
 }
 
+/// The words from the place of the file on. None where there are none.
+fn given_names<'m, 'a>(matches: &'m ArgMatches<'a>) -> Option<&'m [&'a str]>
+    ensures { unwrap_or (option_map (λ names. map (λ name. name.now) names.now) result) []
+        ≡ files_in (rows_of (found_of matches.now)) }
+{
+    matches.get_raw("file")
+}
+
+/// The file that was named. None where none was, or several.
+fn only_file<'a>(matches: &ArgMatches<'a>) -> Option<&'a str>
+    ensures { MatchOption result
+        ((file : List ℕ) → files_in (rows_of (found_of matches.now)) ≡ file ∷ [] → ⊥)
+        (λ file. files_in (rows_of (found_of matches.now)) ≡ file.now ∷ []) }
+{
+    let names = given_names(matches)?;
+    if names.len() == 1 {
+        Some(names[0])
+    } else {
+        None
+    }
+}
+
 /// How many sequences are to be made. None where no number was given or the value is none, or a word was
 /// given that does not stand beside it.
 fn given_made(matches: &ArgMatches<'_>) -> Option<u32>
@@ -300,7 +348,162 @@ fn given_made(matches: &ArgMatches<'_>) -> Option<u32>
     if is_alone { Some(count as u32) } else { None }
 }
 
-/// What is mined, where no sequences are to be made. None where the values say no source.
+/// Whether no option was given beside which no proof is written or judged.
+fn is_provable(matches: &ArgMatches<'_>) -> bool
+    ensures { IsTrue result ↔ IsProvable (rows_of (found_of matches.now)) }
+{
+    given(matches, "generated").is_none()
+        && given(matches, "max-gap").is_none()
+        && given(matches, "split").is_none()
+}
+
+/// Whether a proof may be judged beside the options that were given.
+fn is_checkable(matches: &ArgMatches<'_>) -> bool
+    ensures { IsTrue result ↔ ((IsGiven (rows_of (found_of matches.now)) (codes "proof") → ⊥)
+        × IsProvable (rows_of (found_of matches.now))
+        × (IsGiven (rows_of (found_of matches.now)) (codes "stats") → ⊥)
+        × IsAway (rows_of (found_of matches.now)) (codes "simulate")) }
+{
+    !is_given(matches, "proof")
+        && is_provable(matches)
+        && !is_given(matches, "stats")
+        && given(matches, "simulate").is_none()
+}
+
+/// What the run is to do. None where options were given that do not stand beside it.
+fn given_task(alloc: Global, matches: &ArgMatches<'_>) -> Result<Option<Task>, NoMemory>
+    ensures { IfOk result (λ given. MatchOption given
+        ((task : TaskSaid) → GivesTask (rows_of (found_of matches.now)) task → ⊥)
+        (λ task. GivesTask (rows_of (found_of matches.now)) (task_said task))) }
+{
+    match given_text(alloc, matches, "check")? {
+        Some(proof) => {
+            if is_checkable(matches) {
+                Ok(Some(Task::Check { proof }))
+            } else {
+                Ok(None)
+            }
+        }
+        None => {
+            if !is_given(matches, "proof") {
+                Ok(Some(Task::Mine))
+            } else if is_provable(matches) {
+                Ok(Some(Task::Prove))
+            } else {
+                Ok(None)
+            }
+        }
+    }
+}
+
+/// Whether no option was given that says what is mined.
+fn has_no_input(matches: &ArgMatches<'_>) -> bool
+    ensures { IsTrue result ↔ (IsAway (rows_of (found_of matches.now)) (codes "generated")
+        × HasNoRule (rows_of (found_of matches.now))
+        × IsAway (rows_of (found_of matches.now)) (codes "hierarchy")
+        × (IsGiven (rows_of (found_of matches.now)) (codes "weighted") → ⊥)) }
+{
+    given(matches, "generated").is_none()
+        && has_no_rule(matches)
+        && given(matches, "hierarchy").is_none()
+        && !is_given(matches, "weighted")
+}
+
+/// Whether no option was given that says how patterns are searched.
+fn has_no_search(matches: &ArgMatches<'_>) -> bool
+    ensures { IsTrue result ↔ (IsAway (rows_of (found_of matches.now)) (codes "engine")
+        × IsAway (rows_of (found_of matches.now)) (codes "workers")
+        × IsAway (rows_of (found_of matches.now)) (codes "simulate")
+        × IsAway (rows_of (found_of matches.now)) (codes "split")) }
+{
+    given(matches, "engine").is_none()
+        && given(matches, "workers").is_none()
+        && given(matches, "simulate").is_none()
+        && given(matches, "split").is_none()
+}
+
+/// Whether no option was given that says what is written.
+fn has_no_output(matches: &ArgMatches<'_>) -> bool
+    ensures { IsTrue result ↔ ((IsGiven (rows_of (found_of matches.now)) (codes "stats") → ⊥)
+        × (IsGiven (rows_of (found_of matches.now)) (codes "proof") → ⊥)
+        × IsAway (rows_of (found_of matches.now)) (codes "check")) }
+{
+    !is_given(matches, "stats") && !is_given(matches, "proof") && given(matches, "check").is_none()
+}
+
+/// Whether no option was given but the support and the one that asks for a merge.
+fn has_no_other(matches: &ArgMatches<'_>) -> bool
+    ensures { IsTrue result ↔ HasNoOther (rows_of (found_of matches.now)) }
+{
+    has_no_input(matches) && has_no_search(matches) && has_no_output(matches)
+}
+
+/// The names of the files that are to be merged, each as a text of its own.
+fn merged_names(
+    alloc: Global,
+    matches: &ArgMatches<'_>,
+    first: String,
+) -> Result<Vec<String>, NoMemory>
+    ensures { IfOk result (λ names.
+        map string_bytes names.items ≡ string_bytes first ∷ files_in (rows_of (found_of matches.now))) }
+{
+    let mut names = Vec::new(alloc);
+    names.push(first)?;
+    if let Some(others) = given_names(matches) {
+        for name in others {
+            names.push(String::from_str(alloc, name)?)?;
+        }
+    }
+    Ok(names)
+}
+
+/// The files that are to be merged. None where there are too many, or a word was given that does not stand
+/// beside a merge.
+fn given_merge(
+    alloc: Global,
+    matches: &ArgMatches<'_>,
+    word: String,
+) -> Result<Option<Source>, NoMemory>
+    requires word { first_of (codes "expression") (rows_of (found_of matches.now))
+        ≡ Some (string_bytes word) }
+    requires merge { IsGiven (rows_of (found_of matches.now)) (codes "merge") }
+    ensures { IfOk result (λ given. MatchOption given
+        ((source : SourceSaid) → GivesSource (rows_of (found_of matches.now)) source → ⊥)
+        (λ source. GivesSource (rows_of (found_of matches.now)) (source_said source))) }
+{
+    if !has_no_other(matches) {
+        return Ok(None);
+    }
+    let files = merged_names(alloc, matches, word)?;
+    if files.len() <= MOST_MERGED {
+        Ok(Some(Source::Merge { files }))
+    } else {
+        Ok(None)
+    }
+}
+
+/// The rule and the file by the one word by its place. None where another file was given, or no rule.
+fn given_embedding(matches: &ArgMatches<'_>, word: String) -> Option<Source>
+    requires word { first_of (codes "expression") (rows_of (found_of matches.now))
+        ≡ Some (string_bytes word) }
+    requires made { IsAway (rows_of (found_of matches.now)) (codes "generated") }
+    requires merge { IsGiven (rows_of (found_of matches.now)) (codes "merge") → ⊥ }
+    ensures { MatchOption result
+        ((rule : GapRule) (file : List ℕ)
+        → GivesSource (rows_of (found_of matches.now)) (embed rule file) → ⊥)
+        (λ source. GivesSource (rows_of (found_of matches.now)) (source_said source)) }
+{
+    if given(matches, "file").is_some() {
+        return None;
+    }
+    match given_rule(matches) {
+        Some(rule) => Some(Source::Embed { rule, file: word }),
+        None => None,
+    }
+}
+
+/// What is mined, where no files are to be merged and no sequences to be made. None where the values say no
+/// source.
 fn given_files(
     alloc: Global,
     matches: &ArgMatches<'_>,
@@ -308,30 +511,25 @@ fn given_files(
 ) -> Result<Option<Source>, NoMemory>
     requires word { first_of (codes "expression") (rows_of (found_of matches.now))
         ≡ Some (string_bytes word) }
-    requires away { IsAway (rows_of (found_of matches.now)) (codes "generated") }
+    requires made { IsAway (rows_of (found_of matches.now)) (codes "generated") }
+    requires merge { IsGiven (rows_of (found_of matches.now)) (codes "merge") → ⊥ }
     ensures { IfOk result (λ given. MatchOption given
         ((source : SourceSaid) → GivesSource (rows_of (found_of matches.now)) source → ⊥)
         (λ source. GivesSource (rows_of (found_of matches.now)) (source_said source))) }
 {
-    match given_text(alloc, matches, "file")? {
-        Some(file) => {
-            if has_no_rule(matches) {
-                Ok(Some(Source::Read {
-                    expression: word,
-                    file,
-                }))
-            } else {
-                Ok(None)
-            }
-        }
-        None => match given_rule(matches) {
-            Some(rule) => Ok(Some(Source::Embed { rule, file: word })),
-            None => Ok(None),
-        },
+    if !has_no_rule(matches) {
+        return Ok(given_embedding(matches, word));
+    }
+    match only_file(matches) {
+        Some(file) => Ok(Some(Source::Read {
+            expression: word,
+            file: String::from_str(alloc, file)?,
+        })),
+        None => Ok(None),
     }
 }
 
-/// What is mined. None where the values say no source.
+/// What is mined or merged. None where the values say no source.
 fn given_source(alloc: Global, matches: &ArgMatches<'_>) -> Result<Option<Source>, NoMemory>
     requires { HasNeeded (rows_of (found_of matches.now)) }
     ensures { IfOk result (λ given. MatchOption given
@@ -339,6 +537,9 @@ fn given_source(alloc: Global, matches: &ArgMatches<'_>) -> Result<Option<Source
         (λ source. GivesSource (rows_of (found_of matches.now)) (source_said source))) }
 {
     let word = given_text(alloc, matches, "expression")?.unwrap();
+    if is_given(matches, "merge") {
+        return given_merge(alloc, matches, word);
+    }
     if given(matches, "generated").is_none() {
         return given_files(alloc, matches, word);
     }
@@ -375,6 +576,10 @@ fn said(alloc: Global, matches: &ArgMatches<'_>) -> Result<Option<Command>, NoMe
         Some(source) => source,
         None => return Ok(None),
     };
+    let task = match given_task(alloc, matches)? {
+        Some(task) => task,
+        None => return Ok(None),
+    };
     Ok(Some(Command {
         support,
         source,
@@ -385,6 +590,7 @@ fn said(alloc: Global, matches: &ArgMatches<'_>) -> Result<Option<Command>, NoMe
         seed: mode.seed,
         share: mode.share,
         stats: is_given(matches, "stats"),
+        task,
     }))
 }
 

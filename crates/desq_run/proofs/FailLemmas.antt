@@ -7,7 +7,7 @@ use Rattle.mine_model.specs.Support.{Sequence}
 use Rattle.mine_model.specs.declared.fault.Fault.{Fault}
 use Rattle.mine_model.specs.declared.fault.Fault.TheVariants.{Read, Write, NoMemory}
 use Rattle.mine_model.specs.declared.fault.Which.{Which}
-use Rattle.mine_model.specs.declared.fault.Which.TheVariants.{Hierarchy, Sequences}
+use Rattle.mine_model.specs.declared.fault.Which.TheVariants.{Hierarchy, Sequences, Proof}
 use Rattle.sequence_reader.specs.declared.sequence_fault.SequenceFault.{SequenceFault}
 use Rattle.sequence_reader.specs.declared.sequence_fault.SequenceFault.TheVariants as sequences
 use Rattle.item_hierarchy.specs.declared.hierarchy_fault.HierarchyFault.{HierarchyFault}
@@ -20,12 +20,12 @@ use Rattle.item_hierarchy.specs.Refusing.{IsReadRefusal}
 use Rattle.mine_model.specs.Refusal.{IsHierarchyRefusal, IsSequencesRefusal}
 use Rattle.mine_model.specs.Status.{fault_status}
 use Rattle.mine_model.specs.Ancestry.{Ancestry}
-use Rattle.command_line.specs.Words.{Command, Source, read, embed, make, file_of}
+use Rattle.command_line.specs.Words.{Command, Source, read, embed, make, merge, file_of}
 use Rattle.desq_run.specs.Said.{RefusesHierarchy, RefusesSequences}
 use Rattle.desq_run.specs.Ends.{bytes_named, HasSource, NamesKind, IsOfKind, Ends}
 use Rattle.desq_run.specs.Ends as ends
 use Rattle.desq_run.specs.Inputs.{FailsBy, refused, failed, no_memory, IsHierarchyOf, IsHierarchySaid, IsDatabaseOf, IsDatabaseSaid}
-use Rattle.desq_run.proofs.EndLemmas.{hierarchy-refused, sequences-refused, hierarchy-accepted}
+use Rattle.desq_run.proofs.EndLemmas.{kind-same, hierarchy-refused, sequences-refused, hierarchy-accepted}
 
 -- a refusal of the text and names of a hierarchy file is its first refusal
 whole : (told : Option (List ℕ)) (fault : Fault) → IfSome told (λ bytes. IsReadRefusal [] bytes fault) → IfSome told (λ bytes. IsHierarchyRefusal bytes fault)
@@ -54,15 +54,18 @@ module _ (told : Option (List ℕ)) (weighted : Bool) (known : List (List ℕ)) 
   sequences-fail (sequences.TooManySequences line) refused_by fails = refused _ tt (refused_by (λ e. cc) (λ e. cc)) refl
   sequences-fail (sequences.BadWeight line column) refused_by fails = refused _ tt (refused_by (λ e. cc) (λ e. cc)) refl
   sequences-fail (sequences.TooLong line) refused_by fails = refused _ tt (refused_by (λ e. cc) (λ e. cc)) refl
-  sequences-fail (sequences.TooManyItems line) refused_by fails = refused _ tt (refused_by (λ e. cc) (λ e. cc)) refl
+  sequences-fail (sequences.TooManyItems line) refused_by fails = refused _ tt (refused_by (λ e. cc) (λ e. cc)) (refl, (λ e. cc))
   sequences-fail sequences.NoMemory refused_by fails = no_memory
 
 -- no refusal is a fault of reading
 no_read : (kind : Which) (fault : Fault) (file : Which) → IsOfKind kind fault → fault ≡ Read file → ⊥
 no_read kind fault file of_kind same = let none : IsOfKind kind (Read file) = subst (IsOfKind kind) same of_kind in none
 
-memory≢read : (file : Which) → NoMemory ≡ Read file → ⊥
+pub memory≢read : (file : Which) → NoMemory ≡ Read file → ⊥
 memory≢read file same = let e : fault_status NoMemory ≡ fault_status (Read file) = ap fault_status same in omega (arith, e)
+
+pub memory≢write : NoMemory ≡ Write → ⊥
+memory≢write same = let e : fault_status NoMemory ≡ fault_status Write = ap fault_status same in omega (arith, e)
 
 -- a fault of reading was counted
 pub read-faulty : (told : Option (List ℕ)) (Refused : List ℕ → Fault → Type 0) (kind : Which) (Named Faulty : Type 0) (fault : Fault)
@@ -93,24 +96,28 @@ module _ (told : Option (List ℕ)) (kind : Which) (Named Faulty : Type 0) (faul
   hierarchy-fails (read expression name) file has fails = fails
   hierarchy-fails (embed rule name) file has fails = fails
   hierarchy-fails (make count expression) file has fails = absurd (none-some file has)
+  hierarchy-fails (merge files) file has fails = absurd (none-some file has)
 
   pub sequences-fails : (weighted : Bool) (known : List (List ℕ)) (source : Source) (file : List ℕ) → file_of source ≡ Some file
       → FailsBy told (IsSequencesRefusal weighted known) kind Named Faulty fault → FailsBy told (RefusesSequences source weighted known) kind Named Faulty fault
   sequences-fails weighted known (read expression name) file has fails = fails
   sequences-fails weighted known (embed rule name) file has fails = fails
   sequences-fails weighted known (make count expression) file has fails = absurd (none-some file has)
+  sequences-fails weighted known (merge files) file has fails = absurd (none-some file has)
 
 pub hierarchy-said : (told : Option (List ℕ)) (names : List (List ℕ)) (h : Ancestry) (source : Source) (file : List ℕ) → file_of source ≡ Some file
     → IfSome told (λ bytes. IsHierarchyOf bytes names h) → IfSome told (λ bytes. IsHierarchySaid source bytes names h)
 hierarchy-said told names h (read expression name) file has is = is
 hierarchy-said told names h (embed rule name) file has is = is
 hierarchy-said told names h (make count expression) file has is = absurd (none-some file has)
+hierarchy-said told names h (merge files) file has is = absurd (none-some file has)
 
 pub sequences-said : (told : Option (List ℕ)) (weighted : Bool) (known names : List (List ℕ)) (db : List (Sequence Item)) (source : Source) (file : List ℕ) → file_of source ≡ Some file
     → IfSome told (λ bytes. IsDatabaseOf weighted bytes known names db) → IfSome told (λ bytes. IsDatabaseSaid source weighted bytes known names db)
 sequences-said told weighted known names db (read expression name) file has is = is
 sequences-said told weighted known names db (embed rule name) file has is = is
 sequences-said told weighted known names db (make count expression) file has is = absurd (none-some file has)
+sequences-said told weighted known names db (merge files) file has is = absurd (none-some file has)
 
 module _ (words : List (List ℕ)) (holds : List ℕ → Option (List ℕ)) (c : Command) (has : HasSource words c) (Faulty : Type 0) where
   -- how a run ends where reading the hierarchy fails
@@ -118,7 +125,8 @@ module _ (words : List (List ℕ)) (holds : List ℕ → Option (List ℕ)) (c :
       → Ends words holds (Err fault)
   hierarchy-ends _ (refused fault named is of_kind) =
       hierarchy-refused words holds c has fault is (inl (Hierarchy, named-kind c named, of_kind))
-  hierarchy-ends _ (failed named faulty) = ends.read_fault c Hierarchy has (named-kind c named) (λ same. cc)
+      (λ of_proof. (let same : Hierarchy ≡ Proof = kind-same Hierarchy Proof fault of_kind of_proof in cc))
+  hierarchy-ends _ (failed named faulty) = ends.read_fault c Hierarchy has (named-kind c named) (λ same. cc) (λ same. cc)
   hierarchy-ends _ no_memory = ends.no_memory
 
   -- how a run ends where reading the sequences fails
@@ -127,7 +135,9 @@ module _ (words : List (List ℕ)) (holds : List ℕ → Option (List ℕ)) (c :
       → (fault : Fault) → FailsBy (bytes_named holds (file_of c.source)) (RefusesSequences c.source c.weighted known) Sequences (Unit {0}) Faulty fault → Ends words holds (Err fault)
   sequences-ends known h found file here _ (refused fault named is of_kind) =
       sequences-refused words holds c has known h found fault is (inl (Sequences, (file, here), of_kind))
-  sequences-ends known h found file here _ (failed named faulty) = ends.read_fault c Sequences has (file, here) (λ same. hierarchy-accepted words holds c has known h found)
+      (λ of_proof. (let same : Sequences ≡ Proof = kind-same Sequences Proof fault of_kind of_proof in cc))
+  sequences-ends known h found file here _ (failed named faulty) =
+      ends.read_fault c Sequences has (file, here) (λ same. hierarchy-accepted words holds c has known h found) (λ same. cc)
   sequences-ends known h found file here _ no_memory = ends.no_memory
 
 module _ (told : Option (List ℕ)) (Faulty : Type 0) where
@@ -142,7 +152,7 @@ module _ (told : Option (List ℕ)) (Faulty : Type 0) where
   rows-fail hierarchy.TooLarge refused_by fails = refused _ tt (whole told _ (refused_by (λ e. cc) (λ e. cc))) refl
   rows-fail (hierarchy.BadByte line column) refused_by fails = refused _ tt (whole told _ (refused_by (λ e. cc) (λ e. cc))) refl
   rows-fail (hierarchy.NameTooLong line column) refused_by fails = refused _ tt (whole told _ (refused_by (λ e. cc) (λ e. cc))) refl
-  rows-fail (hierarchy.TooManyItems line) refused_by fails = refused _ tt (whole told _ (refused_by (λ e. cc) (λ e. cc))) refl
+  rows-fail (hierarchy.TooManyItems line) refused_by fails = refused _ tt (whole told _ (refused_by (λ e. cc) (λ e. cc))) (refl, (λ e. cc))
   rows-fail hierarchy.NoMemory refused_by fails = no_memory
 
   -- how closing the rows of the hierarchy fails

@@ -1,6 +1,6 @@
 -- The hierarchy of rows by numbers against that of the file by names.
 use Rattle.std.proofs.Common.{◌≡◌, ◌≢◌, ℕ, ◌<◌, inl, inr, List, [], ◌∷◌, map, filter, nat_le, length, refl, sym, ap, ◌∙◌, subst}
-use Rattle.std.specs.List.{AllByRecursion, All, Contains}
+use Rattle.std.specs.List.{All, Contains}
 use Rattle.std.proofs.lemmas.List.{get_or_default}
 use Rattle.std.proofs.lemmas.List.Elements.{All-map, All-contains, All-from_recursion, Contains-get_or}
 use Rattle.mine_model.specs.declared.item.Item.{Item}
@@ -14,7 +14,7 @@ use Rattle.mine_model.specs.Ancestry.{Ancestry, item_at}
 use Rattle.mine_model.specs.Names.{name_of, HasName, AreDistinct, link_by, GrowBy}
 use Rattle.mine_model.specs.Text.{lines_of}
 use Rattle.mine_model.specs.Refusal.{names_of, placed_links_of, links_of as links_in, IsHierarchyRefusal}
-use Rattle.mine_model.proofs.ListLemmas.{Contains-by, Contains-from, Contains-filter, Contains-first, Contains-other}
+use Rattle.mine_model.proofs.ListLemmas.{Contains-by, Contains-from, Contains-filter, AllByRecursion-from}
 use Rattle.mine_model.proofs.AncestryLemmas.{Item-same}
 use Rattle.mine_model.proofs.WalkLemmas.{HasCycle-more}
 use Rattle.mine_model.proofs.RenamingLemmas.{placed_by, renames, IsCycleLine-by, IsCycleLine-from, HasMoreAncestors-by, HasMoreAncestors-from}
@@ -26,11 +26,7 @@ use Rattle.desq_run.specs.Inputs.{IsHierarchyOf}
 
 -- what holds of each element that is contained holds of all
 pub all-of : {X : Type 0} (P : X → Type 0) (xs : List X) → ((x : X) → Contains xs x → P x) → All P xs
-all-of {X} P xs each = All-from_recursion P xs (by xs each)
-  where
-    by : (xs : List X) → ((x : X) → Contains xs x → P x) → AllByRecursion P xs
-    by [] each = tt
-    by (x ∷ xs) each = (each x (Contains-first x xs), by xs (λ y inside. each y (Contains-other x xs y inside)))
+all-of P xs each = All-from_recursion P xs (AllByRecursion-from P xs each)
 
 links-by : (names : List (List ℕ)) (rows : List EdgeRow) → map (λ (p : PlacedLink (List ℕ)). p.link) (named_rows names rows) ≡ map (link_by (name_of names)) (links_of rows)
 links-by names [] = refl

@@ -1,9 +1,8 @@
 -- The rows of an accepted input keep within the limits of files.
-use Rattle.std.proofs.Common.{◌≡◌, ◌≢◌, ◌⊎◌, ◌↔◌, ℕ, zero, suc, ◌+◌, ◌*◌, ◌≤◌, ◌<◌, inl, inr, Bool, true, false, List, [], ◌∷◌, ◌++◌, map, length, All, Contains, length-append, refl, sym, ap, ◌∙◌, subst, arith}
-use Rattle.std.specs.List.{AllByRecursion, flat_map}
+use Rattle.std.proofs.Common.{◌≡◌, ℕ, zero, suc, ◌+◌, ◌*◌, ◌≤◌, ◌<◌, inl, inr, Bool, true, false, List, [], ◌∷◌, ◌++◌, map, length, All, Contains, length-append, refl, sym, ap, ◌∙◌, subst, arith}
+use Rattle.std.specs.List.{AllByRecursion}
 use Rattle.std.proofs.lemmas.Bool.{cases_lt}
 use Rattle.std.proofs.lemmas.List.{append-nil, append_assoc, length-map}
-use Rattle.mine_model.specs.declared.fault.Fault.{Fault}
 use Rattle.mine_model.specs.declared.fault.Fault.TheVariants.{BadByte, BadWeight, NameTooLong, TooManyItems, TooManySequences}
 use Rattle.mine_model.specs.declared.fault.Which.{Which}
 use Rattle.mine_model.specs.declared.fault.Which.TheVariants.{Hierarchy, Sequences}
@@ -13,35 +12,35 @@ use Rattle.mine_model.specs.Expression.{Tree}
 use Rattle.mine_model.specs.Grammar.{value_of_digits}
 use Rattle.mine_model.specs.First.{FirstOf, FirstAmong}
 use Rattle.mine_model.specs.Refusal.{HasMoreNames, IsTextRefusal, IsHierarchyLineRefusal, IsHierarchyRefusal, IsSequenceLineRefusal, IsSequencesRefusal, IsBadWeight, names_of, links_of, items_of, sequence_of, sequences_of, sequences_of_lines}
-use Rattle.mine_model.specs.Hierarchy.{Link, IsAncestor}
+use Rattle.mine_model.specs.Hierarchy.{Link}
 use Rattle.mine_model.specs.Generation.{IsPatternOf}
 use Rattle.mine_model.specs.Support.{Sequence, Counts}
 use Rattle.mine_model.specs.Answer.{Data, NamedRow, IsAnswer, IsFrequent}
-use Rattle.mine_model.proofs.ListLemmas.{Contains-cases, Contains-first, Contains-other, Contains-none, AllByRecursion-weaker, last-cases}
+use Rattle.mine_model.proofs.ListLemmas.{Contains-cases, Contains-first, Contains-other, Contains-none, Contains-from, cut_at, AllByRecursion-from, AllByRecursion-weaker, last-cases}
 use Rattle.mine_model.proofs.ElementLemmas.{flat-cases, flat-held}
 use Rattle.mine_model.proofs.AboveLemmas.{IsAncestor-keeps}
 use Rattle.mine_model.proofs.GenerationLemmas.{Generates-items}
 use Rattle.mine_model.proofs.SupportLemmas.{Counts-some}
-use Rattle.command_line.specs.Words.{Source, read, embed, make}
+use Rattle.command_line.specs.Words.{Source, read, embed, make, merge}
 use Rattle.split_merge.specs.Merging.{IsNameText, IsOutputRow, IsKnownRow, AreWithinLimits}
 use Rattle.split_merge.proofs.FormLemmas.{pieces-named, texts-named}
-use Rattle.desq_run.specs.Sources.{IsSourceRefusal}
+use Rattle.desq_run.specs.Sources.{IsSourceRefusal, SaysTree}
 use Rattle.desq_run.specs.Said.{names_said, RefusesHierarchy, RefusesSequences}
-use Rattle.desq_run.specs.Ends.{Input, IsAccepted, data_of}
+use Rattle.desq_run.specs.Ends.{Input, IsDataRefusal, IsRowsRefusal, IsAccepted, data_of}
 use Rattle.desq_run.proofs.SourceLemmas.{data_by}
 use Rattle.desq_run.proofs.HierarchyLemmas.{all-of}
 use Rattle.desq_run.proofs.LinkLemmas.{links-among, Contains-both, Contains-front, Contains-back}
 
 -- What is not refused
 
-abbrev Nothing : {F : Type 0} → (F → Type 0) → Type 0
+abbrev pub Nothing : {F : Type 0} → (F → Type 0) → Type 0
 Nothing {F} Refused = (fault : F) → Refused fault → ⊥
 
 module _ {F : Type 0} where
-  first_none : (First Second : F → Type 0) → Nothing (FirstOf First Second) → Nothing First
+  pub first_none : (First Second : F → Type 0) → Nothing (FirstOf First Second) → Nothing First
   first_none First Second none fault is = none fault (inl is)
 
-  second_none : (First Second : F → Type 0) → Nothing (FirstOf First Second) → Nothing Second
+  pub second_none : (First Second : F → Type 0) → Nothing (FirstOf First Second) → Nothing Second
   second_none First Second none fault is = none fault (inr ((λ other first. none other (inl first)), is))
 
   -- of elements none of which is refused, none is, wherever it stands
@@ -52,13 +51,6 @@ module _ {F : Type 0} where
   each_none R before (y ∷ front) x back none =
       subst (λ l. Nothing (R l x)) (append_assoc before (y ∷ []) front)
       (each_none R (before ++ y ∷ []) front x back (second_none (R before y) (FirstAmong R (before ++ y ∷ []) (front ++ x ∷ back)) none))
-
-cut_at : {X : Type 0} (xs : List X) (x : X) → Contains xs x → (front : List X) × (back : List X) × (xs ≡ front ++ x ∷ back)
-cut_at [] x held = absurd (Contains-none x held)
-cut_at (y ∷ xs) x held = elim (Contains-cases y xs x held) [
-  | inl same ↦ ([], xs, (λ i. sym same i ∷ xs))
-  | inr later ↦ let (front, back, cut) = cut_at xs x later in (y ∷ front, back, ap (λ l. y ∷ l) cut)
-]
 
 -- The text of a line
 
@@ -91,16 +83,9 @@ held_from f P (y ∷ xs) all x held = elim (Contains-cases y xs x held) [
   | inr later ↦ held_from f P xs all.1 x later
 ]
 
-image_of : {X Y : Type 0} (f : X → Y) (xs : List X) (y : Y) → Contains (map f xs) y → (x : X) × Contains xs x × (y ≡ f x)
-image_of f [] y held = absurd (Contains-none y held)
-image_of f (x ∷ xs) y held = elim (Contains-cases (f x) (map f xs) y held) [
-  | inl same ↦ (x, Contains-first x xs, same)
-  | inr later ↦ let (z, inside, same) = image_of f xs y later in (z, Contains-other x xs z inside, same)
-]
-
 field_name : (line : List ℕ) → IsSoundLine line → (name : List ℕ) → Contains (fields_of line) name → IsFileName name
 field_name line is name held =
-    let (field, inside, same) = image_of (λ (f : Field). f.text) (placed_fields_of line) name held in
+    let (field, inside, same) = Contains-from (λ (f : Field). f.text) (placed_fields_of line) name held in
     let text : IsNameText field.text = held_from (λ (f : Field). f.text) IsNameText (placed_fields_of line) (texts-named 1 (pieces_by_blank line) (pieces-named line)) field inside in
     let short : length field.text ≤ most_name_bytes = elim (cases_lt most_name_bytes (length field.text)) [
       | inl long ↦ absurd (is long_name (field.column + most_name_bytes) (field, inside, long, refl))
@@ -154,7 +139,7 @@ module _ (weighted : Bool) (known : List (List ℕ)) (bytes : List ℕ) (none : 
   sequence_name : (name : List ℕ) → Contains (items_of (sequences_of weighted bytes)) name → IsFileName name
   sequence_name name held =
       let (s, inside, part) = flat-cases (λ (s : Sequence (List ℕ)). s.items) (sequences_of weighted bytes) name held in
-      let (line, at, same) = image_of (λ line. sequence_of weighted (fields_of line)) (lines_of bytes) s inside in
+      let (line, at, same) = Contains-from (λ line. sequence_of weighted (fields_of line)) (lines_of bytes) s inside in
       let (front, back, cut) = cut_at (lines_of bytes) line at in
       field_name line (sound Sequences (length front + 1) line (first_none _ _ (sequence_line front line back cut))) name
       (field_of_item (fields_of line) name (subst (λ (s : Sequence (List ℕ)). Contains s.items name) same part))
@@ -167,7 +152,7 @@ module _ (weighted : Bool) (known : List (List ℕ)) (bytes : List ℕ) (none : 
         (subst (λ l. HasMoreNames most_items (known ++ items_of (sequences_of_lines weighted l))) cut more, refl)
   ]
 
-  sequences_count : length (sequences_of weighted bytes) ≤ most_sequences
+  pub sequences_count : length (sequences_of weighted bytes) ≤ most_sequences
   sequences_count =
       let long : length (sequences_of weighted bytes) ≡ length (lines_of bytes) = length-map (lines_of bytes) (λ line. sequence_of weighted (fields_of line)) in
       elim (last-cases (lines_of bytes)) [
@@ -180,9 +165,9 @@ module _ (weighted : Bool) (known : List (List ℕ)) (bytes : List ℕ) (none : 
             ]
       ]
 
-  sequence_weight : (s : Sequence (List ℕ)) → Contains (sequences_of weighted bytes) s → s.weight ≤ most_weight
+  pub sequence_weight : (s : Sequence (List ℕ)) → Contains (sequences_of weighted bytes) s → s.weight ≤ most_weight
   sequence_weight s inside =
-      let (line, at, same) = image_of (λ line. sequence_of weighted (fields_of line)) (lines_of bytes) s inside in
+      let (line, at, same) = Contains-from (λ line. sequence_of weighted (fields_of line)) (lines_of bytes) s inside in
       let (front, back, cut) = cut_at (lines_of bytes) line at in
       subst (λ (s : Sequence (List ℕ)). s.weight ≤ most_weight) (sym same)
       (by weighted (placed_fields_of line) (λ column is. first_none _ _ (second_none _ _ (second_none _ _ (sequence_line front line back cut)))
@@ -220,10 +205,6 @@ counted-most Has (s ∷ sequences) weights n (inr (not, more)) =
 
 -- The rows
 
-each_of : {X : Type 0} (P : X → Type 0) (xs : List X) → ((x : X) → Contains xs x → P x) → AllByRecursion P xs
-each_of P [] each = tt
-each_of P (x ∷ xs) each = (each x (Contains-first x xs), each_of P xs (λ y held. each y (Contains-other x xs y held)))
-
 module _ (weighted : Bool) (hierarchy sequences : List ℕ) (threshold : ℕ) (some : 1 ≤ threshold) (tree : Tree (List ℕ))
     (none : Nothing (IsHierarchyRefusal hierarchy)) (also : Nothing (IsSequencesRefusal weighted (names_of (lines_of hierarchy)) sequences)) where
   abbrev run_data : Data (List ℕ)
@@ -239,7 +220,7 @@ module _ (weighted : Bool) (hierarchy sequences : List ℕ) (threshold : ℕ) (s
   ]
 
   items_known : (s : Sequence (List ℕ)) → Contains (sequences_of weighted sequences) s → AllByRecursion (Contains known) s.items
-  items_known s held = each_of (Contains known) s.items (λ name inside.
+  items_known s held = AllByRecursion-from (Contains known) s.items (λ name inside.
       Contains-back (names_of (lines_of hierarchy)) (items_of (sequences_of weighted sequences)) name
       (flat-held (λ (s : Sequence (List ℕ)). s.items) (sequences_of weighted sequences) s name held inside))
 
@@ -254,7 +235,7 @@ module _ (weighted : Bool) (hierarchy sequences : List ℕ) (threshold : ℕ) (s
   pattern_known row frequent =
       let (items, is, inside) = Counts-some (λ items. IsPatternOf (links_of hierarchy) tree items row.pattern) (AllByRecursion (Contains known))
       (sequences_of weighted sequences) row.support frequent.exact (omega (arith, some, frequent.enough))
-      (each_of (λ (s : Sequence (List ℕ)). AllByRecursion (Contains known) s.items) (sequences_of weighted sequences) items_known) in
+      (AllByRecursion-from (λ (s : Sequence (List ℕ)). AllByRecursion (Contains known) s.items) (sequences_of weighted sequences) items_known) in
       Generates-items (links_of hierarchy) (Contains known) (λ v t above held. IsAncestor-keeps (links_of hierarchy) (Contains known) links_known v t held above)
       tree false items row.pattern is.1 inside
 
@@ -270,7 +251,7 @@ module _ (weighted : Bool) (hierarchy sequences : List ℕ) (threshold : ℕ) (s
   file_limits answer is = record {
     known = known;
     few = sequences_few weighted (names_of (lines_of hierarchy)) sequences also (hierarchy_few hierarchy none);
-    outputs = each_of (IsOutputRow threshold) answer (λ row held.
+    outputs = AllByRecursion-from (IsOutputRow threshold) answer (λ row held.
         let frequent = (is.frequent row).0 held in
         record {
           least = frequent.enough;
@@ -278,21 +259,21 @@ module _ (weighted : Bool) (hierarchy sequences : List ℕ) (threshold : ℕ) (s
           some = frequent.not_empty;
           names = AllByRecursion-weaker (Contains known) IsNameText (λ name inside. (known_name name inside).0) row.pattern (pattern_known row frequent);
         });
-    names = each_of (IsKnownRow known) answer (λ row held.
+    names = AllByRecursion-from (IsKnownRow known) answer (λ row held.
         AllByRecursion-weaker (Contains known) (λ name. Contains known name × (length name ≤ most_name_bytes))
         (λ name inside. (inside, (known_name name inside).1)) row.pattern (pattern_known row ((is.frequent row).0 held)));
   }
 
 -- THE ROWS of an accepted input of files keep within the limits
 pub within-limits : (input : Input) → ((count : ℕ) (expression : List ℕ) → input.command.source ≡ make count expression → ⊥) → 1 ≤ input.command.threshold
-    → IsAccepted input → (tree : Tree (List ℕ)) (answer : List NamedRow) → IsAnswer (data_of input tree) answer → AreWithinLimits input.command.threshold answer
-within-limits input file some accepted tree answer is = by input.command.source refl
+    → IsAccepted input → (tree : Tree (List ℕ)) (answer : List NamedRow) → SaysTree input.command.source tree → IsAnswer (data_of input tree) answer → AreWithinLimits input.command.threshold answer
+within-limits input file some accepted tree answer says is = by input.command.source refl
   where
     from : (source : Source) → source ≡ input.command.source → Nothing (RefusesHierarchy source input.hierarchy)
         × Nothing (RefusesSequences source input.command.weighted (names_said source input.hierarchy) input.sequences)
         × IsAnswer (data_by source input tree) answer
     from source own =
-        let behind = second_none (IsSourceRefusal input.command.source) _ accepted in
+        let behind = second_none (IsSourceRefusal input.command.source) _ (first_none (IsDataRefusal input) _ (first_none (IsRowsRefusal input) _ accepted)) in
         subst (λ source. Nothing (RefusesHierarchy source input.hierarchy)
         × Nothing (RefusesSequences source input.command.weighted (names_said source input.hierarchy) input.sequences)
         × IsAnswer (data_by source input tree) answer) (sym own)
@@ -306,3 +287,4 @@ within-limits input file some accepted tree answer is = by input.command.source 
         let (none, also, whole) = from (embed rule name) own in
         file_limits input.command.weighted input.hierarchy input.sequences input.command.threshold some tree none also answer whole
     by (make count expression) own = absurd (file count expression (sym own))
+    by (merge files) own = absurd (subst (λ source. SaysTree source tree) (sym own) says)

@@ -12,7 +12,7 @@ use Rattle.mine_model.proofs.ListLemmas.{Contains-cases, Contains-first, Contain
 use Rattle.mine_model.proofs.AncestryLemmas.{Item-same}
 use Rattle.mine_model.proofs.NumberingLemmas.{Renames}
 use Rattle.made_input.proofs.MakingLemmas.{links-between}
-use Rattle.command_line.specs.Words.{Source, read, embed, make}
+use Rattle.command_line.specs.Words.{Source, read, embed, make, merge}
 use Rattle.desq_run.specs.Said.{names_said, links_said}
 use Rattle.desq_run.specs.Inputs.{IsHierarchySaid}
 
@@ -87,6 +87,7 @@ pub links-among : (source : Source) (bytes : List ℕ) (link : Link (List ℕ)) 
 links-among (read expression file) bytes link inside = file-links bytes link inside
 links-among (embed rule file) bytes link inside = file-links bytes link inside
 links-among (make count expression) bytes link inside = links-between link inside
+links-among (merge files) bytes link inside = absurd (Contains-none link inside)
 
 -- a name that is held has a number
 pub number-of : (names : List (List ℕ)) (name : List ℕ) → Contains names name → (w : Item) × HasName names w × (name ≡ name_of names w)

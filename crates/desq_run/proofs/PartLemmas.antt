@@ -1,5 +1,5 @@
 -- The rows of a share by numbers, in order, are its part of the answer by names.
-use Rattle.std.proofs.Common.{◌≡◌, ℕ, ◌≤◌, Some, List, sym, ap, subst, map, Contains, arith}
+use Rattle.std.proofs.Common.{ℕ, ◌≤◌, Some, List, sym, subst, map, Contains}
 use Rattle.std.specs.List.{AllByRecursion}
 use Rattle.mine_model.specs.declared.item.Item.{Item}
 use Rattle.mine_model.specs.declared.row.Row.{Row}
@@ -10,8 +10,8 @@ use Rattle.mine_model.specs.Answer.{Data, IsFrequent, NamedRow, Rises}
 use Rattle.mine_model.specs.Names.{name_of, HasName, named_row}
 use Rattle.mine_model.specs.PartitionWork.{IsBytewiseBefore, IsNamedBefore}
 use Rattle.mine_model.proofs.ListLemmas.{Contains-by, Contains-from}
-use Rattle.mine_model.proofs.NumberingLemmas.{Renames, map-none, counts-forth, counts-back, supported-in, supported-back}
-use Rattle.mine_model.proofs.NamedAnswer.{named_data}
+use Rattle.mine_model.proofs.NumberingLemmas.{Renames}
+use Rattle.mine_model.proofs.NamedAnswer.{named_data, rebuilt, frequent-forth, frequent-back}
 use Rattle.command_line.specs.declared.share.Share.{Share}
 use Rattle.split_merge.specs.Shares.{IsPivot, IsRowOfShare}
 use Rattle.desq_run.specs.Parts.{IsPartBy}
@@ -22,37 +22,6 @@ module _ (names : List (List ℕ)) (others : List (Link (List ℕ))) (d : Data I
     (renames : Renames d.links others (HasName names) (name_of names))
     (numbered : AllByRecursion (λ (s : Sequence Item). AllByRecursion (HasName names) s.items) d.sequences)
     (named : AllByRecursion (HasName names) (named_in d.expression)) (some : 1 ≤ d.threshold) where
-  frequent-forth : (pattern : List Item) (support : ℕ) → IsFrequent d pattern support
-      → IsFrequent (named_data names others d) (map (name_of names) pattern) support
-  frequent-forth pattern support is =
-      let inside : AllByRecursion (HasName names) pattern =
-      supported-in d.links others (HasName names) (name_of names) renames d.expression named pattern d.sequences support
-      (omega (arith, some, is.enough)) numbered is.exact in
-      record {
-        not_empty = λ none. is.not_empty (map-none (name_of names) pattern none);
-        exact = counts-forth d.links others (HasName names) (name_of names) renames d.expression named
-            pattern inside d.sequences support numbered is.exact;
-        enough = is.enough;
-      }
-
-  frequent-back : (pattern : List (List ℕ)) (support : ℕ) → IsFrequent (named_data names others d) pattern support
-      → (own : List Item) × (pattern ≡ map (name_of names) own) × IsFrequent d own support × AllByRecursion (HasName names) own
-  frequent-back pattern support is =
-      let (own, same, inside) = supported-back d.links others (HasName names) (name_of names) renames d.expression named
-      pattern d.sequences support (omega (arith, some, is.enough)) numbered is.exact in
-      let is_own : IsFrequent (named_data names others d) (map (name_of names) own) support =
-      subst (λ p. IsFrequent (named_data names others d) p support) same is in (
-        own,
-        same,
-        record {
-          not_empty = λ none. is_own.not_empty (ap (map (name_of names)) none);
-          exact = counts-back d.links others (HasName names) (name_of names) renames d.expression named
-              own inside d.sequences support numbered is_own.exact;
-          enough = is_own.enough;
-        },
-        inside,
-      )
-
   module _ (share : Share) where
     abbrev Frequent : NamedRow → Type 0
     Frequent row = IsFrequent (named_data names others d) row.pattern row.support
@@ -68,10 +37,10 @@ module _ (names : List (List ℕ)) (others : List (Link (List ℕ))) (d : Data I
         λ inside. let (r, held, same) = Contains-from (named_row names) rows row inside in
             let (frequent, (pivot, is, in_share)) = (found r).0 held in
             subst (λ (x : NamedRow). Frequent x × IsRowOfShare (map (name_of names) order) share.index share.of x) (sym same) (
-              frequent-forth r.pattern r.support frequent,
+              frequent-forth names others d renames numbered named some r.pattern r.support frequent,
               (pivot, of-share-forth (name_of names) others d (HasName names) renames named numbered IsBytewiseBefore some order list r.pattern pivot is, in_share),
             ),
-        λ is. let (own, same, is_own, within) = frequent-back row.pattern row.support is.0 in
+        λ is. let (own, same, is_own, within) = frequent-back names others d renames numbered named some row.pattern row.support is.0 in
             let r : Row = record { pattern = own; support = row.support } in
             let pivot : IsPivot order own is.1.0 =
             of-share-back (name_of names) others d (HasName names) renames named numbered IsBytewiseBefore some order list own is.1.0 within
@@ -81,7 +50,3 @@ module _ (names : List (List ℕ)) (others : List (Link (List ℕ))) (d : Data I
             subst (Contains (map (named_row names) rows)) (rebuilt row (map (name_of names) own) same) made,
       );
     }
-      where
-        rebuilt : (row : NamedRow) (pattern : List (List ℕ)) → row.pattern ≡ pattern
-            → record { pattern = pattern; support = row.support } ≡ row
-        rebuilt row pattern same = sym (ap (λ p. let made : NamedRow = record { pattern = p; support = row.support } in made) same)

@@ -1,5 +1,5 @@
 -- The rows that were found, in order, and what they say of the input.
-use Rattle.std.proofs.Common.{◌≡◌, ◌↔◌, ℕ, ◌<◌, ◌≤◌, List, ◌++◌, map, length, All, Option, Some, None, IfSome, IsPermutation, Contains, sym, ap, ◌∙◌, subst, Result, Ok, Err, IfOk}
+use Rattle.std.proofs.Common.{◌≡◌, ℕ, ◌<◌, ◌≤◌, List, ◌++◌, map, length, All, Bool, true, Option, Some, None, IfSome, is_some, IsPermutation, Contains, refl, sym, ap, ◌∙◌, subst, Result, Ok, Err, IfOk}
 use Rattle.std.specs.List.{AllByRecursion}
 use Rattle.std.proofs.lemmas.List.Elements.{All-from_recursion}
 use Rattle.std.proofs.lemmas.List.Sorted.{Contains-permutation, IsPermutation-sym}
@@ -14,15 +14,16 @@ use Rattle.mine_model.specs.Names.{HasName, AreDistinct, named_row}
 use Rattle.mine_model.specs.Ancestry.{Ancestry}
 use Rattle.mine_model.specs.Refusal.{IsUnknown}
 use Rattle.patex_parser.specs.Parsing.{named_tree}
-use Rattle.command_line.specs.Words.{Command, file_of}
+use Rattle.mining_job.specs.Problems.{Problem, data_of as problem_data}
+use Rattle.command_line.specs.Words.{Command, IsCommand, file_of}
 use Rattle.mine_model.specs.declared.mined.Work.{Work}
 use Rattle.command_line.specs.declared.share.Share.{Share}
 use Rattle.mine_model.specs.PartitionWork.{IsBytewiseBefore, IsNamedBefore}
 use Rattle.desq_run.specs.Sources.{SaysTree}
 use Rattle.desq_run.specs.Ends.{bytes_named, data_of, HasSource, AreRowsTo, IsWorkOf}
-use Rattle.desq_run.specs.Inputs.{IsHierarchySaid, IsDatabaseSaid, AreLinksWithin, AreInputs, HasRanges, IsRead, AreFound, AreRows, AreOrdered, IsMined}
+use Rattle.desq_run.specs.Inputs.{IsHierarchySaid, IsDatabaseSaid, AreLinksWithin, AreInputs, HasRanges, IsRead, AreFound, AreRows, AreOrdered, IsJobFor, IsMined}
 use Rattle.desq_run.proofs.HierarchyLemmas.{all-of}
-use Rattle.desq_run.proofs.EndLemmas.{same_command, read_at, found_at, nothing-refused, hierarchy-accepted}
+use Rattle.desq_run.proofs.EndLemmas.{same_command, held, read_at, found_at, nothing-refused, hierarchy-accepted, data-accepted}
 use Rattle.desq_run.proofs.SourceLemmas.{rows-to}
 use Rattle.desq_run.proofs.InputLemmas.{found-answer, work-answer}
 
@@ -51,13 +52,10 @@ found-ordered Ties (Some share) d rows ordered (order, list, found) same = (
 )
 
 -- the rows brought into order
-pub rows-ordered : (names : List (List ℕ)) (h : Ancestry) (db : List (Sequence Item)) (e : Tree Item) (threshold : ℕ) (share : Option Share) (rows ordered : List Row)
-    → AreFound (IsNamedBefore names) share (record { links = h.links; sequences = db; expression = e; threshold = threshold }) rows
-    → IsPermutation rows ordered → Rises (map (named_row names) ordered) → AreOrdered names h db e threshold share ordered
-rows-ordered names h db e threshold share rows ordered found same rises = record {
-  found = found-ordered (IsNamedBefore names) share (record { links = h.links; sequences = db; expression = e; threshold = threshold }) rows ordered found same;
-  rises = rises;
-}
+pub rows-ordered : (names : List (List ℕ)) (share : Option Share) (d : Data Item) (rows ordered : List Row) → AreFound (IsNamedBefore names) share d rows
+    → IsPermutation rows ordered → Rises (map (named_row names) ordered) → AreOrdered names share d ordered
+rows-ordered names share d rows ordered found same rises =
+    record { found = found-ordered (IsNamedBefore names) share d rows ordered found same; rises = rises }
 
 module _ (words : List (List ℕ)) (holds : List ℕ → Option (List ℕ)) (c : Command) (has : HasSource words c)
     (known : List (List ℕ)) (before : Ancestry) (db : List (Sequence Item)) (uses : List Use) (tree : Tree Item) (rows : List Row) (work : Work) where
@@ -77,25 +75,26 @@ module _ (words : List (List ℕ)) (holds : List ℕ → Option (List ℕ)) (c :
   mined-at added within read is_read ranges some distinct found numbered known_all are = record {
     source = has;
     hierarchy = hierarchy-accepted words holds c has known before read;
+    mined = data-accepted words holds c has known before read (known ++ added) db found uses tree is_read known_all;
     accepted = nothing-refused words holds c has known before read (known ++ added) db found uses tree is_read known_all;
     answer = λ input is.
         let same : c ≡ input.command = same_command words holds c has input is in
         subst (λ (d : Command). AreRowsTo d.share d.source input (map (named_row (known ++ added)) rows)) same
         (rows-to c.share c.source input (named_tree uses tree) (map (named_row (known ++ added)) rows) (ap (λ (d : Command). d.source) same) ranges is_read.says
         (found-answer input (named_tree uses tree) known added before db are.expression c.share rows distinct
-        (read_at words holds c has known before read input is) within
-        (found_at words holds c has known before read (known ++ added) db found input is) numbered are.same are.named
+        (read_at words holds c has known before read input (held words holds c has input is)) within
+        (found_at words holds c has known before read (known ++ added) db found input (held words holds c has input is)) numbered are.same are.named
         (subst (λ (d : Command). 1 ≤ d.threshold) same some)
         (subst (λ (d : Command). AreFound (IsNamedBefore (known ++ added)) c.share (record { links = before.links; sequences = db; expression = are.expression; threshold = d.threshold }) rows) same are.found)
         are.rises));
-    work = λ input is.
+    work = λ asked input is.
         let same : c ≡ input.command = same_command words holds c has input is in (
           named_tree uses tree,
           subst (λ (d : Command). SaysTree d.source (named_tree uses tree)) same is_read.says,
           subst (λ (d : Command). IsWorkOf IsBytewiseBefore d.share d.engine (data_of input (named_tree uses tree)) work) same
               (work-answer input (named_tree uses tree) known added before db are.expression c.share c.engine work distinct
-              (read_at words holds c has known before read input is) within
-              (found_at words holds c has known before read (known ++ added) db found input is) numbered are.same are.named
+              (read_at words holds c has known before read input (held words holds c has input is)) within
+              (found_at words holds c has known before read (known ++ added) db found input (held words holds c has input is)) numbered are.same are.named
               (subst (λ (d : Command). 1 ≤ d.threshold) same some)
               (subst (λ (d : Command). IsWorkOf (IsNamedBefore (known ++ added)) c.share c.engine (record { links = before.links; sequences = db; expression = are.expression; threshold = d.threshold }) work) same are.work)),
         );
@@ -127,10 +126,25 @@ module _ (words : List (List ℕ)) (holds : List ℕ → Option (List ℕ)) (c :
       } in
       subst Mines (sym behind) (mined-at inputs.added (subst AreLinksWithin before_is inputs.within) read is_read ranges some) distinct found numbered known_all are_before
 
+-- what was found by the job of a command, in order, is mined
+pub job-mined : (words : List (List ℕ)) (holds : List ℕ → Option (List ℕ)) (c : Command) → IsCommand words c → (names : List (List ℕ)) (problem : Problem)
+    → IsJobFor holds c names problem → HasRanges c.source → 1 ≤ c.threshold → (rows : List Row) (work : Work) → AreOrdered names c.share (problem_data problem) rows
+    → IsWorkOf (IsNamedBefore names) c.share c.engine (problem_data problem) work → IsMined words holds c names rows work
+job-mined words holds c said names problem job ranges some rows work ordered counted =
+    mined words holds c (said, job.source) job.inputs.known job.inputs.before job.db job.uses job.tree rows work names job.h job.inputs refl refl job.read ranges some
+    job.distinct job.numbered job.known (record {
+      expression = job.job.expression;
+      same = job.job.same;
+      named = job.job.named;
+      found = subst (λ d. AreFound (IsNamedBefore names) c.share d rows) job.job.sets ordered.found;
+      rises = ordered.rises;
+      work = subst (λ d. IsWorkOf (IsNamedBefore names) c.share c.engine d work) job.job.sets counted;
+    })
+
 -- what is told is the work
-pub is-work : (P : Work → Type 0) (told : Option Work) (work : Work) → IfSome told (λ t. t ≡ work) → P work → IfSome told P
-is-work P None work same p = tt
-is-work P (Some t) work same p = subst P (sym same) p
+pub is-work : (P : Work → Type 0) (asked : Bool) (told : Option Work) (work : Work) → asked ≡ is_some told → IfSome told (λ t. t ≡ work) → (asked ≡ true → P work) → IfSome told P
+is-work P asked None work is same p = tt
+is-work P asked (Some t) work is same p = subst P (sym same) (p is)
 
 -- what follows from a property holds of a result that has it
 pub if_ok : {T E : Type 0} (P Q : T → Type 0) (r : Result T E) → ((v : T) → P v → Q v) → IfOk r P → IfOk r Q

@@ -7,7 +7,7 @@ use Rattle.mine_model.specs.Text.{lines_of}
 use Rattle.mine_model.specs.Grammar.{Use}
 use Rattle.mine_model.specs.First.{FirstOf, FirstAmong}
 use Rattle.mine_model.specs.Refusal.{IsTooLarge, HasMoreNames, IsSequenceLineRefusal, IsSequencesRefusal, IsUnknown, sequences_of_lines, items_of}
-use Rattle.command_line.specs.Words.{Source, read, embed, make}
+use Rattle.command_line.specs.Words.{Source, read, embed, make, merge}
 use Rattle.desq_run.specs.Said.{RefusesSequences}
 use Rattle.desq_run.proofs.LinkLemmas.{Contains-both, Contains-front, Contains-back}
 
@@ -90,6 +90,7 @@ pub sequences-alike : (source : Source) (weighted : Bool) (known others : List (
 sequences-alike (read expression file) weighted known others bytes same = file-alike weighted known others bytes same
 sequences-alike (embed rule file) weighted known others bytes same = file-alike weighted known others bytes same
 sequences-alike (make count expression) weighted known others bytes same = λ fault. ((λ none. none), (λ none. none))
+sequences-alike (merge files) weighted known others bytes same = λ fault. ((λ none. none), (λ none. none))
 
 -- names that are known otherwise listed leave the same names unknown
 pub unknown-alike : (known others : List (List ℕ)) (uses : List Use) → HoldSame known others → RefuseAlike (IsUnknown known uses) (IsUnknown others uses)

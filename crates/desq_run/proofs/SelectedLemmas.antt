@@ -1,20 +1,19 @@
 -- The part of an answer is what a share selects of it.
-use Rattle.std.proofs.Common.{◌≡◌, ◌⊎◌, ◌↔◌, ℕ, ◌+◌, inl, inr, Bool, true, false, ◌&&◌, ◌||◌, List, [], ◌∷◌, Contains, refl, sym, ap, ◌∙◌, subst}
+use Rattle.std.proofs.Common.{◌≡◌, ◌⊎◌, ◌↔◌, ℕ, ◌+◌, inl, inr, Bool, ◌&&◌, ◌||◌, List, [], ◌∷◌, Contains, refl, sym, ◌∙◌, subst}
 use Rattle.std.specs.Bool.{Decides}
-use Rattle.std.specs.List.{AllByRecursion}
 use Rattle.std.specs.Str.{bytes_eq}
 use Rattle.std.proofs.lemmas.Bool.{cases_Bool}
 use Rattle.std.proofs.lemmas.Bool.Decides.{Decides-like, Decides-and, Decides-or, not_from_Decides}
 use Rattle.std.proofs.lemmas.Slice.Eq.{bytes_eq-Decides}
-use Rattle.mine_model.specs.Hierarchy.{Link, IsWalk, IsAncestor}
-use Rattle.mine_model.specs.Support.{Sequence, Counts, HoldsUnder, HasFrequency}
-use Rattle.mine_model.specs.Answer.{Data, NamedRow, IsAnswer, IsFrequent, ComesBefore, Rises}
-use Rattle.mine_model.specs.PartitionWork.{IsBytewiseBefore}
+use Rattle.mine_model.specs.Hierarchy.{Link, IsAncestor}
+use Rattle.mine_model.specs.Support.{Sequence, HoldsUnder, HasFrequency}
+use Rattle.mine_model.specs.Answer.{Data, NamedRow, ComesBefore, Rises}
 use Rattle.mine_model.proofs.AnswerLemmas.{ComesBefore-irreflexive, ComesBefore-chain}
-use Rattle.mine_model.proofs.WalkLemmas.{IsAncestor-chain, IsAncestor-more}
+use Rattle.mine_model.proofs.GenerationLemmas.{IsAncestor-none}
+use Rattle.mine_model.proofs.WalkLemmas.{IsWalk-without, IsAncestor-with}
 use Rattle.mine_model.proofs.ListLemmas.{Contains-cases, Contains-first, Contains-other, Contains-none, AllByRecursion-contained}
 use Rattle.command_line.specs.declared.share.Share.{Share}
-use Rattle.split_merge.specs.Shares.{AreCounted, IsInShare, IsFrequencyList, IsPivot, IsRowOfShare, AreSelected, IsPart}
+use Rattle.split_merge.specs.Shares.{AreCounted, IsRowOfShare, AreSelected, IsPart}
 use Rattle.desq_run.specs.Parts.{IsPartBy}
 
 module _ (Has : NamedRow → Type 0) where
@@ -86,48 +85,15 @@ part-of IsRow d share answer part rises frequent is = record {
 
 -- Each item has a frequency: what stands above a name is decided
 
-module _ {A : Type 0} (links : List (Link A)) (link : Link A) where
-  -- a walk over one more link need not take it more than once
-  taken : (t : A) (steps : List A) (w : A) → IsWalk (link ∷ links) t steps w
-      → IsAncestor links w t ⊎ (IsAncestor links link.child t × IsAncestor links w link.parent)
-  taken t [] w same = inl ([], same)
-  taken t (up ∷ steps) w walk = elim (Contains-cases link links (record { child = t; parent = up }) walk.0) [
-    | inl here ↦
-        let child : t ≡ link.child = ap (λ l. l.child) here in
-        let parent : up ≡ link.parent = ap (λ l. l.parent) here in
-        elim (taken up steps w walk.1) [
-          | inl above ↦ inr (([], child), subst (IsAncestor links w) parent above)
-          | inr again ↦ inr (([], child), again.1)
-        ]
-    | inr there ↦ elim (taken up steps w walk.1) [
-      | inl above ↦ inl (up ∷ above.0, (there, above.1))
-      | inr again ↦ inr ((up ∷ again.0.0, (there, again.0.1)), again.1)
-    ]
-  ]
-
-  more : (other : Link A) → Contains links other → Contains (link ∷ links) other
-  more other held = Contains-other link links other held
-
-  walked : (w t : A) → IsAncestor links w t ⊎ (IsAncestor links link.child t × IsAncestor links w link.parent) → IsAncestor (link ∷ links) w t
-  walked w t (inl above) = IsAncestor-more links (link ∷ links) more w t above
-  walked w t (inr over) =
-      let step : IsAncestor (link ∷ links) link.parent link.child = (link.parent ∷ [], (Contains-first link links, refl)) in
-      IsAncestor-chain (link ∷ links) w link.parent t (IsAncestor-more links (link ∷ links) more w link.parent over.1)
-      (IsAncestor-chain (link ∷ links) link.parent link.child t step (IsAncestor-more links (link ∷ links) more link.child t over.0))
-
 abbrev is_above : List (Link (List ℕ)) → List ℕ → List ℕ → Bool
 is_above [] w t = bytes_eq t w
 is_above (link ∷ links) w t = is_above links w t || (is_above links link.child t && is_above links w link.parent)
 
-no_links : (w t : List ℕ) → IsAncestor [] w t → t ≡ w
-no_links w t ([], same) = same
-no_links w t (up ∷ steps, walk) = absurd (Contains-none (record { child = t; parent = up }) walk.0)
-
 above-decided : (links : List (Link (List ℕ))) (w t : List ℕ) → Decides (is_above links w t) (IsAncestor links w t)
-above-decided [] w t = Decides-like (bytes_eq t w) (λ same. ([], same)) (no_links w t) (bytes_eq-Decides t w)
+above-decided [] w t = Decides-like (bytes_eq t w) (λ same. ([], same)) (IsAncestor-none w t) (bytes_eq-Decides t w)
 above-decided (link ∷ links) w t =
     Decides-like (is_above links w t || (is_above links link.child t && is_above links w link.parent))
-    (walked links link w t) (λ up. taken links link t up.0 w up.1)
+    (IsAncestor-with links link w t) (λ up. IsWalk-without links link t up.0 w up.1)
     (Decides-or (is_above links w t) (is_above links link.child t && is_above links w link.parent) (above-decided links w t)
     (Decides-and (is_above links link.child t) (is_above links w link.parent) (above-decided links link.child t) (above-decided links w link.parent)))
 

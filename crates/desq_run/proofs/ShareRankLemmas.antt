@@ -1,5 +1,5 @@
 -- The search by the pivots of a share, by ranks and by items.
-use Rattle.std.proofs.Common.{◌≡◌, ◌≢◌, ◌⊎◌, ◌↔◌, ℕ, suc, zero, ◌-◌, ◌≤◌, ◌<◌, inl, inr, Some, List, [], ◌∷◌, map, length, get_or, refl, sym, ap, ◌∙◌, subst, arith}
+use Rattle.std.proofs.Common.{◌≡◌, ◌↔◌, ℕ, suc, zero, ◌-◌, ◌≤◌, ◌<◌, Some, List, [], ◌∷◌, length, get_or, refl, sym, ap, ◌∙◌, subst, arith}
 use Rattle.std.specs.List.{All, AllByRecursion, AllPairs, Contains, slice_get}
 use Rattle.std.proofs.lemmas.Option.{slice_get-get_or}
 use Rattle.mine_model.specs.declared.item.Item.{Item}
@@ -9,7 +9,7 @@ use Rattle.mine_model.specs.Hierarchy.{Link}
 use Rattle.mine_model.specs.Answer.{Data, IsFrequent}
 use Rattle.mine_model.specs.Ranks.{Ranking, HasRank, AreRanks, AreTiesByName}
 use Rattle.mine_model.specs.Pivots.{IsRankedUpTo, IsWithin, IsWithinPivot, label_of, IsAliveLabel}
-use Rattle.mine_model.specs.PartitionWork.{RanksBefore, IsNamedBefore}
+use Rattle.mine_model.specs.PartitionWork.{IsNamedBefore}
 use Rattle.mine_model.proofs.ListLemmas.{AllByRecursion-weaker}
 use Rattle.mine_model.proofs.NumberingLemmas.{map-none}
 use Rattle.mine_model.proofs.NumberLemmas.{IsNumberOf-by}
@@ -22,7 +22,7 @@ use Rattle.command_line.specs.declared.share.Share.{Share}
 use Rattle.split_merge.specs.Shares.{IsInShare, IsRankList, HasPlace, IsRankedTo, IsPivot}
 use Rattle.desq_run.specs.Parts.{HasItem, IsOfShare, IsShareWork}
 use Rattle.desq_run.specs.Inputs.{AreFound}
-use Rattle.desq_run.proofs.PartitionRankLemmas.{order-within, before, label-ranked, label-forth, label-back, one_top, one_list, by_top, item_at, items_of, IsItemLabel}
+use Rattle.desq_run.proofs.PartitionRankLemmas.{order-within, before, label-ranked, label-forth, label-back, one_top, one_list, item_at, items_of, IsItemLabel}
 
 to_place : (order : List Item) (v : Item) (rank : ℕ) → HasRank order v rank → HasPlace order v rank
 to_place order v rank has = (has.least, has.place)

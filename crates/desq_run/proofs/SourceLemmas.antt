@@ -1,5 +1,5 @@
 -- What a command mines by, as it was read and as the promise has it.
-use Rattle.std.proofs.Common.{◌≡◌, ◌↔◌, ℕ, Option, Some, None, List, [], Contains, refl, sym, ap, ◌∙◌, subst}
+use Rattle.std.proofs.Common.{◌≡◌, ◌↔◌, ℕ, suc, Option, Some, None, List, [], ◌∷◌, length, Contains, refl, sym, ap, ◌∙◌, subst, arith}
 use Rattle.mine_model.specs.declared.item.Item.{Item}
 use Rattle.mine_model.specs.Expression.{Tree, tree_by, named_in}
 use Rattle.mine_model.specs.Grammar.{Use, ReadsAs}
@@ -13,16 +13,16 @@ use Rattle.gap_front.specs.Embedding.{tree_of_rule}
 use Rattle.command_line.specs.declared.share.Share.{Share}
 use Rattle.patex_parser.specs.Parsing.{use_at, IsParsed}
 use Rattle.command_line.specs.Options.{rows}
-use Rattle.command_line.specs.Words.{Source, read, embed, make, Command, IsCommand, GivesSource, GivesShare}
-use Rattle.desq_run.specs.Ends.{Input, data_of, IsAnswerTo, IsPartTo, AreRowsTo, IsAnswerText}
+use Rattle.command_line.specs.Words.{Source, read, embed, make, merge, mine, Command, IsCommand, GivesSource, GivesShare, files_in, merged_in}
+use Rattle.desq_run.specs.Ends.{Input, data_of, IsAnswerTo, IsPartTo, AreRowsTo, IsTextOf}
 use Rattle.split_merge.specs.Shares.{IsRowOfShare}
-use Rattle.split_merge.proofs.ShareLemmas.{one_list}
+use Rattle.split_merge.proofs.ShareLemmas.{one_list, one_merge}
 use Rattle.desq_run.specs.Parts.{IsPartBy}
 use Rattle.desq_run.proofs.InputLemmas.{AreRowsOf}
 use Rattle.made_input.specs.Summary.{IsSummary}
 use Rattle.desq_run.specs.Said.{links_said, sequences_said, output_of}
 use Rattle.desq_run.specs.Sources.{SaysTree}
-use Rattle.desq_run.specs.Inputs.{HasRanges, HasShare, IsRead}
+use Rattle.desq_run.specs.Inputs.{HasRanges, IsMinedBy, HasShare, IsRead}
 
 -- the data of the input, as a source says them
 abbrev pub data_by : Source → Input → Tree (List ℕ) → Data (List ℕ)
@@ -33,13 +33,25 @@ data_by source input tree = record {
   threshold = input.command.threshold;
 }
 
+-- the words of a merge name files
+pub named-merged : (words : List (List ℕ)) (c : Command) → IsCommand words c → merged_in c.source ≡ [] → IsMinedBy c.source
+named-merged words c is none files own =
+    let gives : GivesSource (rows words) (merge files) = subst (GivesSource (rows words)) own is.says.source in
+    let empty : files ≡ [] = ap merged_in (sym own) ∙ none in
+    let none_named : gives.first ∷ files_in (rows words) ≡ [] = sym gives.all ∙ empty in
+    cc
+
 -- the numbers of a source that the words say are in their ranges
 pub has-ranges : (words : List (List ℕ)) (c : Command) → IsCommand words c → HasRanges c.source
 has-ranges words c is = by c.source is.says.source
   where
     by : (source : Source) → GivesSource (rows words) source → HasRanges source
+    by (merge files) gives = (
+      (let many : length files ≡ suc (length (files_in (rows words))) = ap length gives.all in omega (arith, many)),
+      gives.few,
+    )
     by (read expression file) gives = tt
-    by (embed rule file) (named, away, files, rule_given) = (
+    by (embed rule file) (named, away, files, rule_given, alone) = (
       record {
         gap = rule_given.gap.within.1;
         least = rule_given.least.within.0;
@@ -49,7 +61,7 @@ has-ranges words c is = by c.source is.says.source
       },
       rule_given.order,
     )
-    by (make count expression) (named, made) = (made.number.within.0, made.number.within.1)
+    by (make count expression) (named, made, alone) = (made.number.within.0, made.number.within.1)
 
 -- a share that the words say is one of those that there are
 pub has-share : (words : List (List ℕ)) (c : Command) → IsCommand words c → HasShare c.share
@@ -74,6 +86,7 @@ answer-to (embed rule file) input tree answer own ranges same is =
     (same_answers rule (links_of input.hierarchy) (sequences_of input.command.weighted input.sequences) input.command.threshold answer
     ranges.0.least ranges.0.some).0 (subst (λ t. IsAnswer (data_by (embed rule file) input t) answer) same told)
 answer-to (make count expression) input tree answer own ranges says is = expression-answer input expression tree answer says is
+answer-to (merge files) input tree answer own ranges says is = absurd says
 
 expression-part : (input : Input) (expression : List ℕ) (share : Share) (tree : Tree (List ℕ)) (part : List NamedRow)
     → ((uses : Tree Use) × ReadsAs expression uses × (tree ≡ tree_by (λ (u : Use). u.name) uses))
@@ -102,6 +115,7 @@ part-to : (share : Share) (source : Source) (input : Input) (tree : Tree (List �
     → IsPartTo source input share part
 part-to share (read expression file) input tree part own ranges says is = expression-part input expression share tree part says is
 part-to share (make count expression) input tree part own ranges says is = expression-part input expression share tree part says is
+part-to share (merge files) input tree part own ranges says is = absurd says
 part-to share (embed rule file) input tree part own ranges same is =
     let told : IsPartBy (λ row. IsFrequent (data_of input (tree_of_rule rule)) row.pattern row.support) (data_of input (tree_of_rule rule)) share part =
     subst (λ t. IsPartBy (λ row. IsFrequent (data_of input t) row.pattern row.support) (data_of input t) share part) same is in
@@ -132,6 +146,7 @@ pub answer-unique : (source : Source) (input : Input) (first second : List Named
     → IsAnswerTo source input second → first ≡ second
 answer-unique (read expression file) input first second is is' = expression-unique input expression first second is is'
 answer-unique (make count expression) input first second is is' = expression-unique input expression first second is is'
+answer-unique (merge files) input first second is is' = one_merge input.command.threshold input.merged first second is is'
 answer-unique (embed rule file) input first second is is' = Rises-unique first second is.ordered is'.ordered
     (λ row inside. (is'.frequent row).1 ((is.frequent row).0 inside))
     (λ row inside. (is.frequent row).1 ((is'.frequent row).0 inside))
@@ -160,11 +175,12 @@ pub rows-unique : (share : Option Share) (source : Source) (input : Input) (firs
 rows-unique None source input first second is is' = answer-unique source input first second is is'
 rows-unique (Some share) (read expression file) input first second is is' = expression-part-unique input expression share first second is is'
 rows-unique (Some share) (make count expression) input first second is is' = expression-part-unique input expression share first second is is'
+rows-unique (Some share) (merge files) input first second is is' = absurd is
 rows-unique (Some share) (embed rule file) input first second is is' = part-unique _ _ share first second is is'
 
 -- what is written of an answer on made input is its summary
 pub summary-forth : (input : Input) (count : ℕ) (expression text : List ℕ) → input.command.source ≡ make count expression
-    → input.command.share ≡ None → IsAnswerText input text → IsSummary count expression input.command.threshold text
+    → input.command.share ≡ None → IsTextOf mine input text → IsSummary count expression input.command.threshold text
 summary-forth input count expression text own whole (rows, is, same) =
     let all : IsAnswerTo input.command.source input rows = subst (λ share. AreRowsTo share input.command.source input rows) whole is in
     let here : IsAnswerTo (make count expression) input rows = subst (λ source. IsAnswerTo source input rows) own all in (
@@ -176,7 +192,7 @@ summary-forth input count expression text own whole (rows, is, same) =
     )
 
 pub summary-back : (input : Input) (count : ℕ) (expression text : List ℕ) → input.command.source ≡ make count expression
-    → input.command.share ≡ None → IsSummary count expression input.command.threshold text → IsAnswerText input text
+    → input.command.share ≡ None → IsSummary count expression input.command.threshold text → IsTextOf mine input text
 summary-back input count expression text own whole (tree, reads, rows, answer, same) =
     let here : IsAnswer (data_of input (tree_by (λ (u : Use). u.name) tree)) rows =
     subst (λ source. IsAnswer (data_by source input (tree_by (λ (u : Use). u.name) tree)) rows) (sym own) answer in (

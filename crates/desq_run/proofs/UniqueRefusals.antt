@@ -1,141 +1,28 @@
--- Of each file at most one refusal comes first.
-use Rattle.std.proofs.Common.{◌≡◌, inl, inr, ℕ, ◌+◌, ◌-◌, ◌<◌, ◌≤◌, Bool, true, false, cond, List, [], ◌∷◌, ◌++◌, length, Contains, refl, sym, ap, ◌∙◌, subst, arith, suc, zero}
-use Rattle.std.specs.List.{slice_index_or}
+-- Of each file at most one refusal comes first, and so of the files of a merge.
+use Rattle.std.proofs.Common.{◌≡◌, ◌⊎◌, inl, inr, ℕ, ◌+◌, Bool, true, false, List, [], ◌∷◌, length, sym, ap, ◌∙◌, subst}
 use Rattle.std.proofs.lemmas.Bool.{cases_order}
 use Rattle.mine_model.specs.declared.fault.Fault.TheVariants.{BadByte, NameTooLong, Cycle, BadWeight}
 use Rattle.mine_model.specs.declared.fault.Which.{Which}
-use Rattle.mine_model.specs.declared.fault.Which.TheVariants.{Hierarchy, Sequences}
+use Rattle.mine_model.specs.declared.fault.Which.TheVariants.{Hierarchy, Sequences, Merged}
 use Rattle.mine_model.specs.Hierarchy.{PlacedLink, IsCycleLine}
-use Rattle.mine_model.specs.Text.{is_name_byte, is_bad_byte, pieces_by_blank, onto_first, Field, fields_from, lines_of, TextFault, bad_byte, long_name, HasTextFault, IsFirstTextFault}
+use Rattle.mine_model.specs.Text.{Field, lines_of, bad_byte, long_name, IsFirstTextFault}
 use Rattle.mine_model.specs.First.{FirstAmong}
 use Rattle.mine_model.specs.Refusal.{IsTextRefusal, IsHierarchyLineRefusal, IsHierarchyRefusal, IsBadWeight, IsSequenceLineRefusal, IsSequencesRefusal, placed_links_of}
-use Rattle.mine_model.proofs.ListLemmas.{Contains-cases, Contains-other, Contains-none}
+use Rattle.mine_model.proofs.TextFaultLemmas.{text-unique, bad≢long}
 use Rattle.mine_model.proofs.FirstLemmas.{AtMostOne, FirstOf-unique, FirstAmong-unique}
-use Rattle.command_line.specs.Words.{Source, read, embed, make}
+use Rattle.proof_names.specs.NamedRefusals.{IsProofFileRefusal}
+use Rattle.proof_names.proofs.OneRefusalLemmas.{file-unique}
+use Rattle.mine_model.specs.Text.{is_name_byte}
+use Rattle.mine_model.specs.Tokens.{Each}
+use Rattle.mine_model.proofs.ListLemmas.{AllByRecursion-weaker}
+use Rattle.proof_names.specs.Numberings.{IsFileName}
+use Rattle.command_line.specs.Words.{Source, read, embed, make, merge, Task, mine, prove, check}
+use Rattle.split_merge.specs.declared.faults.MergeFault.TheVariants as merges
+use Rattle.split_merge.specs.Merging.{FileFault, IsMergedLineRefusal, IsMergedFileRefusal, IsMergeRefusal, lines_of_files}
 use Rattle.desq_run.specs.Said.{RefusesHierarchy, RefusesSequences}
-
--- the bytes of the first piece are bytes of a name
-names_first : (line piece : List ℕ) (pieces : List (List ℕ)) → pieces_by_blank line ≡ piece ∷ pieces
-    → (j : ℕ) → j < length piece → is_name_byte (slice_index_or line j 0) ≡ true
-names_first [] piece pieces cut j less =
-    let none : [] ≡ piece = cc in
-    let short : j < 0 = subst (λ p. j < length p) (sym none) less in
-    absurd (omega (arith, short))
-names_first (b ∷ bytes) piece pieces cut j less = by (names_first bytes) (is_name_byte b) refl (pieces_by_blank bytes) refl
-  where
-    by : ((piece : List ℕ) (pieces : List (List ℕ)) → pieces_by_blank bytes ≡ piece ∷ pieces → (j : ℕ) → j < length piece → is_name_byte (slice_index_or bytes j 0) ≡ true)
-        → (name : Bool) → is_name_byte b ≡ name → (rest : List (List ℕ)) → pieces_by_blank bytes ≡ rest
-        → is_name_byte (slice_index_or (b ∷ bytes) j 0) ≡ true
-    by before false is rest e =
-        let same : [] ∷ rest ≡ piece ∷ pieces = sym (ap (λ r. [] ∷ r) e) ∙ sym (ap (λ x. cond x (onto_first b (pieces_by_blank bytes)) ([] ∷ pieces_by_blank bytes)) is) ∙ cut in
-        let none : [] ≡ piece = cc in
-        let short : j < 0 = subst (λ p. j < length p) (sym none) less in
-        absurd (omega (arith, short))
-    by before true is [] e =
-        let same : (b ∷ []) ∷ [] ≡ piece ∷ pieces = sym (ap (onto_first b) e) ∙ sym (ap (λ x. cond x (onto_first b (pieces_by_blank bytes)) ([] ∷ pieces_by_blank bytes)) is) ∙ cut in
-        let one : b ∷ [] ≡ piece = cc in
-        let short : j < 1 = subst (λ p. j < length p) (sym one) less in
-        let first : j ≡ 0 = omega (arith, short) in
-        subst (λ n. is_name_byte (slice_index_or (b ∷ bytes) n 0) ≡ true) (sym first) is
-    by before true is (q ∷ qs) e =
-        let same : (b ∷ q) ∷ qs ≡ piece ∷ pieces = sym (ap (onto_first b) e) ∙ sym (ap (λ x. cond x (onto_first b (pieces_by_blank bytes)) ([] ∷ pieces_by_blank bytes)) is) ∙ cut in
-        let one : b ∷ q ≡ piece = cc in
-        at j (subst (λ p. j < length p) (sym one) less)
-      where
-        at : (j : ℕ) → j < length (b ∷ q) → is_name_byte (slice_index_or (b ∷ bytes) j 0) ≡ true
-        at zero less = is
-        at (suc i) less = before q qs e i (omega (arith, less))
-
--- the byte of a field stands in the line where the field says, where the line's first byte has the column k
-abbrev IsAt : List ℕ → ℕ → Field → ℕ → Type 0
-IsAt line k field j = (k ≤ field.column) × (is_name_byte (slice_index_or line (field.column - k + j) 0) ≡ true)
-
-one_more : (b : ℕ) (bytes : List ℕ) (k : ℕ) (field : Field) (j : ℕ) → IsAt bytes (k + 1) field j → IsAt (b ∷ bytes) k field j
-one_more b bytes k field j (less, is) =
-    let before : k ≤ field.column = omega (arith, less) in
-    let next : field.column - k + j ≡ suc (field.column - (k + 1) + j) = omega (arith, less) in
-    (before, subst (λ n. is_name_byte (slice_index_or (b ∷ bytes) n 0) ≡ true) (sym next) is)
-
-names_in_fields : (line : List ℕ) (k : ℕ) (field : Field) → Contains (fields_from k (pieces_by_blank line)) field
-    → (j : ℕ) → j < length field.text → IsAt line k field j
-names_in_fields [] k field inside j less = absurd (Contains-none field inside)
-names_in_fields (b ∷ bytes) k field inside j less = by (λ held. names_in_fields bytes (k + 1) field held j less) (is_name_byte b) refl (pieces_by_blank bytes) refl
-  where
-    opened : (name : Bool) → is_name_byte b ≡ name → pieces_by_blank (b ∷ bytes) ≡ cond name (onto_first b (pieces_by_blank bytes)) ([] ∷ pieces_by_blank bytes)
-    opened name is = ap (λ x. cond x (onto_first b (pieces_by_blank bytes)) ([] ∷ pieces_by_blank bytes)) is
-
-    later : (q : List ℕ) (qs : List (List ℕ)) → Contains (fields_from (k + length (b ∷ q) + 1) qs) field → Contains (fields_from (k + 1) (q ∷ qs)) field
-    later [] qs held = held
-    later (c ∷ q) qs held =
-        let number : k + length (b ∷ c ∷ q) + 1 ≡ k + 1 + length (c ∷ q) + 1 = omega arith in
-        Contains-other (record { column = k + 1; text = c ∷ q }) (fields_from (k + 1 + length (c ∷ q) + 1) qs) field
-        (subst (λ n. Contains (fields_from n qs) field) number held)
-
-    by : (Contains (fields_from (k + 1) (pieces_by_blank bytes)) field → IsAt bytes (k + 1) field j)
-        → (name : Bool) → is_name_byte b ≡ name → (rest : List (List ℕ)) → pieces_by_blank bytes ≡ rest → IsAt (b ∷ bytes) k field j
-    by before false is rest e =
-        one_more b bytes k field j (before (subst (λ p. Contains (fields_from k p) field) (opened false is) inside))
-    by before true is [] e =
-        let held : Contains (fields_from k ((b ∷ []) ∷ [])) field =
-        subst (λ p. Contains (fields_from k p) field) (opened true is ∙ ap (onto_first b) e) inside in
-        elim (Contains-cases (record { column = k; text = b ∷ [] }) [] field held) [
-          | inl same ↦
-              let column : field.column ≡ k = ap (λ (f : Field). f.column) same in
-              let text : field.text ≡ b ∷ [] = ap (λ (f : Field). f.text) same in
-              let short : j < 1 = subst (λ t. j < length t) text less in
-              let at : field.column - k + j ≡ 0 = omega (arith, column, short) in
-              (omega (arith, column), subst (λ n. is_name_byte (slice_index_or (b ∷ bytes) n 0) ≡ true) (sym at) is)
-          | inr none ↦ absurd (Contains-none field none)
-        ]
-    by before true is (q ∷ qs) e =
-        let held : Contains (fields_from k ((b ∷ q) ∷ qs)) field =
-        subst (λ p. Contains (fields_from k p) field) (opened true is ∙ ap (onto_first b) e) inside in
-        elim (Contains-cases (record { column = k; text = b ∷ q }) (fields_from (k + length (b ∷ q) + 1) qs) field held) [
-          | inl same ↦
-              let column : field.column ≡ k = ap (λ (f : Field). f.column) same in
-              let text : field.text ≡ b ∷ q = ap (λ (f : Field). f.text) same in
-              let at : field.column - k + j ≡ j = omega (arith, column) in (
-                omega (arith, column),
-                subst (λ n. is_name_byte (slice_index_or (b ∷ bytes) n 0) ≡ true) (sym at)
-                    (names_first (b ∷ bytes) (b ∷ q) qs (opened true is ∙ ap (onto_first b) e) j (subst (λ t. j < length t) text less)),
-              )
-          | inr other ↦ one_more b bytes k field j
-              (before (subst (λ p. Contains (fields_from (k + 1) p) field) (sym e) (later q qs other)))
-        ]
-
-byte_at : (before : List ℕ) (b : ℕ) (after : List ℕ) → slice_index_or (before ++ b ∷ after) (length before) 0 ≡ b
-byte_at [] b after = refl
-byte_at (c ∷ before) b after = byte_at before b after
-
-bad_is_no_name : (b : ℕ) → is_bad_byte b ≡ true → is_name_byte b ≡ true → ⊥
-bad_is_no_name b bad is = grind (arith, bad, is)
-
--- no bad byte is the byte of a name that is too many
-one_kind : (line : List ℕ) (column : ℕ) → HasTextFault line bad_byte column → HasTextFault line long_name column → ⊥
-one_kind line column (before, b, after, whole, at, bad) (field, inside, long, also) =
-    let less : 255 < length field.text = long in
-    let named = names_in_fields line 1 field inside 255 less in
-    let first : 1 ≤ field.column = named.0 in
-    let number : field.column - 1 + 255 ≡ length before = omega (arith, first, at, also) in
-    let byte : slice_index_or line (field.column - 1 + 255) 0 ≡ b =
-    ap (λ n. slice_index_or line n 0) number ∙ ap (λ l. slice_index_or l (length before) 0) whole ∙ byte_at before b after in
-    bad_is_no_name b bad (subst (λ x. is_name_byte x ≡ true) byte named.1)
-
-text-unique : (line : List ℕ) (f g : TextFault) (c d : ℕ) → IsFirstTextFault line f c → IsFirstTextFault line g d → (f ≡ g) × (c ≡ d)
-text-unique line f g c d p q =
-    let least : c ≤ d = p.1 g d q.0 in
-    let also : d ≤ c = q.1 f c p.0 in
-    let same : c ≡ d = omega (arith, least, also) in
-    (kinds f g p.0 (subst (HasTextFault line g) (sym same) q.0), same)
-  where
-    kinds : (f g : TextFault) → HasTextFault line f c → HasTextFault line g c → f ≡ g
-    kinds bad_byte bad_byte p q = refl
-    kinds bad_byte long_name p q = absurd (one_kind line c p q)
-    kinds long_name bad_byte p q = absurd (one_kind line c q p)
-    kinds long_name long_name p q = refl
-
-bad≢long : bad_byte ≡ long_name → ⊥
-bad≢long same = cc
+use Rattle.desq_run.specs.Merged.{fault_in, RefusesMerged}
+use Rattle.desq_run.specs.Ends.{Input, known_names, data_of, RefusesProof}
+use Rattle.desq_run.proofs.KnownLemmas.{says-unique, known-files}
 
 IsTextRefusal-unique : (file : Which) (line : ℕ) (text : List ℕ) → AtMostOne (IsTextRefusal file line text)
 IsTextRefusal-unique file line text f g (c, inl p) (d, inl q) = p.1 ∙ ap (BadByte file line) (text-unique text bad_byte bad_byte c d p.0 q.0).1 ∙ sym q.1
@@ -182,9 +69,54 @@ pub hierarchy-once : (source : Source) (bytes : List ℕ) → AtMostOne (Refuses
 hierarchy-once (read expression file) bytes = hierarchy-unique bytes
 hierarchy-once (embed rule file) bytes = hierarchy-unique bytes
 hierarchy-once (make count expression) bytes = λ f g p q. absurd p
+hierarchy-once (merge files) bytes = λ f g p q. absurd p
 
 pub sequences-once : (source : Source) (weighted : Bool) (known : List (List ℕ)) (bytes : List ℕ)
     → AtMostOne (RefusesSequences source weighted known bytes)
 sequences-once (read expression file) weighted known bytes = sequences-unique weighted known bytes
 sequences-once (embed rule file) weighted known bytes = sequences-unique weighted known bytes
 sequences-once (make count expression) weighted known bytes = λ f g p q. absurd p
+sequences-once (merge files) weighted known bytes = λ f g p q. absurd p
+
+-- the text of a line of a merged file
+merged-text-unique : (line : ℕ) (text : List ℕ) → AtMostOne (λ fault. (column : ℕ)
+    × ((IsFirstTextFault text bad_byte column × (fault ≡ merges.BadByte line column))
+    ⊎ (IsFirstTextFault text long_name column × (fault ≡ merges.NameTooLong line column))))
+merged-text-unique line text f g (c, inl p) (d, inl q) = p.1 ∙ ap (merges.BadByte line) (text-unique text bad_byte bad_byte c d p.0 q.0).1 ∙ sym q.1
+merged-text-unique line text f g (c, inl p) (d, inr q) = absurd (bad≢long (text-unique text bad_byte long_name c d p.0 q.0).0)
+merged-text-unique line text f g (c, inr p) (d, inl q) = absurd (bad≢long (text-unique text bad_byte long_name d c q.0 p.0).0)
+merged-text-unique line text f g (c, inr p) (d, inr q) = p.1 ∙ ap (merges.NameTooLong line) (text-unique text long_name long_name c d p.0 q.0).1 ∙ sym q.1
+
+merged-file-unique : (threshold : ℕ) (earlier : List (List ℕ)) (bytes : List ℕ) → AtMostOne (IsMergedFileRefusal threshold earlier bytes)
+merged-file-unique threshold earlier bytes =
+    FirstOf-unique _ _ (λ f g p q. p.1 ∙ sym q.1)
+    (FirstAmong-unique (IsMergedLineRefusal threshold earlier)
+    (λ before text. FirstOf-unique _ _ (merged-text-unique (length before + 1) text)
+    (FirstOf-unique _ _ (λ f g p q. p.1 ∙ sym q.1) (λ f g p q. p.1 ∙ sym q.1))) [] (lines_of bytes))
+
+FileFault-same : (f g : FileFault) → f.file ≡ g.file → f.fault ≡ g.fault → f ≡ g
+FileFault-same f g file fault =
+    ap (λ n. record { file = n; fault = f.fault }) file ∙ ap (λ e. record { file = g.file; fault = e }) fault
+
+merge-unique : (threshold : ℕ) (files : List (List ℕ)) → AtMostOne (IsMergeRefusal threshold files)
+merge-unique threshold files =
+    FirstAmong-unique (λ before bytes (refused : FileFault). (refused.file ≡ length before + 1)
+    × IsMergedFileRefusal threshold (lines_of_files before) bytes refused.fault)
+    (λ before bytes f g p q. FileFault-same f g (p.0 ∙ sym q.0)
+    (merged-file-unique threshold (lines_of_files before) bytes f.fault g.fault p.1 q.1)) [] files
+
+pub merged-once : (source : Source) (threshold : ℕ) (files : List (List ℕ)) → AtMostOne (RefusesMerged source threshold files)
+merged-once (read expression file) threshold files = λ f g p q. absurd p
+merged-once (embed rule file) threshold files = λ f g p q. absurd p
+merged-once (make count expression) threshold files = λ f g p q. absurd p
+merged-once (merge names) threshold files = λ f g p q.
+    p.2 ∙ ap (λ (refused : FileFault). fault_in (Merged refused.file) refused.fault) (merge-unique threshold files p.0 q.0 p.1 q.1) ∙ sym q.2
+
+-- so of a proof that is checked
+pub proof-once : (task : Task) (input : Input) → AtMostOne (RefusesProof task input)
+proof-once mine input = λ f g p q. absurd p
+proof-once prove input = λ f g p q. absurd p
+proof-once (check file) input = λ f g (tree, says, refused) (other, also, as_well).
+    file-unique (known_names input) (AllByRecursion-weaker IsFileName (Each is_name_byte true) (λ name is. is.1) (known_names input) (known-files input))
+    (data_of input tree) input.proof f g refused
+    (subst (λ t. IsProofFileRefusal (data_of input t) (known_names input) input.proof g) (says-unique input.command.source other tree also says) as_well)

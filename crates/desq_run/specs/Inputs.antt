@@ -1,5 +1,5 @@
 -- What was read of the files or made, by the numbers of names.
-use Rattle.std.specs.Prelude.{◌≡◌, ◌⊎◌, ◌↔◌, ◌≤◌, ◌<◌, ◌++◌, ℕ, Bool, List, Option, Some, None, IfSome, length, map, All, Contains}
+use Rattle.std.specs.Prelude.{◌≡◌, ◌⊎◌, ◌↔◌, ◌≤◌, ◌<◌, ◌++◌, ℕ, Bool, true, List, Option, Some, None, IfSome, length, map, All, Contains}
 use Rattle.std.specs.List.{AllByRecursion}
 use Rattle.mine_model.specs.declared.item.Item.{Item}
 use Rattle.mine_model.specs.declared.fault.Fault.{Fault}
@@ -12,7 +12,9 @@ use Rattle.mine_model.specs.Expression.{Tree, tree_by, named_in}
 use Rattle.mine_model.specs.Grammar.{Use}
 use Rattle.mine_model.specs.Support.{Sequence}
 use Rattle.mine_model.specs.Answer.{Data, IsFrequent, Rises}
-use Rattle.mine_model.specs.Names.{name_of, HasName, sequence_by, named_row}
+use Rattle.mine_model.specs.Names.{name_of, HasName, AreDistinct, sequence_by, named_row}
+use Rattle.mine_model.specs.Ranks.{AreTiesByName}
+use Rattle.mining_job.specs.Problems.{Problem, data_of as problem_data}
 use Rattle.mine_model.specs.Ancestry.{Ancestry}
 use Rattle.mine_model.specs.Refusal.{IsHierarchyRefusal, IsSequencesRefusal, IsUnknown, names_of, links_of, items_of, sequences_of}
 use Rattle.mine_model.specs.declared.mined.Work.{Work}
@@ -20,14 +22,14 @@ use Rattle.command_line.specs.declared.words.Engine.{Engine}
 use Rattle.command_line.specs.declared.share.Share.{Share}
 use Rattle.gap_front.specs.Embedding.{IsRule}
 use Rattle.patex_parser.specs.Parsing.{AreWithin, named_tree}
-use Rattle.command_line.specs.Words.{Source, read, embed, make, Command, file_of}
+use Rattle.command_line.specs.Words.{Source, read, embed, make, merge, Command, file_of, most_merged}
 use Rattle.mine_model.specs.PartitionWork.{IsNamedBefore}
 use Rattle.made_input.specs.Made.{most_made}
 use Rattle.desq_run.specs.Said.{names_said, links_said, sequences_said, RefusesHierarchy, RefusesSequences}
-use Rattle.desq_run.specs.Sources.{HasUse, IsUnknownIn, SaysTree}
+use Rattle.desq_run.specs.Sources.{IsSourceRefusal, HasUse, IsUnknownIn, SaysTree}
 use Rattle.split_merge.specs.Shares.{IsRankList}
 use Rattle.desq_run.specs.Parts.{IsOfShare}
-use Rattle.desq_run.specs.Ends.{Input, IsInput, bytes_named, IsAccepted, AreRowsTo, HasSource, IsOfKind, IsWorkOf, IsWork, AcceptsHierarchy}
+use Rattle.desq_run.specs.Ends.{Input, IsInput, bytes_named, IsRowsRefusal, AreRowsTo, HasSource, IsOfKind, IsWorkOf, IsWork, AcceptsHierarchy, AcceptsData}
 
 -- nothing is refused, the names are exactly these, and above each other stands what these links say
 pub record IsHierarchyBy (Refuses : Fault → Type 0) (own : List (List ℕ)) (links : List (Link (List ℕ)))
@@ -101,6 +103,11 @@ abbrev pub HasRanges : Source → Type 0
 HasRanges (read expression file) = Unit {0}
 HasRanges (embed rule file) = IsRule rule × (rule.min_length ≤ rule.max_length)
 HasRanges (make count expression) = (1 ≤ count) × (count ≤ most_made)
+HasRanges (merge files) = (1 ≤ length files) × (length files ≤ most_merged)
+
+-- The source is one to mine by.
+abbrev pub IsMinedBy : Source → Type 0
+IsMinedBy source = (files : List (List ℕ)) → source ≡ merge files → ⊥
 
 -- The tree of the source was read, over the numbers of the uses of its names.
 pub record IsRead (source : Source) (uses : List Use) (tree : Tree Item) : Type 0 where
@@ -135,23 +142,49 @@ pub record AreRows (names : List (List ℕ)) (h : Ancestry) (db : List (Sequence
   pub work : IsWorkOf (IsNamedBefore names) share engine
       (record { links = h.links; sequences = db; expression = expression; threshold = threshold }) counted
 
--- The rows are in the order of their names, the words name a source that is not refused, and where the
--- files tell their bytes nothing is refused, the rows are those that the command is to find and the work is
--- its.
+-- The rows are in the order of their names, the words name a source that is not refused, and where the files
+-- tell their bytes nothing of what the rows are found in is refused, the rows are those that the command is
+-- to find, and where it asks for the work this is its work.
 pub record IsMined (words : List (List ℕ)) (holds : List ℕ → Option (List ℕ)) (command : Command)
     (names : List (List ℕ))
     (rows : List Row) (counted : Work) : Type 0 where
   pub source : HasSource words command
   pub hierarchy : AcceptsHierarchy holds command
-  pub accepted : (input : Input) → IsInput words holds input → IsAccepted input
+  pub mined : AcceptsData holds command
+  pub accepted : (input : Input) → IsInput words holds input
+      → (fault : Fault) → IsRowsRefusal input fault → ⊥
   pub answer : (input : Input) → IsInput words holds input
       → AreRowsTo input.command.share input.command.source input (map (named_row names) rows)
-  pub work : (input : Input) → IsInput words holds input → IsWork input counted
+  pub work : command.stats ≡ true → (input : Input) → IsInput words holds input → IsWork input counted
 
 -- the rows are the frequent patterns by numbers, all or those of the share, in the order of their names
-pub record AreOrdered (names : List (List ℕ)) (h : Ancestry) (db : List (Sequence Item))
-    (expression : Tree Item) (threshold : ℕ) (share : Option Share)
-    (rows : List Row) : Type 0 where
-  pub found : AreFound (IsNamedBefore names) share
-      (record { links = h.links; sequences = db; expression = expression; threshold = threshold }) rows
+pub record AreOrdered (names : List (List ℕ)) (share : Option Share) (d : Data Item) (rows : List Row)
+    : Type 0 where
+  pub found : AreFound (IsNamedBefore names) share d rows
   pub rises : Rises (map (named_row names) rows)
+
+-- the job is by an expression whose tree over names this is, on these sequences under this hierarchy
+pub record IsJobOf (names : List (List ℕ)) (h : Ancestry) (db : List (Sequence Item)) (tree : Tree (List ℕ))
+    (threshold : ℕ) (problem : Problem) : Type 0 where
+  pub expression : Tree Item
+  pub same : tree_by (name_of names) expression ≡ tree
+  pub named : AllByRecursion (HasName names) (named_in expression)
+  pub sets : problem_data problem
+      ≡ record { links = h.links; sequences = db; expression = expression; threshold = threshold }
+  pub items : problem.hierarchy.items ≡ length names
+  pub ties : AreTiesByName names problem.ranking
+
+-- the job of the command was set by what was read or made, of which nothing is refused
+pub record IsJobFor (holds : List ℕ → Option (List ℕ)) (command : Command) (names : List (List ℕ))
+    (problem : Problem) : Type 0 where
+  pub source : (fault : Fault) → IsSourceRefusal command.source fault → ⊥
+  pub h : Ancestry
+  pub db : List (Sequence Item)
+  pub inputs : AreInputs holds command names h db
+  pub distinct : AreDistinct names
+  pub numbered : AllByRecursion (λ s. AllByRecursion (HasName names) s.items) db
+  pub uses : List Use
+  pub tree : Tree Item
+  pub read : IsRead command.source uses tree
+  pub known : (fault : Fault) → IsUnknown names uses fault → ⊥
+  pub job : IsJobOf names h db (named_tree uses tree) command.threshold problem

@@ -1,7 +1,7 @@
--- The runs of all shares of one command.
-use Rattle.std.specs.Prelude.{◌≡◌, ℕ, ◌≤◌, Option, Some, List}
+-- The runs of all shares of one command, and the run that merges their outputs.
+use Rattle.std.specs.Prelude.{◌≡◌, ℕ, ◌≤◌, Option, Some, None, List}
 use Rattle.mine_model.specs.Answer.{NamedRow}
-use Rattle.command_line.specs.Words.{IsCommand}
+use Rattle.command_line.specs.Words.{merge, mine, IsCommand}
 use Rattle.command_line.specs.declared.share.Share.{Share}
 use Rattle.desq_run.specs.Ends.{Input, IsPartTo}
 
@@ -20,3 +20,12 @@ pub record AreShareRuns (input : Input) (of : ℕ) (part : ℕ → List NamedRow
       × IsCommand words (with_share (Some (share_of of index)) input).command
   pub found : (index : ℕ) → 1 ≤ index → index ≤ of
       → IsPartTo input.command.source input (share_of of index) (part index)
+
+-- the run merges these files, with the threshold of the other run
+pub record IsMergeRun (input : Input) (files : List (List ℕ)) (merging : Input) : Type 0 where
+  pub names : List (List ℕ)
+  pub source : merging.command.source ≡ merge names
+  pub task : merging.command.task ≡ mine
+  pub share : merging.command.share ≡ None
+  pub threshold : merging.command.threshold ≡ input.command.threshold
+  pub files_are : merging.merged ≡ files

@@ -12,13 +12,14 @@ ghost use Rattle.made_input.specs.Made.{most_made};
 ghost use Rattle.command_line.specs.Words.{NamesFile, file_of, make, Command as CommandSaid};
 ghost use Rattle.command_line.specs.Commands.{source_said, command_said};
 ghost use Rattle.desq_run.specs.Ends.{bytes_named, HasSource, Ends};
-ghost use Rattle.desq_run.specs.Inputs.{IsHierarchyOf, IsDatabaseOf, AreLinksWithin, AreInputs, FailsBy, HasRanges};
+ghost use Rattle.desq_run.specs.Inputs.{IsHierarchyOf, IsDatabaseOf, AreLinksWithin, AreInputs, FailsBy, HasRanges, IsMinedBy};
 
 use command_line::{Command, Source};
 use item_hierarchy::close;
 use item_names::Names;
 use mine_model::{Db, Fault, Hierarchy, NoMemory};
 use std::alloc::Global;
+use std::thread::Threads;
 use text_ports::Files;
 
 /// What the files of a command say, or what was made: items by the numbers of their names.
@@ -30,7 +31,9 @@ pub(crate) struct Inputs {
 }
 
 /// The sequences of the file of this name. A new name gets the next number.
-fn read_sequences<F: Files>(
+fn read_sequences<R: Threads + Sync, F: Files>(
+    rt: &R,
+    workers: u32,
     alloc: Global,
     files: &mut F,
     name: &str,
@@ -49,7 +52,7 @@ fn read_sequences<F: Files>(
     ensures same_files { F.holds files.new ≡ F.holds files.old }
     ensures never_falls { F.faults files.old ≤ F.faults files.new }
 {
-    match sequence_reader::read(alloc, files, name, weighted, names) {
+    match sequence_reader::read(rt, workers, alloc, files, name, weighted, names) {
         Ok(db) => Ok(db),
         Err(fault) => Err(Fault::from(fault)),
     }
@@ -130,7 +133,8 @@ fn read_hierarchy<F: Files>(
 }
 
 /// Reads the hierarchy and then the sequences of a command, whose file this is.
-fn read_files<F: Files>(
+fn read_files<R: Threads + Sync, F: Files>(
+    rt: &R,
     alloc: Global,
     command: &Command,
     file: &str,
@@ -156,7 +160,15 @@ fn read_files<F: Files>(
 {
     let mut names = Names::new(alloc)?;
     let mut hierarchy = read_hierarchy(alloc, files, &command.hierarchy, &mut names)?;
-    let db = read_sequences(alloc, files, file, command.weighted, &mut names)?;
+    let db = read_sequences(
+        rt,
+        command.workers,
+        alloc,
+        files,
+        file,
+        command.weighted,
+        &mut names,
+    )?;
     hierarchy.cover(names.count())?;
     Ok(Inputs {
         names,
@@ -188,13 +200,15 @@ fn make_inputs(alloc: Global, count: u32) -> Result<Inputs, NoMemory>
 }
 
 /// Reads the files of a command, the hierarchy first, or makes its input.
-pub(crate) fn read_inputs<F: Files>(
+pub(crate) fn read_inputs<R: Threads + Sync, F: Files>(
+    rt: &R,
     alloc: Global,
     command: &Command,
     files: &mut F,
 ) -> Result<Inputs, Fault>
     requires may { (file : List ℕ) → NamesFile (command_said command.now) file
         → IsTrue (F.may files.old file) }
+    requires mined { IsMinedBy (source_said command.now.source) }
     requires ranges { HasRanges (source_said command.now.source) }
     ensures inputs { IfOk result (λ inputs. AreInputs (F.holds files.old) (command_said command.now)
         inputs.names inputs.hierarchy inputs.db) }
@@ -213,8 +227,9 @@ pub(crate) fn read_inputs<F: Files>(
     ensures never_falls { F.faults files.old ≤ F.faults files.new }
 {
     match &command.source {
-        Source::Read { file, .. } => read_files(alloc, command, file.as_str(), files),
-        Source::Embed { file, .. } => read_files(alloc, command, file.as_str(), files),
+        Source::Read { file, .. } => read_files(rt, alloc, command, file.as_str(), files),
+        Source::Embed { file, .. } => read_files(rt, alloc, command, file.as_str(), files),
         Source::Make { count, .. } => Ok(make_inputs(alloc, *count)?),
+        Source::Merge { .. } => unreachable!(),
     }
 }

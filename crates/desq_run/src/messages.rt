@@ -38,7 +38,9 @@ fn status_of_fault(fault: &Fault) -> u8
         | Fault::Unknown { .. }
         | Fault::BadByte { .. }
         | Fault::BadWeight { .. }
-        | Fault::Cycle { .. } => 3,
+        | Fault::Cycle { .. }
+        | Fault::BadRow { .. }
+        | Fault::BadProof { .. } => 3,
         Fault::ExprTooLong
         | Fault::RepeatLimit { .. }
         | Fault::TooDeep { .. }
@@ -65,13 +67,20 @@ fn push_number(text: &mut Text, number: u64)
     text.push_str(digits.format(number));
 }
 
-fn file_name(file: Which) -> &'static str
-    ensures name { result.now ≡ file_text file }
-    ensures short { length result.now ≤ 9 }
+/// Appends the name of a file: at most 25 bytes.
+fn push_name(text: &mut Text, file: Which)
+    requires { array_string_len text.old ≤ 6 }
+    ensures bytes { text.new.bytes ≡ text.old.bytes ++ file_text file }
+    ensures len { array_string_len text.new ≤ array_string_len text.old + 25 }
 {
     match file {
-        Which::Hierarchy => "hierarchy",
-        Which::Sequences => "sequences",
+        Which::Hierarchy => text.push_str("hierarchy"),
+        Which::Sequences => text.push_str("sequences"),
+        Which::Merged(number) => {
+            text.push_str("file ");
+            push_number(text, u64::from(number));
+        }
+        Which::Proof => text.push_str("proof"),
     }
 }
 
@@ -81,7 +90,7 @@ fn push_file(text: &mut Text, file: Which, what: &str)
     ensures text { text.new.bytes ≡ text.old.bytes ++ (file_text file ++ what.now) }
     ensures room { array_string_len text.new < 160 }
 {
-    text.push_str(file_name(file));
+    push_name(text, file);
     text.push_str(what);
 }
 
@@ -102,7 +111,7 @@ fn push_at_line(text: &mut Text, file: Which, line: u64, what: &str)
     ensures text { text.new.bytes ≡ text.old.bytes ++ at_line file line what.now }
     ensures room { array_string_len text.new < 160 }
 {
-    text.push_str(file_name(file));
+    push_name(text, file);
     text.push_str(": line ");
     push_number(text, line);
     text.push_str(what);
@@ -114,7 +123,7 @@ fn push_at_place(text: &mut Text, file: Which, line: u64, column: u64, what: &st
     ensures text { text.new.bytes ≡ text.old.bytes ++ at_place file line column what.now }
     ensures room { array_string_len text.new < 160 }
 {
-    text.push_str(file_name(file));
+    push_name(text, file);
     text.push_str(": line ");
     push_number(text, line);
     text.push_str(" column ");
@@ -141,6 +150,8 @@ fn push_fault(text: &mut Text, fault: &Fault)
             push_at_place(text, Which::Sequences, line, column, ": bad weight")
         }
         Fault::Cycle { line } => push_at_line(text, Which::Hierarchy, line, ": cycle"),
+        Fault::BadRow { file, line } => push_at_line(text, file, line, ": bad row"),
+        Fault::BadProof { line } => push_at_line(text, Which::Proof, line, ": refused"),
         Fault::ExprTooLong => text.push_str("expression: more than 4096 bytes"),
         Fault::RepeatLimit { column } => push_at_column(text, column, ": repeat over 1024"),
         Fault::TooDeep { column } => push_at_column(text, column, ": nested over 128"),

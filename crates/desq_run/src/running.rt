@@ -1,14 +1,14 @@
 //! The top call.
 
-ghost use Rattle.std.specs.Prelude.{◌≡◌, ◌≢◌, ℕ, ◌≤◌, ◌<◌, ◌++◌, ◌⊎◌, List, Option, Some, Result, IsTrue, IfSome, map, take, length, string_bytes};
+ghost use Rattle.std.specs.Prelude.{◌≡◌, ◌≢◌, ℕ, ◌≤◌, ◌<◌, ◌++◌, ◌⊎◌, List, [], Option, Some, Result, IsTrue, IfSome, map, take, length, string_bytes};
 ghost use Rattle.text_ports.specs.Faults.{Rose};
 ghost use Rattle.mine_model.specs.declared.fault.Fault.{Fault};
 ghost use Rattle.mine_model.specs.declared.mined.Work.{Work};
 ghost use Rattle.mine_model.specs.Status.{fault_status, status_of, message_of};
-ghost use Rattle.command_line.specs.Words.{Command, IsNamed, IsCommand, IsUsage};
+ghost use Rattle.command_line.specs.Words.{Command, IsNamed, IsCommand, IsUsage, merged_in};
 ghost use Rattle.desq_run.specs.Sources.{IsSourceRefusal};
 ghost use Rattle.desq_run.specs.Said.{RefusesHierarchy};
-ghost use Rattle.desq_run.specs.Ends.{Input, IsInput, bytes_named, IsFirstRefusal, IsAccepted, IsAnswerText, HasSource, NeedsNoFile, Ends};
+ghost use Rattle.desq_run.specs.Ends.{Input, IsInput, bytes_named, HoldsData, IsDataRefusal, IsFirstRefusal, IsAccepted, IsAnswerText, HasSource, NeedsNoFile, Ends};
 ghost use Rattle.desq_run.specs.Reported.{IsReported};
 
 use super::attempts::attempt;
@@ -19,8 +19,9 @@ use std::sync::Wait;
 use std::thread::Threads;
 use text_ports::{Files, Sink};
 
-/// Runs the command that the words say: reads the files that they name through `files`, writes the answer to
-/// `out` and a message, where there is one, to `err`, and answers the status.
+/// Runs the command that the words say: reads the files that they name through `files`, writes the answer,
+/// or a proof of it, or how many rows a proof has that is checked, or the rows of the files that it merges,
+/// to `out` and a message, where there is one, to `err`, and answers the status.
 ///
 /// 0 done, 2 the words are no command, 3 something is malformed, 4 a limit is exceeded, 5 a fault of reading,
 /// 6 a fault of writing, 7 not enough memory. A fault of `err` changes no status. A worker passes the gate
@@ -45,7 +46,7 @@ pub fn run<R: Threads + Wait + Sync, F: Files, O: Sink, E: Sink, G: Gate>(
         × IsReported (E.written err.old) (E.written err.new) (Rose (E.faults err.old) (E.faults err.new))
         (message_of outcome) }
 
-    // Done: nothing is refused, and out gained exactly the text of the answer.
+    // Done: nothing is refused, and out gained exactly the text of the answer, or of a proof, or of a check.
     ensures done { result ≡ 0 → (input : Input)
         → IsInput (map string_bytes words.now) (F.holds files.old) input
         → IsAccepted input × ((text : List ℕ) × IsAnswerText input text
@@ -63,6 +64,10 @@ pub fn run<R: Threads + Wait + Sync, F: Files, O: Sink, E: Sink, G: Gate>(
         → bytes_named (F.holds files.old) command.hierarchy ≡ Some bytes
         → RefusesHierarchy command.source bytes fault
         → (result ≡ fault_status fault) ⊎ (result ≡ 7) ⊎ Rose (F.faults files.old) (F.faults files.new) }
+    ensures refuses_data { (command : Command) (input : Input) (fault : Fault)
+        → HasSource (map string_bytes words.now) command → merged_in command.source ≡ []
+        → HoldsData (F.holds files.old) command input → IsDataRefusal input fault
+        → (result ≡ fault_status fault) ⊎ (result ≡ 7) ⊎ Rose (F.faults files.old) (F.faults files.new) }
     ensures refused { (result ≡ 3) ⊎ (result ≡ 4)
         → (input : Input) → IsInput (map string_bytes words.now) (F.holds files.old) input
         → (fault : Fault) × IsFirstRefusal input fault × (fault_status fault ≡ result) }
@@ -77,7 +82,7 @@ pub fn run<R: Threads + Wait + Sync, F: Files, O: Sink, E: Sink, G: Gate>(
         × NeedsNoFile command.source) → files.new ≡ files.old }
 
     // Faults: only where they were counted in this call. After one of writing out gained the first bytes
-    // of the answer's text, and not all.
+    // of such a text, and not all.
     ensures read_fault { result ≡ 5 → Rose (F.faults files.old) (F.faults files.new) }
     ensures write_fault { result ≡ 6 → Rose (O.faults out.old) (O.faults out.new) }
     ensures cut { result ≡ 6 → (input : Input)

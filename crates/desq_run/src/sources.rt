@@ -11,7 +11,7 @@ ghost use Rattle.gap_front.specs.Embedding.{IsRule, leaves_of, tree_of_rule};
 ghost use Rattle.patex_parser.specs.Parsing.{use_view, IsParsed};
 ghost use Rattle.command_line.specs.Commands.{source_said};
 ghost use Rattle.desq_run.specs.Sources.{IsSourceRefusal};
-ghost use Rattle.desq_run.specs.Inputs.{HasRanges, IsRead};
+ghost use Rattle.desq_run.specs.Inputs.{HasRanges, IsMinedBy, IsRead};
 
 use command_line::Source;
 use gap_front::{GapRule, expression};
@@ -60,7 +60,8 @@ fn expression_of_rule(alloc: Global, rule: &GapRule) -> Result<Parsed, Fault>
 
 /// The expression of a source. It is read before a file is opened.
 pub(crate) fn read_source(alloc: Global, source: &Source) -> Result<Parsed, Fault>
-    requires { HasRanges (source_said source.now) }
+    requires mined { IsMinedBy (source_said source.now) }
+    requires ranges { HasRanges (source_said source.now) }
     ensures read { IfOk result (λ p.
         IsRead (source_said source.now) (map use_view p.uses.items) (tree_of p.tree)) }
     ensures accepted { OnOk result ((fault : Fault) → ¬ IsSourceRefusal (source_said source.now) fault) }
@@ -72,5 +73,6 @@ pub(crate) fn read_source(alloc: Global, source: &Source) -> Result<Parsed, Faul
         Source::Read { expression, .. } => read_expression(alloc, expression.as_bytes()),
         Source::Embed { rule, .. } => expression_of_rule(alloc, rule),
         Source::Make { expression, .. } => read_expression(alloc, expression.as_bytes()),
+        Source::Merge { .. } => unreachable!(),
     }
 }

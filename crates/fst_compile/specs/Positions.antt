@@ -3,9 +3,9 @@ use Rattle.std.specs.Prelude.{◌≡◌, ℕ, ◌+◌, ◌⊎◌, List, [], ◌�
 use Rattle.mine_model.specs.declared.item.Item.{Item}
 use Rattle.mine_model.specs.Hierarchy.{Link}
 use Rattle.mine_model.specs.Generation.{Matches, WritesAt}
-use Rattle.fst_compile.specs.Shape.{Shape, one, nothing, never, both, either, maybe, more}
+use Rattle.fst_compile.specs.Shape.{Shape, ShapeOf, one, nothing, never, both, either, maybe, more}
 
-abbrev pub size : Shape → ℕ
+abbrev pub size : {A : Type 0} → ShapeOf A → ℕ
 size (one l captured) = 1
 size nothing = 0
 size never = 0
@@ -14,7 +14,7 @@ size (either a b) = size a + size b
 size (maybe a) = size a
 size (more a) = size a
 
-abbrev pub CanBeEmpty : Shape → Type 0
+abbrev pub CanBeEmpty : {A : Type 0} → ShapeOf A → Type 0
 CanBeEmpty (one l captured) = ⊥
 CanBeEmpty nothing = Unit {0}
 CanBeEmpty never = ⊥
@@ -24,7 +24,7 @@ CanBeEmpty (maybe a) = Unit {0}
 CanBeEmpty (more a) = CanBeEmpty a
 
 -- position k may come first
-abbrev pub First : Shape → ℕ → ℕ → Type 0
+abbrev pub First : {A : Type 0} → ShapeOf A → ℕ → ℕ → Type 0
 First (one l captured) o k = k ≡ o
 First nothing o k = ⊥
 First never o k = ⊥
@@ -34,7 +34,7 @@ First (maybe a) o k = First a o k
 First (more a) o k = First a o k
 
 -- position k may come last
-abbrev pub Last : Shape → ℕ → ℕ → Type 0
+abbrev pub Last : {A : Type 0} → ShapeOf A → ℕ → ℕ → Type 0
 Last (one l captured) o k = k ≡ o
 Last nothing o k = ⊥
 Last never o k = ⊥
@@ -44,7 +44,7 @@ Last (maybe a) o k = Last a o k
 Last (more a) o k = Last a o k
 
 -- position k may follow position j
-abbrev pub Follows : Shape → ℕ → ℕ → ℕ → Type 0
+abbrev pub Follows : {A : Type 0} → ShapeOf A → ℕ → ℕ → ℕ → Type 0
 Follows (one l captured) o j k = ⊥
 Follows nothing o j k = ⊥
 Follows never o j k = ⊥

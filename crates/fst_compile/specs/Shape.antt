@@ -6,38 +6,42 @@ use Rattle.mine_model.specs.Hierarchy.{Link}
 use Rattle.mine_model.specs.Expression.{Leaf, Tree, leaf, cat, alt, rep, cap}
 use Rattle.mine_model.specs.Generation.{Matches, WritesAt, Turn}
 
--- an expression whose repetitions are written out: each leaf says whether it stands inside a capture
-pub data Shape : Type 0 where
-  one : Leaf Item → Bool → Shape
-  nothing : Shape
-  never : Shape
-  both : Shape → Shape → Shape
-  either : Shape → Shape → Shape
-  maybe : Shape → Shape
-  more : Shape → Shape
+-- an expression over items or their names whose repetitions are written out: each leaf says whether it stands
+-- inside a capture
+pub data ShapeOf (A : Type 0) : Type 0 where
+  one : Leaf A → Bool → ShapeOf A
+  nothing : ShapeOf A
+  never : ShapeOf A
+  both : ShapeOf A → ShapeOf A → ShapeOf A
+  either : ShapeOf A → ShapeOf A → ShapeOf A
+  maybe : ShapeOf A → ShapeOf A
+  more : ShapeOf A → ShapeOf A
+
+abbrev pub Shape : Type 0
+Shape = ShapeOf Item
 
 -- up to n copies, each with those behind it optional
-abbrev pub up_to : ℕ → Shape → Shape
+abbrev pub up_to : {A : Type 0} → ℕ → ShapeOf A → ShapeOf A
 up_to zero shape = nothing
 up_to (suc n) shape = maybe (both shape (up_to n shape))
 
 -- n copies, and then optional ones, m copies in all
-abbrev pub between : ℕ → ℕ → Shape → Shape
+abbrev pub between : {A : Type 0} → ℕ → ℕ → ShapeOf A → ShapeOf A
 between zero m shape = up_to m shape
 between (suc n) zero shape = never
 between (suc n) (suc m) shape = both shape (between n m shape)
 
 -- n copies, but at least one, the last of which may be repeated
-abbrev pub at_least : ℕ → Shape → Shape
+abbrev pub at_least : {A : Type 0} → ℕ → ShapeOf A → ShapeOf A
 at_least zero shape = maybe (more shape)
 at_least (suc zero) shape = more shape
 at_least (suc (suc n)) shape = both shape (at_least (suc n) shape)
 
-abbrev pub repeated : Shape → ℕ → Option ℕ → Shape
+abbrev pub repeated : {A : Type 0} → ShapeOf A → ℕ → Option ℕ → ShapeOf A
 repeated shape least (Some most) = between least most shape
 repeated shape least None = at_least least shape
 
-abbrev pub unfold_tree : Tree Item → Bool → Shape
+abbrev pub unfold_tree : {A : Type 0} → Tree A → Bool → ShapeOf A
 unfold_tree (leaf l) captured = one l captured
 unfold_tree (cat left right) captured = both (unfold_tree left captured) (unfold_tree right captured)
 unfold_tree (alt left right) captured = either (unfold_tree left captured) (unfold_tree right captured)
@@ -45,12 +49,15 @@ unfold_tree (rep inner least most) captured = repeated (unfold_tree inner captur
 unfold_tree (cap inner) captured = unfold_tree inner true
 
 -- what a position reads, and whether it writes
-pub record Entry : Type 0 where
-  pub leaf : Leaf Item
+pub record EntryOf (A : Type 0) : Type 0 where
+  pub leaf : Leaf A
   pub captured : Bool
 
+abbrev pub Entry : Type 0
+Entry = EntryOf Item
+
 -- the leaves in the order of the text
-abbrev pub labels_of : Shape → List Entry
+abbrev pub labels_of : {A : Type 0} → ShapeOf A → List (EntryOf A)
 labels_of (one l captured) = record { leaf = l; captured = captured } ∷ []
 labels_of nothing = []
 labels_of never = []

@@ -1,4 +1,5 @@
 pub mod Growing
 pub mod FieldLemmas
+mod JoiningLemmas
 mod KeyLemmas
 mod TextLemmas

@@ -2,5 +2,4 @@
 pub mod Names
 pub mod Fields
 -- what the proofs keep
-pub mod Texts
 pub mod Table

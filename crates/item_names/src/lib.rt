@@ -2,6 +2,7 @@
 #![tactic(auto)]
 
 mod fields;
+mod joining;
 mod keys;
 mod names_fault;
 mod table;

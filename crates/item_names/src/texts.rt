@@ -20,11 +20,11 @@ impl Model for Texts {
     ghost use Rattle.std.specs.Prelude.{List, ℕ, ◌≤◌, length};
     ghost use Rattle.mine_model.specs.Limits.{most_items};
     ghost use Rattle.mine_model.specs.Ancestry.{AreCut};
-    ghost use Rattle.item_names.specs.Texts.{names_in};
+    ghost use Rattle.mine_model.specs.Lists.{lists_in};
 
     ghost Value = { List (List ℕ) };
 
-    ghost view = { λ t. names_in t.ends.items t.bytes.items };
+    ghost view = { λ t. lists_in t.ends.items t.bytes.items };
 
     ghost invariant = { λ t. (length t.ends.items ≤ most_items)
         × AreCut t.ends.items (length t.bytes.items) };

@@ -1,5 +1,6 @@
 //! Paths, and proofs of answers.
-ghost use Rattle.std.specs.Prelude.{◌≢◌, true, [], IfOk, IsTrue};
+ghost use Rattle.std.specs.Prelude.{◌≢◌, true, [], IfOk, IsTrue, All};
+ghost use Rattle.mine_model.specs.Names.{HasName};
 ghost use Rattle.mine_model.specs.Text.{is_name_byte};
 ghost use Rattle.mine_model.specs.Tokens.{Each};
 ghost use Rattle.pattern_proof.specs.ProofLines.{AreFileNames};
@@ -7,7 +8,7 @@ ghost use Rattle.pattern_proof.specs.ProofLines.{AreFileNames};
 use super::data::{A1, B, C, Shape, WORDS, job};
 use fst_compile::State;
 use item_names::Names;
-use mine_model::{Item, NoMemory};
+use mine_model::{Item, NoMemory, Row};
 use mining_job::Job;
 use pattern_proof::{ProofFault, checks, read_proof};
 use std::alloc::Global;
@@ -15,7 +16,7 @@ use std::test::Fail;
 use text_ports::{MemFile, MemFiles};
 
 /// `a1 b` twice, and `a1 c`.
-const PAIRS: [(u64, &[Item]); 3] = [(1, &[A1, B]), (1, &[A1, B]), (1, &[A1, C])];
+pub(crate) const PAIRS: [(u64, &[Item]); 3] = [(1, &[A1, B]), (1, &[A1, B]), (1, &[A1, C])];
 
 /// Whether these bytes are a name of a file.
 fn is_name(bytes: &[u8]) -> bool
@@ -30,7 +31,7 @@ fn is_name(bytes: &[u8]) -> bool
 }
 
 /// The names of the items.
-fn file_names(alloc: Global) -> Result<Names, NoMemory>
+pub(crate) fn file_names(alloc: Global) -> Result<Names, NoMemory>
     ensures { IfOk result AreFileNames }
 {
     let mut names = Names::new(alloc)?;
@@ -49,8 +50,36 @@ fn file_names(alloc: Global) -> Result<Names, NoMemory>
     Ok(names)
 }
 
+/// Whether each of the items has a name.
+fn have_names(items: &[Item], names: &Names) -> bool
+    ensures { IsTrue result → All (HasName names.now) items.now }
+{
+    for item in items {
+        if item.0 >= names.count() {
+            return false;
+        }
+    }
+    true
+}
+
+/// Whether each item of the rows has a name.
+pub(crate) fn are_named(rows: &[Row], names: &Names) -> bool
+    ensures { IsTrue result → All (λ row. All (HasName names.now) row.pattern) rows.now }
+{
+    for row in rows {
+        if !have_names(row.pattern.items(), names) {
+            return false;
+        }
+    }
+    true
+}
+
 /// What is said of a proof file with this text.
-fn judged(alloc: Global, job: &Job, text: &str) -> Result<Result<u64, ProofFault>, NoMemory> {
+pub(crate) fn judged(
+    alloc: Global,
+    job: &Job,
+    text: &str,
+) -> Result<Result<u64, ProofFault>, NoMemory> {
     let names = file_names(alloc)?;
     let name = Vec::from_slice(alloc, b"f")?;
     let bytes = Vec::from_slice(alloc, text.as_bytes())?;

@@ -22,9 +22,13 @@ mod judging;
 #[cfg(test)]
 mod listing;
 #[cfg(test)]
+mod members;
+#[cfg(test)]
 mod pivots;
 #[cfg(test)]
 mod pools;
+#[cfg(test)]
+mod proving;
 #[cfg(test)]
 mod schedules;
 #[cfg(test)]

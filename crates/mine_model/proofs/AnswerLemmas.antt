@@ -1,11 +1,11 @@
 -- At most one list of rows is the answer.
 use Rattle.std.proofs.Common.{◌≡◌, ℕ, inl, inr, List, [], ◌∷◌, refl, sym, ap, ◌∙◌, subst, arith, true≢false}
 use Rattle.std.specs.List.{AllByRecursion, Contains}
-use Rattle.std.specs.Ordering.{nat_cmp, is_eq}
+use Rattle.std.specs.Ordering.{nat_cmp, ordering_then, is_eq}
 use Rattle.std.specs.Cmp.{IsTotalOrder, nat_cmp_total, tied_itself}
 use Rattle.std.specs.Cmp.Lexicographic.{slice_cmp, lists_total}
 use Rattle.std.specs.declared.cmp.Ordering.{Ordering}
-use Rattle.std.specs.declared.cmp.Ordering.TheVariants.{Less, Equal}
+use Rattle.std.specs.declared.cmp.Ordering.TheVariants.{Less, Equal, Greater}
 use Rattle.mine_model.specs.Answer.{Data, IsAnswer, NamedRow, Rises, ComesBefore}
 use Rattle.mine_model.proofs.ListLemmas.{Contains-cases, Contains-first, Contains-other, Contains-none, AllByRecursion-contained}
 
@@ -14,6 +14,11 @@ names_total = lists_total (lists_total nat_cmp_total)
 
 apart : (r : Ordering) → r ≡ Equal → r ≡ Less → ⊥
 apart r e l = true≢false (sym (ap is_eq e) ∙ ap is_eq l)
+
+pub both_equal : (first second : Ordering) → ordering_then first second ≡ Equal → (first ≡ Equal) × (second ≡ Equal)
+both_equal Less second e = cc
+both_equal Equal second e = (refl, e)
+both_equal Greater second e = cc
 
 -- no row comes before itself
 pub ComesBefore-irreflexive : (row : NamedRow) → ComesBefore row row → ⊥

@@ -16,7 +16,7 @@ use Rattle.mine_model.specs.declared.mined.Work.{Work}
 use Rattle.mine_model.specs.Names.{sequence_by}
 use Rattle.mine_model.proofs.ListLemmas.{Contains-by, Contains-from, Contains-first, Contains-other, AllByRecursion-contained, AllPairs-head, AllPairs-tail, front_of_both}
 use Rattle.mine_model.proofs.AliveLemmas.{WeighAtLeast-some}
-use Rattle.mine_model.proofs.NumberingLemmas.{Renames, pattern-forth, pattern-back, one_to_one-lists, generated-in}
+use Rattle.mine_model.proofs.NumberingLemmas.{Renames, renamed_data, pattern-forth, pattern-back, one_to_one-lists, generated-in}
 
 module _ {A B : Type 0} (links : List (Link A)) (others : List (Link B)) (P : A → Type 0) (f : A → B) (renames : Renames links others P f) where
   holds-forth : (w : A) (items : List A) → P w → AllByRecursion P items → HoldsUnder links w items → HoldsUnder others (f w) (map f items)
@@ -46,15 +46,6 @@ module _ {A B : Type 0} (links : List (Link A)) (others : List (Link B)) (P : A 
 
 module _ {A B : Type 0} (f : A → B) (others : List (Link B)) (d : Data A) (P : A → Type 0) (renames : Renames d.links others P f)
     (named : AllByRecursion P (named_in d.expression)) (all : AllByRecursion (λ (s : Sequence A). AllByRecursion P s.items) d.sequences) where
-  -- the data under the other names
-  abbrev renamed : Data B
-  renamed = record {
-    links = others;
-    sequences = map (sequence_by f) d.sequences;
-    expression = tree_by f d.expression;
-    threshold = d.threshold;
-  }
-
   abbrev Frequent : A → Type 0
   Frequent = IsFrequentItem d.links d.sequences d.threshold
 
@@ -87,7 +78,7 @@ module _ {A B : Type 0} (f : A → B) (others : List (Link B)) (d : Data A) (P :
   Candidate = IsCandidate d
 
   abbrev CandidateNamed : List B → List B → Type 0
-  CandidateNamed = IsCandidate renamed
+  CandidateNamed = IsCandidate (renamed_data f others d)
 
   inside-of : (items pattern : List A) → AllByRecursion P items → Candidate items pattern → AllByRecursion P pattern
   inside-of items pattern within is =
@@ -127,7 +118,7 @@ module _ {A B : Type 0} (f : A → B) (others : List (Link B)) (d : Data A) (P :
           (inside-of items first within (each first (Contains-first first candidates)))
           (inside-of items own within (each own (Contains-other first candidates own inside))) (same ∙ is))
 
-  candidates-forth : (items : List A) (n : ℕ) → AllByRecursion P items → HasCandidates d items n → HasCandidates renamed (map f items) n
+  candidates-forth : (items : List A) (n : ℕ) → AllByRecursion P items → HasCandidates d items n → HasCandidates (renamed_data f others d) (map f items) n
   candidates-forth items n within has = record {
     things = map (map f) has.things;
     once = once-forth items has.things within (λ pattern. (has.exact pattern).0) has.once;
@@ -143,7 +134,7 @@ module _ {A B : Type 0} (f : A → B) (others : List (Link B)) (d : Data A) (P :
   -- so many pairs there are under the other names too
   pub pairs-forth : (sequences : List (Sequence A)) (n : ℕ) → AllByRecursion (λ (s : Sequence A). AllByRecursion P s.items) sequences
       → HasPairs d sequences n
-      → HasPairs (record { links = others; sequences = map (sequence_by f) d.sequences; expression = tree_by f d.expression; threshold = d.threshold })
+      → HasPairs (renamed_data f others d)
       (map (sequence_by f) sequences) n
   pairs-forth [] n within none = none
   pairs-forth (s ∷ sequences) n within (first, rest, sum, here, more) =
@@ -155,7 +146,7 @@ module _ {A B : Type 0} (f : A → B) (others : List (Link B)) (d : Data A) (P :
   Behind prefix items = HasPatternBehind d (AreFrequentItems d) prefix items
 
   abbrev BehindNamed : List B → List B → Type 0
-  BehindNamed prefix items = HasPatternBehind renamed (AreFrequentItems renamed) prefix items
+  BehindNamed prefix items = HasPatternBehind (renamed_data f others d) (AreFrequentItems (renamed_data f others d)) prefix items
 
   behind-inside : (prefix items : List A) → AllByRecursion P items → Behind prefix items → AllByRecursion P prefix
   behind-inside prefix items within (more, pattern, frequent) =
@@ -230,7 +221,7 @@ module _ {A B : Type 0} (f : A → B) (others : List (Link B)) (d : Data A) (P :
 
   -- the work of a search by prefixes is the same under the other names
   pub search-forth : 1 ≤ d.threshold → (work : Work) → IsSearchWork d work
-      → IsSearchWork (record { links = others; sequences = map (sequence_by f) d.sequences; expression = tree_by f d.expression; threshold = d.threshold }) work
+      → IsSearchWork (renamed_data f others d) work
   search-forth some work is = record {
     nodes = record {
       things = map (map f) is.nodes.things;

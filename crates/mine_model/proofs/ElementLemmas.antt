@@ -1,8 +1,9 @@
 -- Elements of a list, and of a list of pieces.
-use Rattle.std.proofs.Common.{◌≡◌, ◌≢◌, ℕ, zero, suc, ◌+◌, ◌<◌, ◌⊎◌, inl, inr, Some, List, [], ◌∷◌, ◌++◌, slice_get, set, length, refl, ap, ◌∙◌, subst, arith, sum_by, Contains, flat_map}
+use Rattle.std.proofs.Common.{◌≡◌, ◌≢◌, ℕ, zero, suc, ◌+◌, ◌<◌, ◌⊎◌, inl, inr, Some, List, [], ◌∷◌, ◌++◌, slice_get, set, map, length, refl, ap, ◌∙◌, subst, arith, sum_by, Contains, flat_map}
 use Rattle.mine_model.proofs.ListLemmas.{Contains-cases, Contains-first, Contains-other, Contains-none}
 use Rattle.std.proofs.lemmas.List.Elements.{Contains-append_left, Contains-append_right, Contains-append_cases}
 use Rattle.std.proofs.lemmas.List.Sums.{sum_by-append}
+use Rattle.std.proofs.lemmas.Option.{slice_get-map}
 
 pub get-some : {X : Type 0} (xs : List X) (i : ℕ) → i < length xs → (x : X) × (slice_get xs i ≡ Some x)
 get-some [] i l = absurd (omega arith)
@@ -19,6 +20,10 @@ pub get-left : {X : Type 0} (xs ys : List X) (i : ℕ) (x : X) → slice_get xs 
 get-left [] ys i x is = absurd (cc)
 get-left (y ∷ xs) ys zero x is = is
 get-left (y ∷ xs) ys (suc i) x is = get-left xs ys i x is
+
+-- what stands in a mapped list
+pub slice_get-mapped_by : {X Y : Type 0} (f : X → Y) (xs : List X) (i : ℕ) (x : X) → slice_get xs i ≡ Some x → slice_get (map f xs) i ≡ Some (f x)
+slice_get-mapped_by f xs i x found = slice_get-map f xs i ∙ (rw found refl)
 
 -- what stands in a list after one element changed
 pub get_set_same : {X : Type 0} (xs : List X) (i : ℕ) (x y : X) → slice_get xs i ≡ Some x → slice_get (set xs i y) i ≡ Some y

@@ -27,3 +27,5 @@ pub mod DecidedLemmas
 pub mod SumLemmas
 pub mod AliveLemmas
 pub mod PartitionWorkLemmas
+pub mod TextFaultLemmas
+pub mod CutLemmas

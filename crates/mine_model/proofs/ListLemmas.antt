@@ -1,10 +1,12 @@
 -- Lemmas on lists, what is contained in them and what holds of each element.
 use Rattle.std.proofs.Common.{◌≡◌, ◌≢◌, ◌⊎◌, inl, inr, Bool, true, false, cond, Option, Some, None, List, [], ◌∷◌, ◌++◌, map, filter, length, get_or, take, drop, length-drop, refl, sym, ap, ◌∙◌, subst, arith, suc, zero, true≢false, ℕ, ◌-◌, ◌≤◌, ◌<◌}
-use Rattle.std.specs.List.{AllByRecursion, AllPairs, Contains, slice_range, filter_map, cons_option}
+use Rattle.std.specs.List.{AllByRecursion, AllPairs, Contains, slice_range, list_any, filter_map, cons_option}
 use Rattle.std.proofs.Math.Seq.{take-append_seam}
-use Rattle.std.proofs.lemmas.List.{get_or_default, take-append-le, drop-append-le}
+use Rattle.std.proofs.lemmas.List.{get_or_default, append-nil, map-append, take-append-le, drop-append-le}
+use Rattle.std.proofs.lemmas.Bool.{cases_Bool}
 use Rattle.std.proofs.lemmas.List.Elements.{Contains-append_cases}
 use Rattle.std.proofs.lemmas.List.Kept.{AllPairs-cons}
+use Rattle.mine_model.specs.Lists.{AddsTo}
 
 -- an element is the first or one of the others
 pub Contains-cases : {X : Type 0} (x : X) (xs : List X) (y : X) → Contains (x ∷ xs) y → (y ≡ x) ⊎ Contains xs y
@@ -28,6 +30,19 @@ AllByRecursion-contained P (x ∷ xs) y all inside =
       | inl same ↦ subst P (sym same) all.0
       | inr other ↦ AllByRecursion-contained P xs y all.1 other
     ]
+
+-- what holds of one that is contained holds of each element
+pub AllByRecursion-from : {X : Type 0} (P : X → Type 0) (xs : List X) → ((x : X) → Contains xs x → P x) → AllByRecursion P xs
+AllByRecursion-from P [] each = tt
+AllByRecursion-from P (x ∷ xs) each = (each x (Contains-first x xs), AllByRecursion-from P xs (λ y held. each y (Contains-other x xs y held)))
+
+-- where an element stands
+pub cut_at : {X : Type 0} (xs : List X) (x : X) → Contains xs x → (front : List X) × (back : List X) × (xs ≡ front ++ x ∷ back)
+cut_at [] x inside = absurd (Contains-none x inside)
+cut_at (y ∷ xs) x inside = elim (Contains-cases y xs x inside) [
+  | inl same ↦ ([], xs, ap (λ z. z ∷ xs) (sym same))
+  | inr other ↦ let (front, back, is) = cut_at xs x other in (y ∷ front, back, ap (λ w. y ∷ w) is)
+]
 
 -- what holds of each element where P does
 pub AllByRecursion-weaker : {X : Type 0} (P Q : X → Type 0) → ((x : X) → P x → Q x) → (xs : List X) → AllByRecursion P xs → AllByRecursion Q xs
@@ -216,4 +231,12 @@ last-cases [] = inl refl
 last-cases (x ∷ xs) = elim (last-cases xs) [
   | inl none ↦ inr ([], x, ap (λ l. x ∷ l) none)
   | inr some ↦ (let (front, last, same) = some in inr (x ∷ front, last, ap (λ l. x ∷ l) same))
+]
+
+-- what an insertion into a set of keys adds
+pub AddsTo-inserted : {X Y : Type 0} (f : X → Y) (eq : X → X → Bool) (ks after : List X) (k : X) → after ≡ cond (list_any (eq k) ks) ks (ks ++ k ∷ [])
+    → AddsTo (map f ks) (f k) (map f after)
+AddsTo-inserted f eq ks after k are = elim (cases_Bool (list_any (eq k) ks)) [
+  | inl there ↦ ([], (rw (are, there) (sym (append-nil (map f ks)))), (λ y none. absurd (Contains-none y none)))
+  | inr new ↦ (f k ∷ [], (rw (are, new) (map-append f ks (k ∷ []))), (λ y last. elim (Contains-cases (f k) [] y last) [ inl same ↦ same | inr none ↦ absurd (Contains-none y none) ]))
 ]

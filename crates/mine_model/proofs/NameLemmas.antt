@@ -8,15 +8,7 @@ use Rattle.std.proofs.lemmas.List.Quantifiers.{all_pairs_push}
 use Rattle.mine_model.specs.declared.item.Item.{Item}
 use Rattle.mine_model.specs.Names.{name_of, HasName, AreDistinct, GrowBy}
 use Rattle.mine_model.specs.Refusal.{HasMoreNames}
-use Rattle.mine_model.proofs.ListLemmas.{Contains-cases, Contains-none}
-
--- where an element stands
-cut_at : {X : Type 0} (xs : List X) (x : X) → Contains xs x → (front : List X) × (back : List X) × (xs ≡ front ++ x ∷ back)
-cut_at [] x inside = absurd (Contains-none x inside)
-cut_at (y ∷ xs) x inside = elim (Contains-cases y xs x inside) [
-  | inl same ↦ ([], xs, ap (λ z. z ∷ xs) (sym same))
-  | inr other ↦ let (front, back, is) = cut_at xs x other in (y ∷ front, back, ap (λ w. y ∷ w) is)
-]
+use Rattle.mine_model.proofs.ListLemmas.{Contains-cases, Contains-none, cut_at}
 
 -- another element stands before it or behind it
 stands_else : {X : Type 0} (front back : List X) (x y : X) → (x ≡ y → ⊥) → Contains (front ++ x ∷ back) y → Contains (front ++ back) y

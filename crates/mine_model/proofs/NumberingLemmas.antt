@@ -6,6 +6,7 @@ use Rattle.mine_model.specs.Hierarchy.{Link, IsAncestor}
 use Rattle.mine_model.specs.Expression.{Leaf, under, exact, climb, forced, any, any_climb, not_under, not_exact, Tree, leaf, cat, alt, rep, cap, named_by, named_in, leaf_by, tree_by}
 use Rattle.mine_model.specs.Generation.{Matches, MayWrite, WritesAt, Turn, IsAtMost, Generates, IsPatternOf}
 use Rattle.mine_model.specs.Support.{Sequence, HasSupport}
+use Rattle.mine_model.specs.Answer.{Data}
 use Rattle.mine_model.specs.Names.{sequence_by}
 use Rattle.mine_model.proofs.ListLemmas.{front_of_both, back_of_both}
 use Rattle.mine_model.proofs.GenerationLemmas.{Generates-items}
@@ -48,6 +49,15 @@ map-single f (x ∷ y ∷ xs) b same = absurd (cc)
 pub map-none : {A B : Type 0} (f : A → B) (xs : List A) → map f xs ≡ [] → xs ≡ []
 map-none f [] same = refl
 map-none f (x ∷ xs) same = absurd (cc)
+
+-- the data under the names that f gives, over links between those
+abbrev pub renamed_data : {A B : Type 0} → (A → B) → List (Link B) → Data A → Data B
+renamed_data f others d = record {
+  links = others;
+  sequences = map (sequence_by f) d.sequences;
+  expression = tree_by f d.expression;
+  threshold = d.threshold;
+}
 
 -- The items that P holds of have other names by f: different ones, and what stands above them is the same.
 pub record Renames {A B : Type 0} (links : List (Link A)) (others : List (Link B)) (P : A → Type 0) (f : A → B) : Type 0 where

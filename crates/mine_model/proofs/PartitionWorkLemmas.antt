@@ -12,7 +12,7 @@ use Rattle.mine_model.specs.Candidates.{IsFrequentItem}
 use Rattle.mine_model.specs.Names.{sequence_by}
 use Rattle.mine_model.specs.Growth.{WeighAtLeast, HasPatternBehind, IsAlive}
 use Rattle.mine_model.proofs.ListLemmas.{Contains-by, Contains-from, AllByRecursion-contained, front_of_both}
-use Rattle.mine_model.proofs.NumberingLemmas.{Renames, pattern-forth, pattern-back, one_to_one-lists, generated-in}
+use Rattle.mine_model.proofs.NumberingLemmas.{Renames, renamed_data, pattern-forth, pattern-back, one_to_one-lists, generated-in}
 use Rattle.mine_model.proofs.NumberLemmas.{IsNumberOf-by, IsNumberOf-unique}
 use Rattle.mine_model.proofs.AliveLemmas.{IsAlive-some}
 use Rattle.mine_model.specs.PartitionWork.{RanksBefore, IsPivotOf, IsPartitionWork}
@@ -70,25 +70,17 @@ module _ {A B : Type 0} (f : A → B) (P : A → Type 0) (Has : List A → Type 
 module _ {A B : Type 0} (f : A → B) (others : List (Link B)) (d : Data A) (P : A → Type 0) (renames : Renames d.links others P f)
     (named : AllByRecursion P (named_in d.expression)) (all : AllByRecursion (λ (s : Sequence A). AllByRecursion P s.items) d.sequences)
     (Ties : B → B → Type 0) where
-  abbrev renamed : Data B
-  renamed = record {
-    links = others;
-    sequences = map (sequence_by f) d.sequences;
-    expression = tree_by f d.expression;
-    threshold = d.threshold;
-  }
-
-  abbrev Earlier : A → A → Type 0
+  abbrev pub Earlier : A → A → Type 0
   Earlier = RanksBefore (λ v w. Ties (f v) (f w)) d
 
-  abbrev EarlierNamed : B → B → Type 0
-  EarlierNamed = RanksBefore Ties renamed
+  abbrev pub EarlierNamed : B → B → Type 0
+  EarlierNamed = RanksBefore Ties (renamed_data f others d)
 
-  abbrev IsPivot : A → List A → Type 0
+  abbrev pub IsPivot : A → List A → Type 0
   IsPivot = IsPivotOf (λ v w. Ties (f v) (f w)) d
 
-  abbrev IsPivotNamed : B → List B → Type 0
-  IsPivotNamed = IsPivotOf Ties renamed
+  abbrev pub IsPivotNamed : B → List B → Type 0
+  IsPivotNamed = IsPivotOf Ties (renamed_data f others d)
 
   holds-same : (w : A) → P w → (items : List A) → AllByRecursion P items → HoldsUnder d.links w items ↔ HoldsUnder others (f w) (map f items)
   holds-same w p items inside = (
@@ -98,16 +90,16 @@ module _ {A B : Type 0} (f : A → B) (others : List (Link B)) (d : Data A) (P :
         (t, own, renames.back w t p (AllByRecursion-contained P items t inside own) (subst (IsAncestor others (f w)) same above))),
   )
 
-  frequency-same : (w : A) → P w → (n : ℕ) → HasFrequency d.links d.sequences w n ↔ HasFrequency others renamed.sequences (f w) n
+  frequency-same : (w : A) → P w → (n : ℕ) → HasFrequency d.links d.sequences w n ↔ HasFrequency others (map (sequence_by f) d.sequences) (f w) n
   frequency-same w p = counts-same f P (HoldsUnder d.links w) (HoldsUnder others (f w)) (holds-same w p) d.sequences all
 
-  frequent-same : (w : A) → P w → IsFrequentItem d.links d.sequences d.threshold w ↔ IsFrequentItem others renamed.sequences d.threshold (f w)
+  pub frequent-same : (w : A) → P w → IsFrequentItem d.links d.sequences d.threshold w ↔ IsFrequentItem others (map (sequence_by f) d.sequences) d.threshold (f w)
   frequent-same w p = (
     (λ is. record { frequency = is.frequency; exact = (frequency-same w p is.frequency).0 is.exact; enough = is.enough }),
     (λ is. record { frequency = is.frequency; exact = (frequency-same w p is.frequency).1 is.exact; enough = is.enough }),
   )
 
-  earlier-same : (v w : A) → P v → P w → Earlier v w ↔ EarlierNamed (f v) (f w)
+  pub earlier-same : (v w : A) → P v → P w → Earlier v w ↔ EarlierNamed (f v) (f w)
   earlier-same v w p q = (
     (λ is. record {
       first = is.first;
@@ -149,7 +141,7 @@ module _ {A B : Type 0} (f : A → B) (others : List (Link B)) (d : Data A) (P :
 
     pivot-same : (items : List A) → AllByRecursion P items → IsPivot pivot items ↔ IsPivotNamed (f pivot) (map f items)
     pivot-same items inside =
-        let frequent = all-same f P (IsFrequentItem d.links d.sequences d.threshold) (IsFrequentItem others renamed.sequences d.threshold) frequent-same items inside in
+        let frequent = all-same f P (IsFrequentItem d.links d.sequences d.threshold) (IsFrequentItem others (map (sequence_by f) d.sequences) d.threshold) frequent-same items inside in
         let last = all-same f P (λ v. (v ≡ pivot) ⊎ Earlier v pivot) (λ v. (v ≡ f pivot) ⊎ EarlierNamed v (f pivot)) last-same items inside in (
           (λ is. record { frequent = frequent.0 is.frequent; held = Contains-by f items pivot is.held; last = last.0 is.last }),
           (λ is.
@@ -159,7 +151,7 @@ module _ {A B : Type 0} (f : A → B) (others : List (Link B)) (d : Data A) (P :
         )
 
     behind-same : (prefix : List A) → AllByRecursion P prefix → (items : List A) → AllByRecursion P items
-        → HasPatternBehind d (IsPivot pivot) prefix items ↔ HasPatternBehind renamed (IsPivotNamed (f pivot)) (map f prefix) (map f items)
+        → HasPatternBehind d (IsPivot pivot) prefix items ↔ HasPatternBehind (renamed_data f others d) (IsPivotNamed (f pivot)) (map f prefix) (map f items)
     behind-same prefix inside items within = (
       (λ (more, pattern, is).
           let cut : map f (prefix ++ more) ≡ map f prefix ++ map f more = map-append f prefix more in (
@@ -179,23 +171,23 @@ module _ {A B : Type 0} (f : A → B) (others : List (Link B)) (d : Data A) (P :
           )),
     )
 
-    alive-same : (prefix : List A) → AllByRecursion P prefix → IsAlive d (IsPivot pivot) prefix ↔ IsAlive renamed (IsPivotNamed (f pivot)) (map f prefix)
+    pub alive-same : (prefix : List A) → AllByRecursion P prefix → IsAlive d (IsPivot pivot) prefix ↔ IsAlive (renamed_data f others d) (IsPivotNamed (f pivot)) (map f prefix)
     alive-same prefix inside =
-        weigh-same f P (HasPatternBehind d (IsPivot pivot) prefix) (HasPatternBehind renamed (IsPivotNamed (f pivot)) (map f prefix))
+        weigh-same f P (HasPatternBehind d (IsPivot pivot) prefix) (HasPatternBehind (renamed_data f others d) (IsPivotNamed (f pivot)) (map f prefix))
         (behind-same prefix inside) d.sequences all d.threshold
 
   module _ (least : 1 ≤ d.threshold) where
-    label-named : (pivot : A) (prefix : List A) → IsAlive d (IsPivot pivot) prefix → P pivot × AllByRecursion P prefix
+    pub label-named : (pivot : A) (prefix : List A) → IsAlive d (IsPivot pivot) prefix → P pivot × AllByRecursion P prefix
     label-named pivot prefix alive =
         let (s, held, (more, pattern, is)) = IsAlive-some d (IsPivot pivot) prefix least alive in
         let inside = written-named s.items (prefix ++ more) (AllByRecursion-contained (λ (t : Sequence A). AllByRecursion P t.items) d.sequences s all held) pattern in
         (AllByRecursion-contained P (prefix ++ more) pivot inside is.held, front_of_both P prefix more inside)
 
     -- an alive label over names is that of items
-    label-own : (v : B) (prefix : List B) → IsAlive renamed (IsPivotNamed v) prefix
+    pub label-own : (v : B) (prefix : List B) → IsAlive (renamed_data f others d) (IsPivotNamed v) prefix
         → (pivot : A) × (own : List A) × (v ≡ f pivot) × (prefix ≡ map f own) × P pivot × AllByRecursion P own
     label-own v prefix alive =
-        let (s, held, (more, pattern, is)) = IsAlive-some renamed (IsPivotNamed v) prefix least alive in
+        let (s, held, (more, pattern, is)) = IsAlive-some (renamed_data f others d) (IsPivotNamed v) prefix least alive in
         let (t, inside, same) = Contains-from (sequence_by f) d.sequences s held in
         let items : s.items ≡ map f t.items = ap (λ (s : Sequence B). s.items) same in
         let (own, is_own, made, own_inside) = pattern-back d.links others P f renames d.expression named t.items (prefix ++ more)
@@ -207,9 +199,9 @@ module _ {A B : Type 0} (f : A → B) (others : List (Link B)) (d : Data A) (P :
 
     -- THE WORK by items is that by names
     pub partition-names : (work : Work) → IsPartitionWork (λ v w. Ties (f v) (f w)) d work
-        → IsPartitionWork Ties (record { links = others; sequences = map (sequence_by f) d.sequences; expression = tree_by f d.expression; threshold = d.threshold }) work
+        → IsPartitionWork Ties (renamed_data f others d) work
     partition-names work is = record {
-      nodes = IsNumberOf-by (λ (label : A × List A). IsAlive d (IsPivot label.0) label.1) (λ (label : B × List B). IsAlive renamed (IsPivotNamed label.0) label.1)
+      nodes = IsNumberOf-by (λ (label : A × List A). IsAlive d (IsPivot label.0) label.1) (λ (label : B × List B). IsAlive (renamed_data f others d) (IsPivotNamed label.0) label.1)
           (λ label. (f label.0, map f label.1)) work.nodes
           (λ x y here there same.
           let (p, inside) = label-named x.0 x.1 here in
@@ -221,14 +213,14 @@ module _ {A B : Type 0} (f : A → B) (others : List (Link B)) (d : Data A) (P :
           (λ y alive.
           let (pivot, own, same, fronts, p, inside) = label-own y.0 y.1 alive in
           let both : y ≡ (f pivot, map f own) = λ i. (same i, fronts i) in
-          ((pivot, own), both, (alive-same pivot p own inside).1 (subst (λ (l : B × List B). IsAlive renamed (IsPivotNamed l.0) l.1) both alive)))
+          ((pivot, own), both, (alive-same pivot p own inside).1 (subst (λ (l : B × List B). IsAlive (renamed_data f others d) (IsPivotNamed l.0) l.1) both alive)))
           is.nodes;
-      parts = IsNumberOf-by (λ pivot. IsAlive d (IsPivot pivot) []) (λ pivot. IsAlive renamed (IsPivotNamed pivot) []) f work.parts
+      parts = IsNumberOf-by (λ pivot. IsAlive d (IsPivot pivot) []) (λ pivot. IsAlive (renamed_data f others d) (IsPivotNamed pivot) []) f work.parts
           (λ x y here there same. renames.one_to_one x y (label-named x [] here).0 (label-named y [] there).0 same)
           (λ x alive. (alive-same x (label-named x [] alive).0 [] tt).0 alive)
           (λ y alive.
           let (pivot, own, same, fronts, p, inside) = label-own y [] alive in
-          (pivot, same, (alive-same pivot p [] tt).1 (subst (λ v. IsAlive renamed (IsPivotNamed v) []) same alive)))
+          (pivot, same, (alive-same pivot p [] tt).1 (subst (λ v. IsAlive (renamed_data f others d) (IsPivotNamed v) []) same alive)))
           is.parts;
       candidates = is.candidates;
     }

@@ -1,7 +1,8 @@
 -- Walks over links, and what follows from them.
-use Rattle.std.proofs.Common.{◌≡◌, ◌⊎◌, inl, inr, List, [], ◌∷◌, ◌++◌, refl, sym, subst}
+use Rattle.std.proofs.Common.{◌≡◌, ◌⊎◌, inl, inr, List, [], ◌∷◌, ◌++◌, refl, sym, ap, subst}
 use Rattle.std.specs.List.{Contains}
 use Rattle.mine_model.specs.Hierarchy.{Link, IsWalk, IsAncestor, HasCycle, IsAcyclic}
+use Rattle.mine_model.proofs.ListLemmas.{Contains-cases, Contains-first, Contains-other}
 
 module _ {A : Type 0} (links : List (Link A)) where
   pub IsAncestor-itself : (t : A) → IsAncestor links t t
@@ -34,3 +35,34 @@ module _ {A : Type 0} (links : List (Link A)) where
 
     pub IsAcyclic-fewer : IsAcyclic others → IsAcyclic links
     IsAcyclic-fewer acyclic cycle = acyclic (HasCycle-more cycle)
+
+-- One link more
+
+module _ {A : Type 0} (links : List (Link A)) (link : Link A) where
+  -- a walk over one more link need not take it more than once
+  pub IsWalk-without : (t : A) (steps : List A) (w : A) → IsWalk (link ∷ links) t steps w
+      → IsAncestor links w t ⊎ (IsAncestor links link.child t × IsAncestor links w link.parent)
+  IsWalk-without t [] w same = inl ([], same)
+  IsWalk-without t (up ∷ steps) w walk = elim (Contains-cases link links (record { child = t; parent = up }) walk.0) [
+    | inl here ↦
+        let child : t ≡ link.child = ap (λ l. l.child) here in
+        let parent : up ≡ link.parent = ap (λ l. l.parent) here in
+        elim (IsWalk-without up steps w walk.1) [
+          | inl above ↦ inr (([], child), subst (IsAncestor links w) parent above)
+          | inr again ↦ inr (([], child), again.1)
+        ]
+    | inr there ↦ elim (IsWalk-without up steps w walk.1) [
+      | inl above ↦ inl (up ∷ above.0, (there, above.1))
+      | inr again ↦ inr ((up ∷ again.0.0, (there, again.0.1)), again.1)
+    ]
+  ]
+
+  more : (other : Link A) → Contains links other → Contains (link ∷ links) other
+  more other held = Contains-other link links other held
+
+  pub IsAncestor-with : (w t : A) → IsAncestor links w t ⊎ (IsAncestor links link.child t × IsAncestor links w link.parent) → IsAncestor (link ∷ links) w t
+  IsAncestor-with w t (inl above) = IsAncestor-more links (link ∷ links) more w t above
+  IsAncestor-with w t (inr over) =
+      let step : IsAncestor (link ∷ links) link.parent link.child = (link.parent ∷ [], (Contains-first link links, refl)) in
+      IsAncestor-chain (link ∷ links) w link.parent t (IsAncestor-more links (link ∷ links) more w link.parent over.1)
+      (IsAncestor-chain (link ∷ links) link.parent link.child t step (IsAncestor-more links (link ∷ links) more link.child t over.0))

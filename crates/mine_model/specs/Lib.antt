@@ -23,6 +23,8 @@ pub mod Numbered
 pub mod Decided
 pub mod Names
 pub mod Ancestry
+pub mod Lists
+pub mod Draws
 pub mod Labels
 pub mod Database
 pub mod Ranks

@@ -2,9 +2,9 @@
 use Rattle.std.specs.Prelude.{ℕ, ◌++◌, ◌∷◌, List, [], codes, Option, Some, None, Result, Ok, Err}
 use Rattle.std.specs.Fmt.{decimal}
 use Rattle.mine_model.specs.declared.fault.Fault.{Fault}
-use Rattle.mine_model.specs.declared.fault.Fault.TheVariants.{Usage, BadToken, BadRepeat, Unexpected, Unknown, BadByte, BadWeight, Cycle, ExprTooLong, RepeatLimit, TooDeep, TooManyLeaves, TooLarge, NameTooLong, TooManyItems, TooManyAncestors, TooManySequences, SequenceTooLong, Read, Write, NoMemory}
+use Rattle.mine_model.specs.declared.fault.Fault.TheVariants.{Usage, BadToken, BadRepeat, Unexpected, Unknown, BadByte, BadWeight, Cycle, BadRow, BadProof, ExprTooLong, RepeatLimit, TooDeep, TooManyLeaves, TooLarge, NameTooLong, TooManyItems, TooManyAncestors, TooManySequences, SequenceTooLong, Read, Write, NoMemory}
 use Rattle.mine_model.specs.declared.fault.Which.{Which}
-use Rattle.mine_model.specs.declared.fault.Which.TheVariants.{Hierarchy, Sequences}
+use Rattle.mine_model.specs.declared.fault.Which.TheVariants.{Hierarchy, Sequences, Merged, Proof}
 use Rattle.mine_model.specs.declared.mined.Work.{Work}
 use Rattle.mine_model.specs.Bytes.{line_feed}
 
@@ -18,6 +18,8 @@ fault_status (Unknown column) = 3
 fault_status (BadByte file line column) = 3
 fault_status (BadWeight line column) = 3
 fault_status (Cycle line) = 3
+fault_status (BadRow file line) = 3
+fault_status (BadProof line) = 3
 fault_status (Read file) = 5
 fault_status Write = 6
 fault_status NoMemory = 7
@@ -31,6 +33,8 @@ status_of (Err fault) = fault_status fault
 abbrev pub file_text : Which → List ℕ
 file_text Hierarchy = codes "hierarchy"
 file_text Sequences = codes "sequences"
+file_text (Merged number) = codes "file " ++ decimal number
+file_text Proof = codes "proof"
 
 -- the place in the expression, and what is wrong there
 abbrev pub at_column : ℕ → List ℕ → List ℕ
@@ -53,6 +57,8 @@ fault_text (Unknown column) = at_column column (codes ": unknown name")
 fault_text (BadByte file line column) = at_place file line column (codes ": bad byte")
 fault_text (BadWeight line column) = at_place Sequences line column (codes ": bad weight")
 fault_text (Cycle line) = at_line Hierarchy line (codes ": cycle")
+fault_text (BadRow file line) = at_line file line (codes ": bad row")
+fault_text (BadProof line) = at_line Proof line (codes ": refused")
 fault_text ExprTooLong = codes "expression: more than 4096 bytes"
 fault_text (RepeatLimit column) = at_column column (codes ": repeat over 1024")
 fault_text (TooDeep column) = at_column column (codes ": nested over 128")

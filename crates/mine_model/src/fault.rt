@@ -1,10 +1,14 @@
 use super::memory::NoMemory;
 
-/// Which of the two files a message speaks of.
+/// Which file a message speaks of.
 #[derive(Clone, Copy, Debug, PartialEq, Eq)]
 pub enum Which {
     Hierarchy,
     Sequences,
+    /// A file of an output that is to be merged, by its number in the words, from 1.
+    Merged(u32),
+    /// The file of a proof that is to be checked.
+    Proof,
 }
 
 /// Why a run did not end with its answer. Lines and columns count from 1, columns in bytes; the lines of a
@@ -27,6 +31,12 @@ pub enum Fault {
     BadWeight { line: u64, column: u64 },
     /// The links up to this line lead from an item back to it.
     Cycle { line: u64 },
+    /// The line of an output that is to be merged is no row, or not behind the row before it, or its pattern
+    /// stands in an earlier line of this file or of one before it.
+    BadRow { file: Which, line: u64 },
+    /// The line of a proof is refused: it has not the form or the place of a row or of a path, its path shows
+    /// nothing of its row, or the paths of its row weigh less than the row says.
+    BadProof { line: u64 },
     /// The expression has too many bytes.
     ExprTooLong,
     /// A repeat has a number that is too great.

@@ -3,6 +3,7 @@
 #![tactic(auto)]
 
 mod database;
+mod draws;
 mod expression;
 mod fault;
 mod frequency_laws;
@@ -17,6 +18,7 @@ mod ranks;
 mod row;
 
 pub use database::Db;
+pub use draws::next_state;
 pub use expression::{Expr, Leaf};
 pub use fault::{Fault, Which};
 pub use frequency_laws::{

@@ -124,7 +124,7 @@ pub quote-begins-none : (text inner : List ℕ) → text ≡ quote ∷ inner →
 quote-begins-none text inner same unclosed (bytes, token, following, cut, is) = spells-quote inner bytes token following unclosed (sym same ∙ cut) is
 
 -- a repeat
-inner-each : (bytes : List ℕ) → Each (test_of Inner) true bytes → Each is_closing_brace false bytes
+pub inner-each : (bytes : List ℕ) → Each (test_of Inner) true bytes → Each is_closing_brace false bytes
 inner-each bytes each = each-map (test_of Inner) is_closing_brace true false (λ b h. no-brace b h) bytes each
   where
     no-brace : (b : ℕ) → not (is_closing_brace b) ≡ true → is_closing_brace b ≡ false
@@ -135,7 +135,7 @@ pub open-lexeme : (inner : List ℕ) (count : ℕ) → count ≡ length inner �
 open-lexeme inner count whole each =
     (omega arith, omega arith, open_repeat inner, (take_all (count + 1) (open_brace ∷ inner) (omega arith), inner-each inner (subst (Each (test_of Inner) true) (take_all count inner (omega arith)) each), drop_all (count + 1) (open_brace ∷ inner) (omega arith)), tt)
 
-brace-is : (b : ℕ) → not (is_closing_brace b) ≡ false → b ≡ close_brace
+pub brace-is : (b : ℕ) → not (is_closing_brace b) ≡ false → b ≡ close_brace
 brace-is b h = grind (arith, nat_tests)
 
 pub closed-lexeme : (inner : List ℕ) (count : ℕ) (kind : ReadKind) → count ≤ length inner → count ≢ length inner → Each (test_of Inner) true (take count inner)

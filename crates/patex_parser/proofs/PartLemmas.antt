@@ -106,10 +106,10 @@ part-other bytes free rest digits after first some second wrong = (not_blank, no
         let both = parts digits' after' (behind before' digits' after' e free' some' are) are free'' in
         not_free (subst (Each is_free true) (sym both.1) free'')
 
-comma-is : (b : ℕ) → not (b == comma) ≡ false → b ≡ comma
+pub comma-is : (b : ℕ) → not (b == comma) ≡ false → b ≡ comma
 comma-is b h = grind (arith, nat_tests)
 
-before-comma : (bytes : List ℕ) → Each (test_of BeforeComma) true bytes → Each is_comma false bytes
+pub before-comma : (bytes : List ℕ) → Each (test_of BeforeComma) true bytes → Each is_comma false bytes
 before-comma bytes each = each-map (test_of BeforeComma) is_comma true false (λ b h. no-comma b h) bytes each
   where
     no-comma : (b : ℕ) → not (b == comma) ≡ true → is_comma b ≡ false
@@ -124,20 +124,20 @@ comma-cut between front behind back b cut same =
 no-comma-cut : (between front behind : List ℕ) → IsCutAt (test_of BeforeComma) between front behind → behind ≡ [] → between ≡ front
 no-comma-cut between front behind cut none = cut.whole ∙ ap (λ xs. front ++ xs) none ∙ append-nil front
 
--- what the parts before and behind the comma say of the bounds
-abbrev AreParts : List ℕ → List ℕ → ℕ → Option ℕ → Type 0
+-- what the parts before and behind a comma say of the bounds
+abbrev pub AreParts : List ℕ → List ℕ → ℕ → Option ℕ → Type 0
 AreParts left right least most =
     (IsPadded left least × Each is_free true right × (most ≡ None))
     ⊎ (Each is_free true left × (least ≡ 0) × (m : ℕ) × IsPadded right m × (most ≡ Some m))
     ⊎ (IsPadded left least × (m : ℕ) × IsPadded right m × (most ≡ Some m))
 
-padded-no-comma : (bytes : List ℕ) (n : ℕ) → IsPadded bytes n → Each is_comma false bytes
+pub padded-no-comma : (bytes : List ℕ) (n : ℕ) → IsPadded bytes n → Each is_comma false bytes
 padded-no-comma bytes n (before, digits, after, same, free, free', (are, some, value)) =
     subst (Each is_comma false) (sym same)
     (each-append is_comma false (before ++ digits) after
     (each-append is_comma false before digits (free-commas before free) (each-map is_ascii_digit is_comma true false digit_no_comma digits are)) (free-commas after free'))
 
-no-comma-in : (left right bytes : List ℕ) → bytes ≡ left ++ comma ∷ right → Each is_comma false bytes → ⊥
+pub no-comma-in : (left right bytes : List ℕ) → bytes ≡ left ++ comma ∷ right → Each is_comma false bytes → ⊥
 no-comma-in left right bytes same none =
     let both : Each is_comma false (left ++ comma ∷ right) = subst (Each is_comma false) same none in
     true≢false (back_of_both (λ b. is_comma b ≡ false) left (comma ∷ right) both).0
@@ -154,7 +154,8 @@ parts-here left right left' right' least most same none parts =
     let behind : right ≡ right' = let e : comma ∷ right ≡ comma ∷ right' = both.1 in cc in
     subst (λ l. AreParts l right least most) (sym both.0) (subst (λ r. AreParts left' r least most) (sym behind) parts)
 
-repeat-parts : (between left right : List ℕ) (least : ℕ) (most : Option ℕ) → between ≡ left ++ comma ∷ right → Each is_comma false left
+-- bounds are said by the parts round the first comma
+pub repeat-parts : (between left right : List ℕ) (least : ℕ) (most : Option ℕ) → between ≡ left ++ comma ∷ right → Each is_comma false left
     → IsRepeat between least most → AreParts left right least most
 repeat-parts between left right least most same none (inl is) = absurd (no-comma-in left right between same (padded-no-comma between least is.0))
 repeat-parts between left right least most same none (inr (left', right', same', parts)) =

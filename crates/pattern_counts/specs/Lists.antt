@@ -1,11 +1,6 @@
 -- How lists of ranks lie in memory: one behind the other, each up to its end.
-use Rattle.std.specs.Prelude.{ℕ, List, map, length}
-use Rattle.std.specs.List.{range_with_len, sum_by}
-use Rattle.mine_model.specs.Ancestry.{list_at}
-
--- the lists that end there
-abbrev pub lists_in : List ℕ → List ℕ → List (List ℕ)
-lists_in ends ranks = map (list_at ends ranks) (range_with_len 0 (length ends))
+use Rattle.std.specs.Prelude.{ℕ, List, length}
+use Rattle.std.specs.List.{sum_by}
 
 -- how many ranks they have in all
 unfoldable pub ranks_of : List (List ℕ) → ℕ

@@ -18,7 +18,8 @@ pub(crate) struct Lists {
 impl Model for Lists {
     ghost use Rattle.std.specs.Prelude.{length, vec_capacity};
     ghost use Rattle.mine_model.specs.Ancestry.{AreCut};
-    ghost use Rattle.pattern_counts.specs.Lists.{Shelf, lists_in};
+    ghost use Rattle.mine_model.specs.Lists.{lists_in};
+    ghost use Rattle.pattern_counts.specs.Lists.{Shelf};
 
     ghost Value = { Shelf };
 

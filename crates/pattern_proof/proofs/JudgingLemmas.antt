@@ -12,7 +12,7 @@ use Rattle.pattern_proof.specs.ProofLines.{Entry, is_path_line, Say, AreFileName
 use Rattle.pattern_proof.specs.Proofs.{IsEnough, IsGood}
 use Rattle.pattern_proof.specs.Judging.{IsGoodLine, EndUnproved, IsTextRefusal, IsLineRefusal, AreRefused, IsProofRefusal}
 use Rattle.pattern_proof.specs.Checking.{OfLast, Takes, TakesAll}
-use Rattle.pattern_proof.proofs.TextFaultLemmas.{text-unique, bad≢long}
+use Rattle.mine_model.proofs.TextFaultLemmas.{text-unique, bad≢long}
 use Rattle.pattern_proof.proofs.TextLemmas.{path-line}
 use Rattle.pattern_proof.proofs.SayLemmas.{snoc-unique, say-unique, say-append, say-one}
 use Rattle.pattern_proof.proofs.StepLemmas.{takes-goes, takes-good, takes-say, good-taken}

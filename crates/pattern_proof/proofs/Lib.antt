@@ -5,7 +5,6 @@ pub mod TextLemmas
 pub mod SayLemmas
 pub mod RiseLemmas
 pub mod StepLemmas
-pub mod TextFaultLemmas
 pub mod JudgingLemmas
 pub mod WrittenLemmas
 pub mod ProofLemmas
@@ -17,3 +16,9 @@ pub mod DecidedLemmas
 pub mod EdgeLemmas
 pub mod PieceLemmas
 pub mod JudgedLemmas
+pub mod FindingLemmas
+pub mod RoomLemmas
+pub mod ListingLemmas
+pub mod CitedLemmas
+pub mod EntryLemmas
+pub mod FieldLemmas

@@ -14,17 +14,13 @@ use Rattle.mine_model.specs.Numbered.{AreFrequent}
 use Rattle.mine_model.specs.Support.{Sequence, Counts}
 use Rattle.mine_model.specs.Text.{lines_of}
 use Rattle.mine_model.proofs.AliveLemmas.{Counts-part}
-use Rattle.mine_model.proofs.ListLemmas.{Contains-first, Contains-other, Contains-by, Contains-from, AllByRecursion-contained, AllByRecursion-weaker}
+use Rattle.mine_model.proofs.ListLemmas.{AllByRecursion-from, Contains-by, Contains-from, AllByRecursion-contained, AllByRecursion-weaker}
 use Rattle.mining_job.specs.Problems.{Problem, IsWhole, data_of}
 use Rattle.pattern_proof.proofs.RunLemmas.{path-states}
 use Rattle.pattern_proof.specs.ProofLines.{Cited, Entry, Say, AreFileNames}
 use Rattle.pattern_proof.specs.Proofs.{IsGoodPath, IsEnough, IsProved, IsFull, IsGood, IsProofOf, RiseByPlace, weight_of}
 use Rattle.pattern_proof.proofs.SoundLemmas.{HasPattern}
 use Rattle.pattern_proof.proofs.WrittenLemmas.{IsWritable, written-say}
-
-all-contained : {X : Type 0} (P : X → Type 0) (xs : List X) → ((x : X) → Contains xs x → P x) → AllByRecursion P xs
-all-contained P [] each = tt
-all-contained P (x ∷ xs) each = (each x (Contains-first x xs), all-contained P xs (λ y held. each y (Contains-other x xs y held)))
 
 -- what is counted weighs no more than all
 counts-most : (Has : List Item → Type 0) (sequences : List (Sequence Item)) (n : ℕ) → AllByRecursion (λ s. s.weight ≤ most_weight) sequences
@@ -96,8 +92,8 @@ module _ (problem : Problem) (whole : IsWhole problem) (names : List (List ℕ))
     proof-good rise = record {
       entries = proof.entries;
       said = subst (λ b. Say names (lines_of b) proof.entries) (sym proof.text)
-          (written-say names sound proof.entries (all-contained (IsWritable names) proof.entries (λ entry held. (of-entry entry held).1)));
+          (written-say names sound proof.entries (AllByRecursion-from (IsWritable names) proof.entries (λ entry held. (of-entry entry held).1)));
       rise = subst Rises (ap (map (named_row names)) (sym proof.same) ∙ map-map (named_row names) (λ (entry : Entry). entry.row) proof.entries) rise;
-      proved = all-contained (IsProved problem) proof.entries (λ entry held. (of-entry entry held).0);
+      proved = AllByRecursion-from (IsProved problem) proof.entries (λ entry held. (of-entry entry held).0);
       counted = ap length (sym proof.same) ∙ length-map proof.entries (λ (entry : Entry). entry.row);
     }

@@ -1,5 +1,5 @@
 -- Paths of the expression are those of its transducer.
-use Rattle.std.proofs.Common.{◌≡◌, ℕ, ◌-◌, ◌≤◌, Bool, true, false, Some, List, [], ◌∷◌, length, refl, sym, ap, ◌∙◌, subst, arith, Contains, ◌↔◌}
+use Rattle.std.proofs.Common.{◌≡◌, ℕ, ◌-◌, ◌≤◌, Bool, true, false, Some, List, [], ◌∷◌, length, refl, sym, ap, ◌∙◌, subst, arith, Contains, ◌↔◌, MatchBool}
 use Rattle.std.specs.List.{AllByRecursion, slice_get}
 use Rattle.std.specs.Option.{option_map}
 use Rattle.std.proofs.lemmas.Option.{slice_get-get_or, slice_get-map}
@@ -130,3 +130,22 @@ module _ (problem : Problem) (whole : IsWhole problem) where
         (λ yes. run-passes 0 states (items_of problem place) pattern (own.0 yes)),
         (λ passes. own.1 (passes-run 0 states (items_of problem place) pattern passes)),
       )
+
+  -- what is said of the parts of a problem is said of it
+  pub match-writes : (place : ℕ) (states : List ℕ) (pattern items : List Item) (links : List (Link Item)) (machine : Transducer) → links ≡ problem.hierarchy.links → machine ≡ problem.machine
+      → items ≡ items_of problem place → (answer : Bool)
+      → MatchBool answer (IsRun links machine 0 states items pattern) ((others : List ℕ) → IsRun links machine 0 others items pattern → ⊥)
+      → MatchBool answer (Writes problem place states pattern) ((others : List ℕ) → Writes problem place others pattern → ⊥)
+  match-writes place states pattern items links machine same_links same_machine same_items answer said = by answer said
+    where
+      by : (answer : Bool) → MatchBool answer (IsRun links machine 0 states items pattern) ((others : List ℕ) → IsRun links machine 0 others items pattern → ⊥)
+          → MatchBool answer (Writes problem place states pattern) ((others : List ℕ) → Writes problem place others pattern → ⊥)
+      by true run = run-passes 0 states (items_of problem place) pattern
+          (subst (λ l. IsRun problem.hierarchy.links problem.machine 0 states l pattern) same_items
+          (subst (λ m. IsRun problem.hierarchy.links m 0 states items pattern) same_machine (subst (λ l. IsRun l machine 0 states items pattern) same_links run)))
+      by false none = λ others passes.
+          let run = passes-run 0 others (items_of problem place) pattern passes in
+          none others
+          (subst (λ l. IsRun links machine 0 others l pattern) (sym same_items)
+          (subst (λ m. IsRun links m 0 others (items_of problem place) pattern) (sym same_machine)
+          (subst (λ l. IsRun l problem.machine 0 others (items_of problem place) pattern) (sym same_links) run)))

@@ -3,6 +3,7 @@ pub mod Runs
 pub mod ProofLines
 pub mod Proofs
 pub mod Judging
+pub mod Writings
 -- what the proofs keep
 pub mod Steps
 pub mod Pieces
@@ -10,3 +11,7 @@ pub mod Reading
 pub mod Checking
 pub mod Standing
 pub mod Taking
+pub mod Finding
+pub mod Rooms
+pub mod Listing
+pub mod Putting

@@ -6,26 +6,26 @@ use Rattle.mine_model.specs.declared.item.Item.{Item}
 use Rattle.mine_model.specs.Hierarchy.{Link}
 use Rattle.mine_model.specs.Numbered.{tree_of}
 use Rattle.mine_model.specs.Generation.{Matches, WritesAt}
-use Rattle.fst_compile.specs.Shape.{Shape, Entry, labels_of, unfold_tree}
+use Rattle.fst_compile.specs.Shape.{ShapeOf, EntryOf, labels_of, unfold_tree}
 use Rattle.fst_compile.specs.Positions.{CanBeEmpty, First, Last, Follows}
 use Rattle.mining_job.specs.Problems.{Problem, items_of}
 
 -- the item expression may come next: first of all, or behind another
-abbrev pub MayComeNext : Shape → ℕ → ℕ → Type 0
+abbrev pub MayComeNext : {A : Type 0} → ShapeOf A → ℕ → ℕ → Type 0
 MayComeNext shape at next = ((at ≡ 0) × First shape 1 next) ⊎ Follows shape 1 at next
 
 -- the path may end there
-abbrev pub MayEnd : Shape → ℕ → Type 0
+abbrev pub MayEnd : {A : Type 0} → ShapeOf A → ℕ → Type 0
 MayEnd shape at = ((at ≡ 0) × CanBeEmpty shape) ⊎ Last shape 1 at
 
 -- From there on these item expressions come, one for each item, and the path may end behind the last. They
 -- match the items and write the output.
-abbrev pub Passes : List (Link Item) → Shape → ℕ → List ℕ → List Item → List Item → Type 0
+abbrev pub Passes : {A : Type 0} → List (Link A) → ShapeOf A → ℕ → List ℕ → List A → List A → Type 0
 Passes links shape at [] [] output = MayEnd shape at × (output ≡ [])
 Passes links shape at [] (t ∷ items) output = ⊥
 Passes links shape at (next ∷ states) [] output = ⊥
-Passes links shape at (next ∷ states) (t ∷ items) output =
-    (entry : Entry) × (here : List Item) × (there : List Item)
+Passes {A} links shape at (next ∷ states) (t ∷ items) output =
+    (entry : EntryOf A) × (here : List A) × (there : List A)
     × MayComeNext shape at next × (slice_get (labels_of shape) (next - 1) ≡ Some entry)
     × Matches links entry.leaf t × WritesAt links entry.leaf entry.captured t here
     × (output ≡ here ++ there) × Passes links shape next states items there

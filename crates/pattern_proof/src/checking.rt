@@ -123,7 +123,7 @@ fn edge_to(edges: &[Edge], to: State) -> Option<Edge>
 }
 
 /// Whether the leaf matches t.
-fn matches(hierarchy: &Hierarchy, leaf: Leaf, t: Item) -> bool
+pub(crate) fn matches(hierarchy: &Hierarchy, leaf: Leaf, t: Item) -> bool
     requires { t.0 < hierarchy.now.items }
     ensures { IsTrue result ↔ Matches hierarchy.now.links (leaf_of leaf) t }
 {
@@ -140,7 +140,7 @@ fn matches(hierarchy: &Hierarchy, leaf: Leaf, t: Item) -> bool
 }
 
 /// Whether the leaf may write v at t.
-fn may_write(hierarchy: &Hierarchy, leaf: Leaf, t: Item, v: Item) -> bool
+pub(crate) fn may_write(hierarchy: &Hierarchy, leaf: Leaf, t: Item, v: Item) -> bool
     requires { t.0 < hierarchy.now.items }
     ensures { IsTrue result ↔ MayWrite hierarchy.now.links (leaf_of leaf) t v }
 {

@@ -1,14 +1,15 @@
 //! Laws over the definitions. Each is the contract of a function that does nothing.
 
-ghost use Rattle.std.specs.Prelude.{◌≡◌, ◌≢◌, ℕ, ◌≤◌, ◌⊎◌, List, [], map, length, Contains};
+ghost use Rattle.std.specs.Prelude.{◌≡◌, ◌≢◌, ℕ, ◌≤◌, ◌⊎◌, Bool, List, [], map, length, Contains};
 ghost use Rattle.std.specs.List.{AllByRecursion};
 ghost use Rattle.mine_model.specs.declared.row.Row.{Row};
 ghost use Rattle.mine_model.specs.Answer.{Rises};
 ghost use Rattle.mine_model.specs.Generation.{IsPatternOf};
 ghost use Rattle.mine_model.specs.Growth.{WeighAtLeast};
 ghost use Rattle.mine_model.specs.Limits.{most_sequences, most_weight, most_leaves};
-ghost use Rattle.mine_model.specs.Names.{HasName, named_row};
+ghost use Rattle.mine_model.specs.Names.{HasName, AreDistinct, named_row};
 ghost use Rattle.mine_model.specs.Numbered.{tree_of, AreFrequent};
+ghost use Rattle.mine_model.specs.Refusal.{names_of, items_of, sequences_of};
 ghost use Rattle.mine_model.specs.Support.{HasSupport};
 ghost use Rattle.mine_model.specs.Text.{lines_of, IsSoundLine};
 ghost use Rattle.mining_job.specs.Problems.{Problem, IsWhole, data_of};
@@ -65,4 +66,14 @@ pub fn an_unrefused_proof_is_good()
         → (lines : List (List ℕ)) → AllByRecursion IsSoundLine lines
         → ((fault : ProofFault) → AreRefused problem names lines fault → ⊥)
         → (rows : ℕ) × IsGood problem names lines rows }
+{}
+
+/// Names that differ, and each of which stands on a line of a hierarchy file or in a sequence file, are names
+/// of files.
+pub fn names_in_files_are_names_of_files()
+    ensures { (names : List (List ℕ)) → AreDistinct names
+        → (lines : List (List ℕ)) (weighted : Bool) (bytes : List ℕ)
+        → ((name : List ℕ) → Contains names name
+        → Contains (names_of lines) name ⊎ Contains (items_of (sequences_of weighted bytes)) name)
+        → AreFileNames names }
 {}

@@ -1,5 +1,5 @@
 -- Rows that are sorted and have patterns of their own rise.
-use Rattle.std.proofs.Common.{◌≡◌, ◌≢◌, ℕ, ◌-◌, ◌≤◌, ◌<◌, suc, false, List, [], ◌∷◌, ◌++◌, length, map, take, drop, get_or, refl, sym, ap, ◌∙◌, inl, inr, arith, All, AllPairs, true≢false, length-drop}
+use Rattle.std.proofs.Common.{◌≡◌, ◌≢◌, ℕ, ◌-◌, ◌<◌, suc, false, List, [], ◌∷◌, ◌++◌, length, map, take, drop, get_or, refl, sym, ap, ◌∙◌, inl, inr, arith, All, AllPairs, true≢false, length-drop}
 use Rattle.std.specs.List.{AllByRecursion}
 use Rattle.std.specs.List.Sorted.{IsPermutation, IsSortedBy}
 use Rattle.std.specs.Bool.{Decides}
@@ -19,6 +19,7 @@ use Rattle.mine_model.specs.declared.item.Item.{Item}
 use Rattle.mine_model.specs.declared.row.Row.{Row}
 use Rattle.mine_model.specs.Answer.{NamedRow, ComesBefore, Rises}
 use Rattle.mine_model.specs.Names.{name_of, HasName, AreDistinct, named_row}
+use Rattle.mine_model.proofs.AnswerLemmas.{both_equal}
 use Rattle.mine_model.proofs.ApartLemmas.{item_eq, item_eq-Decides, apart_by_permutation}
 use Rattle.pattern_writer.specs.Order.{names_cmp, row_cmp}
 
@@ -26,11 +27,6 @@ use Rattle.pattern_writer.specs.Order.{names_cmp, row_cmp}
 pub row_cmp_total : IsTotalOrder row_cmp
 row_cmp_total =
     then_total (back_total (on_total (λ (row : NamedRow). row.support) nat_cmp_total)) (on_total (λ (row : NamedRow). row.pattern) (lists_total nat_list_cmp_total))
-
-both_equal : (first second : Ordering) → ordering_then first second ≡ Equal → (first ≡ Equal) × (second ≡ Equal)
-both_equal Less second e = cc
-both_equal Equal second e = (refl, e)
-both_equal Greater second e = cc
 
 module _ (names : List (List ℕ)) where
   abbrev names_of : List Item → List (List ℕ)

@@ -1,3 +1,4 @@
+-- the words of the promise
+pub mod Written
 -- what the proofs keep
 pub mod Order
-pub mod Written

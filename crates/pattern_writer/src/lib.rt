@@ -8,4 +8,4 @@ mod writing;
 
 pub use ordering::order;
 pub use write_fault::WriteFault;
-pub use writing::write;
+pub use writing::{hand_over, put, put_line, write};

@@ -42,7 +42,9 @@ pub fn write<O: Sink>(
     hand_over(out, &room[..held])
 }
 
-fn put_line<O: Sink>(
+/// Puts the line of a row into the room, behind the `filled` bytes that it holds, and hands the room over
+/// when it is full. Answers how many bytes it holds then. Takes no memory.
+pub fn put_line<O: Sink>(
     out: &mut O,
     room: &mut [u8],
     filled: usize,
@@ -141,9 +143,9 @@ fn put_other<O: Sink>(
     put(out, room, behind_space, name)
 }
 
-// Copies the bytes into the room, behind what it holds, and hands the room over as often as more bytes are
-// left than it takes. Answers how many bytes it holds then.
-fn put<O: Sink>(
+/// Copies the bytes into the room, behind the `filled` bytes that it holds, and hands the room over as often
+/// as more bytes are left than it takes. Answers how many bytes it holds then. Takes no memory.
+pub fn put<O: Sink>(
     out: &mut O,
     room: &mut [u8],
     filled: usize,
@@ -174,7 +176,8 @@ fn put<O: Sink>(
     Ok(end)
 }
 
-fn hand_over<O: Sink>(out: &mut O, bytes: &[u8]) -> Result<(), WriteFault>
+/// Hands the bytes to the sink. Takes no memory.
+pub fn hand_over<O: Sink>(out: &mut O, bytes: &[u8]) -> Result<(), WriteFault>
     ensures written { OnOk result (IfSome (O.written out.old) (λ before.
         O.written out.new ≡ Some (before ++ bytes.now))) }
     ensures cut { OnErr result (IsCut (O.written out.old) (O.written out.new) bytes.now) }

@@ -11,9 +11,11 @@ use sequence_reader::SequenceFault::{
 use sequence_reader::{SequenceFault, read};
 use std::alloc::{AllocError, Global};
 use std::test::Fail;
+use std::thread::Threads;
 
 /// The sequences of a file with these bytes, or why there are none. The call with this number fails.
-fn sequences_of(
+fn sequences_of<R: Threads + Sync>(
+    rt: &R,
     alloc: Global,
     bytes: Vec<u8>,
     weighted: bool,
@@ -24,7 +26,7 @@ fn sequences_of(
     requires { 0 < cut }
 {
     let mut files = one_file(alloc, bytes, cut, &[fail])?;
-    Ok(read(alloc, &mut files, "f", weighted, names))
+    Ok(read(rt, 1, alloc, &mut files, "f", weighted, names))
 }
 
 #[test]
@@ -32,7 +34,7 @@ fn sequences_by_the_numbers_of_their_names(rt: HostRuntime) -> Result<(), Fail> 
     let mut names = Names::new(rt.alloc())?;
     names.intern(b"top")?;
     let bytes = Vec::from_slice(rt.alloc(), b"b a b\n\n3 top\r\nc")?;
-    let db = sequences_of(rt.alloc(), bytes, false, 2, 0, &mut names)??;
+    let db = sequences_of(&rt, rt.alloc(), bytes, false, 2, 0, &mut names)??;
     assert_eq!(rt; db.sequences(), 4);
     let items = [Item(1), Item(2), Item(1)];
     assert_eq!(rt; db.sequence(0), items.as_slice());
@@ -47,7 +49,7 @@ fn sequences_by_the_numbers_of_their_names(rt: HostRuntime) -> Result<(), Fail> 
 fn weights_are_no_names(rt: HostRuntime) -> Result<(), Fail> {
     let mut names = Names::new(rt.alloc())?;
     let bytes = Vec::from_slice(rt.alloc(), b"7\n002 a\n 1000000000 a 2\n")?;
-    let db = sequences_of(rt.alloc(), bytes, true, 3, 0, &mut names)??;
+    let db = sequences_of(&rt, rt.alloc(), bytes, true, 3, 0, &mut names)??;
     assert_eq!(rt; db.sequences(), 3);
     assert_eq!(rt; db.sequence(0), [].as_slice());
     assert_eq!(rt; db.weight(0), 7);
@@ -59,7 +61,8 @@ fn weights_are_no_names(rt: HostRuntime) -> Result<(), Fail> {
 }
 
 /// Why a file with these bytes is refused, or None.
-fn refusal(
+fn refusal<R: Threads + Sync>(
+    rt: &R,
     alloc: Global,
     bytes: Vec<u8>,
     weighted: bool,
@@ -69,7 +72,7 @@ fn refusal(
     requires { 0 < cut }
 {
     let mut names = Names::new(alloc)?;
-    Ok(sequences_of(alloc, bytes, weighted, cut, fail, &mut names)?.err())
+    Ok(sequences_of(rt, alloc, bytes, weighted, cut, fail, &mut names)?.err())
 }
 
 /// Lines, whether they have weights, and why they are refused.
@@ -103,7 +106,7 @@ fn bad_weights_and_bytes(rt: HostRuntime) -> Result<(), Fail> {
     for (text, weighted, fault) in REFUSED {
         let bytes = Vec::from_slice(rt.alloc(), text.as_bytes())?;
         assert_eq!(rt;
-            refusal(rt.alloc(), bytes, *weighted, 2, 0)?,
+            refusal(&rt, rt.alloc(), bytes, *weighted, 2, 0)?,
             *fault,
             "{text}"
         );
@@ -116,7 +119,7 @@ fn bad_weights_and_bytes(rt: HostRuntime) -> Result<(), Fail> {
 fn a_failed_read_is_told(rt: HostRuntime) -> Result<(), Fail> {
     for fail in 1..5u64 {
         let bytes = Vec::from_slice(rt.alloc(), b"a b\nc")?;
-        let fault = refusal(rt.alloc(), bytes, false, 9, fail)?;
+        let fault = refusal(&rt, rt.alloc(), bytes, false, 9, fail)?;
         let wanted = if fail < 4 {
             Some(SequenceFault::ReadFault)
         } else {
@@ -164,7 +167,7 @@ fn repeated(alloc: Global, front: &str, text: &str, times: usize) -> Result<Vec<
 fn the_most_sequences_items_and_bytes(rt: HostRuntime) -> Result<(), Fail> {
     for (front, text, times, weighted, fault) in LIMITS {
         let bytes = repeated(rt.alloc(), front, text, *times)?;
-        let found = refusal(rt.alloc(), bytes, *weighted, 65_536, 0)?;
+        let found = refusal(&rt, rt.alloc(), bytes, *weighted, 65_536, 0)?;
         assert_eq!(rt; found, *fault, "{times} times {text:?}");
     }
     Ok(())
@@ -185,9 +188,12 @@ fn many_names(alloc: Global, count: u32) -> Result<Vec<u8>, AllocError> {
 #[test]
 fn the_most_names(rt: HostRuntime) -> Result<(), Fail> {
     let bytes = many_names(rt.alloc(), 1_048_576)?;
-    assert_eq!(rt; refusal(rt.alloc(), bytes, false, 65_536, 0)?, None);
+    assert_eq!(rt; refusal(&rt, rt.alloc(), bytes, false, 65_536, 0)?, None);
     let bytes = many_names(rt.alloc(), 1_048_577)?;
     let fault = TooManyItems { line: 1_048_577 };
-    assert_eq!(rt; refusal(rt.alloc(), bytes, false, 65_536, 0)?, Some(fault));
+    assert_eq!(rt;
+        refusal(&rt, rt.alloc(), bytes, false, 65_536, 0)?,
+        Some(fault)
+    );
     Ok(())
 }

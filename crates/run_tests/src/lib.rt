@@ -10,6 +10,8 @@ mod limits;
 #[cfg(test)]
 mod outside_faults;
 #[cfg(test)]
+mod proofs;
+#[cfg(test)]
 mod refusals;
 #[cfg(test)]
 mod rows;

@@ -68,18 +68,21 @@ fn file(alloc: Global, name: &[u8], bytes: &[u8]) -> Result<MemFile, Fail> {
     })
 }
 
-/// The files `h` and `f`, of which this call fails.
-fn files_of(
-    alloc: Global,
-    hierarchy: &[u8],
-    sequences: &[u8],
-    fail: u64,
-    cut: usize,
-) -> Result<MemFiles, Fail>
+/// What the files `h`, `f` and `p` hold.
+#[derive(Clone, Copy)]
+pub(crate) struct Held<'a> {
+    pub(crate) hierarchy: &'a [u8],
+    pub(crate) sequences: &'a [u8],
+    pub(crate) proof: &'a [u8],
+}
+
+/// The files `h`, `f` and `p`, of which this call fails.
+fn files_of(alloc: Global, held: Held<'_>, fail: u64, cut: usize) -> Result<MemFiles, Fail>
     requires { 0 < cut }
 {
-    let above = file(alloc, b"h", hierarchy)?;
-    let files = vec![in alloc; above, file(alloc, b"f", sequences)?]?;
+    let above = file(alloc, b"h", held.hierarchy)?;
+    let mined = file(alloc, b"f", held.sequences)?;
+    let files = vec![in alloc; above, mined, file(alloc, b"p", held.proof)?]?;
     Ok(MemFiles::new(files, vec![in alloc; fail]?, cut))
 }
 
@@ -93,14 +96,13 @@ fn run_on<R: Threads + Wait + Sync, G: Gate>(
     rt: &R,
     alloc: Global,
     words: &str,
-    hierarchy: &[u8],
-    sequences: &[u8],
+    held: Held<'_>,
     faults: Faults,
     gate: &G,
 ) -> Result<Ran, Fail> {
     let cut = faults.cut.max(1);
     let words = words_of(alloc, words)?;
-    let mut files = files_of(alloc, hierarchy, sequences, faults.files, cut)?;
+    let mut files = files_of(alloc, held, faults.files, cut)?;
     let mut out = sink(alloc, 100_000, faults.out, cut)?;
     let mut err = sink(alloc, 200, faults.err, cut)?;
     let status = run(
@@ -128,7 +130,27 @@ pub(crate) fn leaves_through<R: Threads + Wait + Sync, G: Gate>(
     out: &[u8],
     err: &[u8],
 ) -> Result<bool, Fail> {
-    let ran = run_on(rt, alloc, words, hierarchy, sequences, faults, gate)?;
+    let held = Held {
+        hierarchy,
+        sequences,
+        proof: b"",
+    };
+    leaves_on(rt, alloc, words, held, faults, gate, status, out, err)
+}
+
+/// The same on these files.
+pub(crate) fn leaves_on<R: Threads + Wait + Sync, G: Gate>(
+    rt: &R,
+    alloc: Global,
+    words: &str,
+    held: Held<'_>,
+    faults: Faults,
+    gate: &G,
+    status: u8,
+    out: &[u8],
+    err: &[u8],
+) -> Result<bool, Fail> {
+    let ran = run_on(rt, alloc, words, held, faults, gate)?;
     Ok(ran.status == status && ran.out.bytes() == out && ran.err.bytes() == err)
 }
 

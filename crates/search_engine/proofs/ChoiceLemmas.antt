@@ -1,7 +1,8 @@
 -- Choices one by one.
 use Rattle.std.proofs.Common.{◌≡◌, ℕ, suc, ◌+◌, ◌-◌, ◌/◌, ◌^◌, ◌<◌, ◌≤◌, List, [], ◌∷◌, ◌++◌, refl, sym, ap, ap₂, ◌∙◌, arith}
 use Rattle.std.proofs.lemmas.List.{append_assoc, append-nil}
-use Rattle.search_engine.specs.Choices.{next_state, choices_from}
+use Rattle.mine_model.specs.Draws.{next_state}
+use Rattle.search_engine.specs.Choices.{choices_from}
 
 pub choices_from-none : (state : ℕ) → choices_from 0 state ≡ []
 unfolding choices_from

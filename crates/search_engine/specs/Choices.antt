@@ -1,9 +1,6 @@
--- The choices of a simulated run, by a linear congruential generator. Their number and its constants are own.
-use Rattle.std.specs.Prelude.{ℕ, zero, suc, ◌+◌, ◌*◌, ◌/◌, ◌%◌, ◌^◌, List, [], ◌∷◌}
-
--- the state of the generator behind this one
-abbrev pub next_state : ℕ → ℕ
-next_state state = (6364136223846793005 * state + 1442695040888963407) % 2 ^ 64
+-- The choices of a simulated run, by a linear congruential generator. Their number is this program's own.
+use Rattle.std.specs.Prelude.{ℕ, zero, suc, ◌/◌, ◌^◌, List, [], ◌∷◌}
+use Rattle.mine_model.specs.Draws.{next_state}
 
 -- so many choices from this state on: each is the upper 31 bits of the next state
 unfoldable pub choices_from : ℕ → ℕ → List ℕ

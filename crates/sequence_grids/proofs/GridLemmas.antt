@@ -15,6 +15,7 @@ use Rattle.sequence_grids.specs.declared.kinds.Kinds.{Kinds}
 use Rattle.sequence_grids.specs.declared.places.Place.{Place}
 use Rattle.mining_job.specs.Problems.{Problem, IsWhole, items_of}
 use Rattle.sequence_grids.specs.Grids.{Completes, GridList, items_at}
+use Rattle.sequence_grids.specs.Columns.{AreColumns}
 use Rattle.sequence_grids.specs.Tables.{TripleSets, TableValue, Grows, completing}
 use Rattle.sequence_grids.specs.Kinds.{IsTarget, HasKind, HasCell, AreKinds, KindsGrow, Extends}
 use Rattle.sequence_grids.specs.Places.{IsTripleOf, IsTableOf, IsPlaceAt, ArePlaces, AreGrids}
@@ -97,6 +98,9 @@ module _ (value : GridList) (problem : Problem) (bound : Bound) (table : TableVa
   pub states_are : length table.predecessors ≡ length value.problem.machine.labels + 1
   states_are = subst (λ (v : GridList). length table.predecessors ≡ length v.problem.machine.labels + 1) view are.table_is.states
 
+  pub columns_of : AreColumns value.problem.machine.labels kinds.columns.numbers.items kinds.columns.heads.items
+  columns_of = subst (λ (v : GridList). AreColumns v.problem.machine.labels kinds.columns.numbers.items kinds.columns.heads.items) view are.kinds_are.columns_are
+
 pub both_ways : {A B C : Type 0} → A ↔ B → B ↔ C → A ↔ C
 both_ways first second = ((λ a. second.0 (first.0 a)), (λ c. first.1 (second.1 c)))
 
@@ -107,12 +111,12 @@ completes_by problem bound rest triple is true q state = is.seen q state
 completes_by problem bound rest triple is false q state = is.unseen q state
 
 -- the outputs of a kind at a state
-pub HasCell-of : (problem : Problem) (bound : Bound) (table : TableValue) (kinds : Kinds) (t : Item) (number k : ℕ) → HasKind problem bound table.classes kinds t number → IsTarget problem k → HasCell kinds number k
-HasCell-of problem bound table kinds t number k (kind, found, is) target =
-    let cell = is.cells k target in
-    let room = is.room in
+pub HasCell-of : (problem : Problem) (bound : Bound) (table : TableValue) (kinds : Kinds) (t : Item) (number k : ℕ) → AreColumns problem.machine.labels kinds.columns.numbers.items kinds.columns.heads.items
+    → HasKind problem bound table.classes kinds t number → IsTarget problem k → HasCell kinds number k
+HasCell-of problem bound table kinds t number k columns (kind, found, is) target =
+    let all = columns.all in
     let high = target.1 in
-    (kind, found, omega arith, cell.forward, cell.within)
+    (kind, found, omega arith, (is.cells k target).inside)
 
 pub item_there : (items : List Item) (pos : ℕ) → pos < length items → (t : Item) × (slice_get items pos ≡ Some t)
 item_there items pos inside = let d : Item = record { 0 = 0 } in (get_or items pos d, slice_get-get_or items pos d inside)

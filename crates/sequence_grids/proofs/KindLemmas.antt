@@ -1,13 +1,16 @@
 -- What an item may do, found out state by state.
 use Rattle.std.proofs.Common.{◌≡◌, ◌≢◌, ℕ, zero, suc, ◌+◌, ◌-◌, ◌<◌, ◌≤◌, ◌⊎◌, ◌↔◌, inl, inr, Bool, true, false, not, rules, List, [], ◌∷◌, ◌++◌, map, take, length, get_or, arith, refl, sym, ap, ◌∙◌, subst, Some, append_assoc, set, get_or-set_same, get_or-set_other}
 use Rattle.std.specs.Bool.{IsTrue, ◌==◌}
-use Rattle.std.specs.List.{All, AllPairs, AllByRecursion, Contains, slice_get, slice_index, slice_range}
+use Rattle.std.specs.List.{All, AllPairs, AllByRecursion, Contains, slice_get, slice_index}
 use Rattle.std.proofs.Math.ListN.{length-set}
 use Rattle.std.proofs.Math.Seq.{get_or-append_seam}
 use Rattle.std.proofs.lemmas.List.{get_or_append_left, append-nil, length-append, length-take, get_or-take, get_or_default, take_more, take_all}
 use Rattle.std.proofs.lemmas.List.Elements.{All-from_recursion, Contains-get_or, Contains-append_cases, Contains-append_left, Contains-append_right}
-use Rattle.std.proofs.lemmas.Option.{slice_get_within, get_or_from_slice_get, slice_get-get_or, same_Some}
+use Rattle.std.proofs.lemmas.Option.{slice_get_within, get_or_from_slice_get, slice_get-get_or, slice_get_read, same_Some}
 use Rattle.std.proofs.lemmas.Bool.{cases_lt, cases_eq}
+use Rattle.std.proofs.lemmas.Bool.Decides.{Decides-eqb}
+use Rattle.std.specs.List.Sorted.{IsPermutation, IsNonDecreasingBy}
+use Rattle.std.proofs.lemmas.List.Sorted.{Contains-permutation, IsPermutation-sym}
 use Rattle.mine_model.specs.declared.item.Item.{Item}
 use Rattle.mine_model.specs.declared.expression.Leaf.{Leaf as ItemLeaf}
 use Rattle.mine_model.specs.Expression.{Tree, leaf, cat, alt, rep, cap, named_by, named_in, unfolded_times}
@@ -17,18 +20,22 @@ use Rattle.mine_model.specs.Ranks.{HasRank}
 use Rattle.mine_model.specs.Ancestry.{AreRising}
 use Rattle.mine_model.proofs.ListLemmas.{AllPairs-append, Contains-cases, Contains-first, Contains-none, Contains-by, front_of_both, back_of_both, slice_range-append}
 use Rattle.mine_model.proofs.AncestryLemmas.{Item-same, slice_range-behind}
-use Rattle.mine_model.proofs.ElementLemmas.{get-left}
+use Rattle.mine_model.proofs.ElementLemmas.{get-left, stands_last}
+use Rattle.mine_model.proofs.ApartLemmas.{apart_by_permutation}
 use Rattle.fst_compile.specs.declared.edge.Label.{Label}
 use Rattle.fst_compile.specs.Shape.{Entry, labels_of, unfold_tree}
 use Rattle.fst_compile.specs.Transducer.{entry_of}
 use Rattle.fst_compile.proofs.LabelLemmas.{copies_of, labels-repeated, copies_of-zero, copies_of-suc}
 use Rattle.mining_job.specs.declared.bound.Bound.{Bound}
+use Rattle.sequence_grids.specs.declared.columns.Columns.{Columns}
+use Rattle.sequence_grids.specs.declared.kinds.Act.{Act}
 use Rattle.sequence_grids.specs.declared.kinds.Kind.{Kind}
 use Rattle.sequence_grids.specs.declared.kinds.Kinds.{Kinds}
 use Rattle.mining_job.specs.Problems.{Problem, IsWhole}
+use Rattle.sequence_grids.specs.Columns.{AreColumns}
 use Rattle.sequence_grids.specs.Grids.{Reads, WritesRank}
 use Rattle.sequence_grids.specs.Tables.{ClassSets, IsClassOf, LeadsInto, unknown}
-use Rattle.sequence_grids.specs.Kinds.{IsNeededRank, Writes, Goes, Needs, IsTarget, IsClassFor, IsCell, IsRow, AreEntered, Extends, IsKind, HasKind, AreKinds, KindsGrow, AreRows, row_at}
+use Rattle.sequence_grids.specs.Kinds.{IsNeededRank, Writes, Goes, Needs, IsTarget, IsClassFor, IsCell, IsRow, AreActs, IsAct, AreEntered, Extends, IsKind, HasKind, AreKinds, KindsGrow, IsInside, row_at}
 
 -- ---- ranks
 
@@ -133,6 +140,27 @@ pub ArePushedSoFar-all : (order : List Item) (top : ℕ) (items : List Item) (fo
     → (rank : ℕ) → Contains found rank ↔ ((v : Item) × Contains items v × HasRank order v rank × (rank ≤ top))
 ArePushedSoFar-all order top items found index so_far over =
     subst (λ (xs : List Item). (rank : ℕ) → Contains found rank ↔ ((v : Item) × Contains xs v × HasRank order v rank × (rank ≤ top))) (take_all index items over) so_far.exact
+
+-- what is held of the elements of a list is held of those of another order
+pub held_by_sort : (before after : List ℕ) (P : ℕ → Type 0) → IsPermutation before after → ((n : ℕ) → Contains before n ↔ P n) → (n : ℕ) → Contains after n ↔ P n
+held_by_sort before after P moved are n = (
+  (λ held. (are n).0 (Contains-permutation after before n (IsPermutation-sym before after moved) held)),
+  (λ is. Contains-permutation before after n moved ((are n).1 is)),
+)
+
+-- different numbers that were sorted rise
+pub rising_by_sort : (before after : List ℕ) → AllPairs (λ one other. one ≢ other) before → IsPermutation before after → IsNonDecreasingBy (λ (n : ℕ). n) after
+    → AllPairs (λ low high. low < high) after
+rising_by_sort before after once moved sorted i j d less within =
+    let apart = apart_by_permutation Decides-eqb before after moved once in
+    elim (cases_eq (get_or after i d) (get_or after j d)) [
+      | inl same ↦ absurd (apart i j d less within same)
+      | inr other ↦ omega (arith, sorted i j d (omega arith) within)
+    ]
+
+-- rising numbers are different
+pub once_by_rising : (xs : List ℕ) → AllPairs (λ low high. low < high) xs → AllPairs (λ one other. one ≢ other) xs
+once_by_rising xs rising i j d less within same = let below = rising i j d less within in omega arith
 
 -- ---- conditions
 
@@ -246,54 +274,132 @@ module _ (problem : Problem) (bound : Bound) (t : Item) (k : ℕ) (read : ItemLe
         (are_found rank).1 (v, (are_written v).1 (matches, subst (MayWrite problem.hierarchy.links (leaf_of read) t) (sym one) may), has, low)),
   )
 
--- ---- a row of outputs, state by state
+-- ---- a row of outputs, column by column
 
 module _ (problem : Problem) (bound : Bound) (t : Item) (base : ℕ) where
-  -- a cell stays where more stands behind it
-  pub IsCell-grow : (ends more ranks others : List ℕ) (k : ℕ) → 1 ≤ k → base + k < length ends → IsCell problem bound t base ends ranks k
-      → IsCell problem bound t base (ends ++ more) (ranks ++ others) k
-  IsCell-grow ends more ranks others k some inside cell =
-      let end : get_or (ends ++ more) (base + k) 0 ≡ get_or ends (base + k) 0 = get_or_append_left ends more 0 (base + k) inside in
-      let start : get_or (ends ++ more) (base + k - 1) 0 ≡ get_or ends (base + k - 1) 0 = get_or_append_left ends more 0 (base + k - 1) (omega arith) in
-      let range : slice_range (ranks ++ others) (get_or ends (base + k - 1) 0) (get_or ends (base + k) 0) ≡ slice_range ranks (get_or ends (base + k - 1) 0) (get_or ends (base + k) 0) =
-      slice_range-append ranks others (get_or ends (base + k - 1) 0) (get_or ends (base + k) 0) cell.forward cell.within in
-      let within = cell.within in
-      record {
-        forward = rw (end, start) cell.forward;
-        within = rw end (omega (arith, length-append ranks others, within));
-        outputs = rw (end, start, range) cell.outputs;
-        once = rw (end, start, range) cell.once;
-      }
+  module _ (ends more ranks others : List ℕ) (column : ℕ) (inside : IsInside ends ranks base column) where
+    end_same : get_or (ends ++ more) (base + column + 1) 0 ≡ get_or ends (base + column + 1) 0
+    end_same = get_or_append_left ends more 0 (base + column + 1) inside.room
 
-  pub IsRow-none : (ends : List ℕ) (ranks : List ℕ) (end : ℕ) → base ≡ length ends → end ≡ length ranks → IsRow problem bound t base (ends ++ end ∷ []) ranks 1
-  IsRow-none ends ranks end here is = record {
-    some = omega arith;
-    long = omega (arith, length-append ends (end ∷ []));
-    last = let place : base + 1 - 1 ≡ length ends = omega arith in rw place (get_or-append_seam ends end [] 0 ∙ is);
-    cells = λ k some below. absurd (omega arith);
+    start_same : get_or (ends ++ more) (base + column) 0 ≡ get_or ends (base + column) 0
+    start_same = let room = inside.room in get_or_append_left ends more 0 (base + column) (omega arith)
+
+    -- the ranks of a column stay where more stands behind them
+    pub row_at-grow : row_at (ends ++ more) (ranks ++ others) base column ≡ row_at ends ranks base column
+    row_at-grow = rw (end_same, start_same) (slice_range-append ranks others (get_or ends (base + column) 0) (get_or ends (base + column + 1) 0) inside.forward inside.within)
+
+    pub IsInside-grow : IsInside (ends ++ more) (ranks ++ others) base column
+    IsInside-grow =
+        let room = inside.room in
+        let within = inside.within in
+        record {
+          room = omega (arith, length-append ends more);
+          forward = rw (end_same, start_same) inside.forward;
+          within = rw end_same (omega (arith, length-append ranks others));
+        }
+
+  pub IsCell-grow : (ends more ranks others : List ℕ) (column k : ℕ) → IsCell problem bound t base ends ranks column k
+      → IsCell problem bound t base (ends ++ more) (ranks ++ others) column k
+  IsCell-grow ends more ranks others column k cell = record {
+    inside = IsInside-grow ends more ranks others column cell.inside;
+    outputs = rw (row_at-grow ends more ranks others column cell.inside) cell.outputs;
+    rising = rw (row_at-grow ends more ranks others column cell.inside) cell.rising;
   }
 
-  pub IsRow-more : (ends ranks found : List ℕ) (end k : ℕ) → 1 ≤ k → IsRow problem bound t base ends ranks k → end ≡ length (ranks ++ found)
-      → ((rank : ℕ) → Contains found rank ↔ WritesRank problem bound t k rank) → AllPairs (λ one other. one ≢ other) found
-      → IsRow problem bound t base (ends ++ end ∷ []) (ranks ++ found) (k + 1)
-  IsRow-more ends ranks found end k some row is are once =
+  pub IsRow-none : (heads ends ranks : List ℕ) (end : ℕ) → base ≡ length ends → end ≡ length ranks → IsRow problem bound t heads base (ends ++ end ∷ []) ranks 0
+  IsRow-none heads ends ranks end here is = record {
+    long = omega (arith, length-append ends (end ∷ []));
+    last = let place : base + 0 ≡ length ends = omega arith in rw place (get_or-append_seam ends end [] 0 ∙ is);
+    cells = λ column below. absurd (omega arith);
+  }
+
+  pub IsRow-more : (heads ends ranks found : List ℕ) (end column k : ℕ) → slice_index heads column ≡ k → IsRow problem bound t heads base ends ranks column → end ≡ length (ranks ++ found)
+      → ((rank : ℕ) → Contains found rank ↔ WritesRank problem bound t k rank) → AllPairs (λ low high. low < high) found
+      → IsRow problem bound t heads base (ends ++ end ∷ []) (ranks ++ found) (column + 1)
+  IsRow-more heads ends ranks found end column k head row is are rising =
       let long = row.long in
-      let at_end : get_or (ends ++ end ∷ []) (base + k) 0 ≡ end = (let place : base + k ≡ length ends = omega arith in rw place (get_or-append_seam ends end [] 0)) in
-      let before : get_or (ends ++ end ∷ []) (base + k - 1) 0 ≡ length ranks = get_or_append_left ends (end ∷ []) 0 (base + k - 1) (omega arith) ∙ row.last in
+      let at_end : get_or (ends ++ end ∷ []) (base + column + 1) 0 ≡ end = (let place : base + column + 1 ≡ length ends = omega arith in rw place (get_or-append_seam ends end [] 0)) in
+      let before : get_or (ends ++ end ∷ []) (base + column) 0 ≡ length ranks = get_or_append_left ends (end ∷ []) 0 (base + column) (omega arith) ∙ row.last in
+      let this : row_at (ends ++ end ∷ []) (ranks ++ found) base column ≡ found =
+      rw (at_end, before, is) (slice_range-behind ranks found (length (ranks ++ found)) (length-append ranks found)) in
       record {
-        some = omega arith;
         long = omega (arith, length-append ends (end ∷ []));
-        last = let place : base + (k + 1) - 1 ≡ base + k = omega arith in rw place (at_end ∙ is);
-        cells = λ j least below. elim (cases_eq j k) [
-          | inl same ↦ rw same (record {
-            forward = omega (arith, at_end, before, is, length-append ranks found);
-            within = omega (arith, at_end, is);
-            outputs = rw (at_end, before, is, slice_range-behind ranks found (length (ranks ++ found)) (length-append ranks found)) are;
-            once = rw (at_end, before, is, slice_range-behind ranks found (length (ranks ++ found)) (length-append ranks found)) once;
+        last = let place : base + (column + 1) ≡ base + column + 1 = omega arith in rw place (at_end ∙ is);
+        cells = λ j below. elim (cases_eq j column) [
+          | inl same ↦ rw (same, head) (record {
+            inside = record {
+              room = omega (arith, length-append ends (end ∷ []));
+              forward = omega (arith, at_end, before, is, length-append ranks found);
+              within = omega (arith, at_end, is);
+            };
+            outputs = rw this are;
+            rising = rw this rising;
           })
-          | inr other ↦ IsCell-grow ends (end ∷ []) ranks found j least (omega arith) (row.cells j least (omega arith))
+          | inr other ↦ IsCell-grow ends (end ∷ []) ranks found j (slice_index heads j) (row.cells j (omega arith))
         ];
       }
+
+-- ---- what columns do
+
+pub AreActs-none : (problem : Problem) (bound : Bound) (t : Item) (heads : List ℕ) (acts : List Act) → acts ≡ [] → AreActs problem bound t heads acts 0
+AreActs-none problem bound t heads acts none = record {
+  long = ap length none;
+  are = λ column act found. let inside : column < length acts = slice_get_within acts column act found in let zero_long : length acts ≡ 0 = ap length none in absurd (omega arith);
+}
+
+pub AreActs-more : (problem : Problem) (bound : Bound) (t : Item) (heads : List ℕ) (acts : List Act) (column k : ℕ) (act : Act) → slice_index heads column ≡ k
+    → AreActs problem bound t heads acts column → IsAct problem bound t k act → AreActs problem bound t heads (acts ++ act ∷ []) (column + 1)
+AreActs-more problem bound t heads acts column k act head so_far is =
+    let long = so_far.long in
+    record {
+      long = omega (arith, length-append acts (act ∷ []));
+      are = λ j that found. elim (cases_eq j column) [
+        | inl same ↦
+            let there : slice_get (acts ++ act ∷ []) j ≡ Some act = stands_last acts act j (omega arith) in
+            let one : that ≡ act = same_Some that act (sym found ∙ there) in
+            rw (one, same, head) is
+        | inr other ↦
+            let inside : j < length (acts ++ act ∷ []) = slice_get_within (acts ++ act ∷ []) j that found in
+            let below : j < length acts = omega (arith, inside, length-append acts (act ∷ [])) in
+            let is_that : get_or (acts ++ act ∷ []) j that ≡ that = get_or_from_slice_get (acts ++ act ∷ []) j that that found in
+            so_far.are j that (slice_get_read acts (length acts) j that refl below (sym is_that ∙ get_or_append_left acts (act ∷ []) that j below))
+      ];
+    }
+
+-- states that carry the same label read and write the same
+pub Reads-alike : (problem : Problem) (t : Item) (one other : ℕ) (output : List Item) → slice_get problem.machine.labels (one - 1) ≡ slice_get problem.machine.labels (other - 1)
+    → Reads problem t one output → Reads problem t other output
+Reads-alike problem t one other output same (label, found, matches, writes) = (label, sym same ∙ found, matches, writes)
+
+module _ (problem : Problem) (bound : Bound) (t : Item) (one other : ℕ) (same : slice_get problem.machine.labels (one - 1) ≡ slice_get problem.machine.labels (other - 1)) where
+  pub Reads-both : (output : List Item) → Reads problem t one output ↔ Reads problem t other output
+  Reads-both output = (Reads-alike problem t one other output same, Reads-alike problem t other one output (sym same))
+
+  pub WritesRank-both : (rank : ℕ) → WritesRank problem bound t one rank ↔ WritesRank problem bound t other rank
+  WritesRank-both rank = (
+    (λ (v, has, low, reads). (v, has, low, (Reads-both (v ∷ [])).0 reads)),
+    (λ (v, has, low, reads). (v, has, low, (Reads-both (v ∷ [])).1 reads)),
+  )
+
+  pub IsAct-alike : (act : Act) → IsAct problem bound t one act → IsAct problem bound t other act
+  IsAct-alike act is = record {
+    silent = ((λ holds. (Reads-both []).0 (is.silent.0 holds)), (λ reads. is.silent.1 ((Reads-both []).1 reads)));
+    writes = (
+      (λ holds. let (rank, w) = is.writes.0 holds in (rank, (WritesRank-both rank).0 w)),
+      (λ (rank, w). is.writes.1 (rank, (WritesRank-both rank).1 w)),
+    );
+    needs = (
+      (λ holds. let (rank, w, need) = is.needs.0 holds in (rank, (WritesRank-both rank).0 w, need)),
+      (λ (rank, w, need). is.needs.1 (rank, (WritesRank-both rank).1 w, need)),
+    );
+  }
+
+  pub IsCell-alike : (base : ℕ) (ends ranks : List ℕ) (column : ℕ) → IsCell problem bound t base ends ranks column one → IsCell problem bound t base ends ranks column other
+  IsCell-alike base ends ranks column cell = record {
+    inside = cell.inside;
+    outputs = λ rank. ((λ held. (WritesRank-both rank).0 ((cell.outputs rank).0 held)), (λ writes. (cell.outputs rank).1 ((WritesRank-both rank).1 writes)));
+    rising = cell.rising;
+  }
 
 pub entered_more : (P : ℕ → Type 0) (before after : List ℕ) (k : ℕ) (holds : Bool) → 1 ≤ k → ((j : ℕ) → Contains before j ↔ ((1 ≤ j) × (j < k) × P j))
     → ((j : ℕ) → Contains after j ↔ (Contains before j ⊎ ((j ≡ k) × IsTrue holds))) → IsTrue holds ↔ P k
@@ -333,14 +439,15 @@ Extends-nothing xs = ([], sym (append-nil xs))
 pub Extends-twice : {X : Type 0} (xs ys zs : List X) → Extends xs ys → Extends ys zs → Extends xs zs
 Extends-twice xs ys zs (more, e) (others, f) = (more ++ others, (rw (f, e) (append_assoc xs more others)))
 
-pub IsKind-grow : (problem : Problem) (bound : Bound) (classes classes' : List ClassSets) (ends ends' ranks ranks' : List ℕ) (t : Item) (kind : Kind)
-    → IsKind problem bound classes ends ranks t kind → Extends classes classes' → Extends ends ends' → Extends ranks ranks' → IsKind problem bound classes' ends' ranks' t kind
-IsKind-grow problem bound classes classes' ends ends' ranks ranks' t kind is (more1, e1) (more2, e2) (more3, e3) =
+pub IsKind-grow : (problem : Problem) (bound : Bound) (classes classes' : List ClassSets) (columns : Columns) (ends ends' ranks ranks' : List ℕ) (t : Item) (kind : Kind)
+    → IsKind problem bound classes columns ends ranks t kind → Extends classes classes' → Extends ends ends' → Extends ranks ranks' → IsKind problem bound classes' columns ends' ranks' t kind
+IsKind-grow problem bound classes classes' columns ends ends' ranks ranks' t kind is (more1, e1) (more2, e2) (more3, e3) =
     let room = is.room in
     rw (e1, e2, e3) (record {
       class = let (c, found, right) = is.class in (c, get-left classes more1 kind.class c found, right);
       room = omega (arith, room, length-append ends more2);
-      cells = λ k target. IsCell-grow problem bound t kind.base ends more2 ranks more3 k target.0 (let high = target.1 in omega arith) (is.cells k target);
+      rows = λ column below. IsInside-grow problem bound t kind.base ends more2 ranks more3 column (is.rows column below);
+      cells = λ k target. IsCell-grow problem bound t kind.base ends more2 ranks more3 (slice_index columns.numbers.items k) k (is.cells k target);
     })
 
 pub HasKind-grow : (problem : Problem) (bound : Bound) (classes classes' : List ClassSets) (kinds kinds' : Kinds) (t : Item) (number : ℕ)
@@ -348,19 +455,21 @@ pub HasKind-grow : (problem : Problem) (bound : Bound) (classes classes' : List 
 HasKind-grow problem bound classes classes' kinds kinds' t number (kind, found, is) grown grow = (
   kind,
   (let (more, e) = grow.kinds in rw e (get-left kinds.kinds.items more number kind found)),
-  IsKind-grow problem bound classes classes' kinds.ends.items kinds'.ends.items kinds.ranks.items kinds'.ranks.items t kind is grown grow.ends grow.ranks,
+  (rw grow.columns (IsKind-grow problem bound classes classes' kinds.columns kinds.ends.items kinds'.ends.items kinds.ranks.items kinds'.ranks.items t kind is grown grow.ends grow.ranks)),
 )
 
 pub AreKinds-grow : (problem : Problem) (bound : Bound) (classes classes' : List ClassSets) (kinds kinds' : Kinds) → AreKinds problem bound classes kinds
     → Extends classes classes' → KindsGrow kinds kinds' → kinds'.numbers.items ≡ kinds.numbers.items → AreKinds problem bound classes' kinds'
 AreKinds-grow problem bound classes classes' kinds kinds' are grown grow same = record {
+  columns_are = rw grow.columns are.columns_are;
   all = ap length same ∙ are.all;
   right = rw same (λ t inside some. HasKind-grow problem bound classes classes' kinds kinds' t (slice_index kinds.numbers.items t.0) (are.right t inside some) grown grow);
 }
 
-pub AreKinds-none : (problem : Problem) (bound : Bound) (classes : List ClassSets) (kinds : Kinds) → length kinds.numbers.items ≡ problem.hierarchy.items
+pub AreKinds-none : (problem : Problem) (bound : Bound) (classes : List ClassSets) (kinds : Kinds)
+    → AreColumns problem.machine.labels kinds.columns.numbers.items kinds.columns.heads.items → length kinds.numbers.items ≡ problem.hierarchy.items
     → ((k : ℕ) → k < length kinds.numbers.items → slice_index kinds.numbers.items k ≡ unknown) → AreKinds problem bound classes kinds
-AreKinds-none problem bound classes kinds all none = record { all = all; right = λ t inside some. absurd (some (none t.0 inside)) }
+AreKinds-none problem bound classes kinds columns all none = record { columns_are = columns; all = all; right = λ t inside some. absurd (some (none t.0 inside)) }
 
 -- the class of an item whose states were found
 pub IsClassFor-of : (problem : Problem) (bound : Bound) (t : Item) (class : ClassSets) (silent writes needs : List ℕ) → IsClassOf class silent writes needs
@@ -390,13 +499,18 @@ LeadsInto-of problem bound t class k is target = (
 pub entered_below : (P : ℕ → Type 0) (list : List ℕ) (count states : ℕ) → ((k : ℕ) → Contains list k ↔ ((1 ≤ k) × (k < count) × P k)) → count ≡ states → All (λ k. k < states) list
 entered_below P list count states are same = All-from_contains list states (λ k held. let (_, below, _) = (are k).0 held in omega arith)
 
-pub IsKind-of : (problem : Problem) (bound : Bound) (classes : List ClassSets) (ends ranks : List ℕ) (t : Item) (kind : Kind) (base : ℕ) → kind.base ≡ base
-    → IsRow problem bound t base ends ranks (length problem.machine.labels + 1)
-    → (c : ClassSets) → slice_get classes kind.class ≡ Some c → IsClassFor problem bound t c → IsKind problem bound classes ends ranks t kind
-IsKind-of problem bound classes ends ranks t kind base same row c found right = record {
+pub IsKind-of : (problem : Problem) (bound : Bound) (classes : List ClassSets) (columns : Columns) (ends ranks : List ℕ) (t : Item) (kind : Kind) (base : ℕ) → kind.base ≡ base
+    → AreColumns problem.machine.labels columns.numbers.items columns.heads.items
+    → IsRow problem bound t columns.heads.items base ends ranks (length columns.heads.items)
+    → (c : ClassSets) → slice_get classes kind.class ≡ Some c → IsClassFor problem bound t c → IsKind problem bound classes columns ends ranks t kind
+IsKind-of problem bound classes columns ends ranks t kind base same are row c found right = record {
   class = (c, found, right);
   room = let long = row.long in omega arith;
-  cells = λ k target. rw same (row.cells k target.0 (let high = target.1 in omega arith));
+  rows = λ column below. rw same (row.cells column below).inside;
+  cells = λ k target.
+      let (below, alike) = are.numbers_are k target.0 target.1 in
+      let column : ℕ = slice_index columns.numbers.items k in
+      rw same (IsCell-alike problem bound t (slice_index columns.heads.items column) k alike base ends ranks column (row.cells column below));
 }
 
 -- the kind of one more item
@@ -404,6 +518,7 @@ pub AreKinds-more : (problem : Problem) (bound : Bound) (classes : List ClassSet
     → KindsGrow kinds kinds' → t.0 < length kinds.numbers.items → kinds'.numbers.items ≡ set kinds.numbers.items t.0 number → HasKind problem bound classes kinds' t number
     → AreKinds problem bound classes kinds'
 AreKinds-more problem bound classes kinds kinds' t number are grow inside is has = record {
+  columns_are = rw grow.columns are.columns_are;
   all = ap length is ∙ length-set kinds.numbers.items t.0 number ∙ are.all;
   right = rw is (λ u within some. elim (cases_eq u.0 t.0) [
     | inl same ↦
@@ -419,10 +534,11 @@ AreKinds-more problem bound classes kinds kinds' t number are grow inside is has
 }
 
 pub KindsGrow-nothing : (kinds : Kinds) → KindsGrow kinds kinds
-KindsGrow-nothing kinds = record { kinds = Extends-nothing kinds.kinds.items; ends = Extends-nothing kinds.ends.items; ranks = Extends-nothing kinds.ranks.items }
+KindsGrow-nothing kinds = record { columns = refl; kinds = Extends-nothing kinds.kinds.items; ends = Extends-nothing kinds.ends.items; ranks = Extends-nothing kinds.ranks.items }
 
 pub KindsGrow-twice : (a b c : Kinds) → KindsGrow a b → KindsGrow b c → KindsGrow a c
 KindsGrow-twice a b c first second = record {
+  columns = second.columns ∙ first.columns;
   kinds = Extends-twice a.kinds.items b.kinds.items c.kinds.items first.kinds second.kinds;
   ends = Extends-twice a.ends.items b.ends.items c.ends.items first.ends second.ends;
   ranks = Extends-twice a.ranks.items b.ranks.items c.ranks.items first.ranks second.ranks;
@@ -430,29 +546,22 @@ KindsGrow-twice a b c first second = record {
 
 -- ---- kinds that are alike
 
--- the rows of a kind may be read
-pub AreRows-of : (problem : Problem) (bound : Bound) (classes : List ClassSets) (ends ranks : List ℕ) (t : Item) (kind : Kind) (count : ℕ)
-    → count ≡ length problem.machine.labels + 1 → IsKind problem bound classes ends ranks t kind → AreRows ends ranks kind.base count
-AreRows-of problem bound classes ends ranks t kind count all is = record {
-  room = λ k some below. let room = is.room in omega arith;
-  forward = λ k some below. (is.cells k (some, omega arith)).forward;
-  within = λ k some below. (is.cells k (some, omega arith)).within;
-}
-
 -- a kind of the same class with the same outputs serves as well
-pub IsKind-alike : (problem : Problem) (bound : Bound) (classes : List ClassSets) (ends ranks : List ℕ) (t u : Item) (kind met : Kind) (count : ℕ)
-    → count ≡ length problem.machine.labels + 1 → IsKind problem bound classes ends ranks t kind → IsKind problem bound classes ends ranks u met → met.class ≡ kind.class
-    → ((k : ℕ) → 1 ≤ k → k < count → row_at ends ranks kind.base k ≡ row_at ends ranks met.base k) → IsKind problem bound classes ends ranks t met
-IsKind-alike problem bound classes ends ranks t u kind met count all is other class same = record {
+pub IsKind-alike : (problem : Problem) (bound : Bound) (classes : List ClassSets) (columns : Columns) (ends ranks : List ℕ) (t u : Item) (kind met : Kind)
+    → AreColumns problem.machine.labels columns.numbers.items columns.heads.items
+    → IsKind problem bound classes columns ends ranks t kind → IsKind problem bound classes columns ends ranks u met → met.class ≡ kind.class
+    → ((column : ℕ) → column < length columns.heads.items → row_at ends ranks kind.base column ≡ row_at ends ranks met.base column) → IsKind problem bound classes columns ends ranks t met
+IsKind-alike problem bound classes columns ends ranks t u kind met are is other class same = record {
   class = let (c, found, right) = is.class in (c, ap (slice_get classes) class ∙ found, right);
   room = other.room;
+  rows = other.rows;
   cells = λ k target.
-      let row : row_at ends ranks kind.base k ≡ row_at ends ranks met.base k = same k target.0 (let high = target.1 in omega arith) in
+      let column : ℕ = slice_index columns.numbers.items k in
+      let row : row_at ends ranks kind.base column ≡ row_at ends ranks met.base column = same column (are.numbers_are k target.0 target.1).0 in
       record {
-        forward = (other.cells k target).forward;
-        within = (other.cells k target).within;
+        inside = (other.cells k target).inside;
         outputs = λ rank. subst (λ (xs : List ℕ). Contains xs rank ↔ WritesRank problem bound t k rank) row ((is.cells k target).outputs rank);
-        once = subst (λ (xs : List ℕ). AllPairs (λ one other. one ≢ other) xs) row (is.cells k target).once;
+        rising = subst (λ (xs : List ℕ). AllPairs (λ low high. low < high) xs) row (is.cells k target).rising;
       };
 }
 

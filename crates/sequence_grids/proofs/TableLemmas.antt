@@ -1,28 +1,26 @@
 -- Tables that grow keep what they say.
 use Rattle.std.proofs.Common.{◌≡◌, ◌≢◌, ℕ, zero, suc, ◌+◌, ◌-◌, ◌*◌, ◌/◌, ◌%◌, ◌^◌, ◌<◌, ◌≤◌, ◌⊎◌, ◌↔◌, inl, inr, Bool, true, List, [], ◌∷◌, ◌++◌, map, length, get_or, arith, refl, sym, ap, ◌∙◌, Some, ◌&&◌, append_assoc}
 use Rattle.std.specs.Bool.{◌==◌}
-use Rattle.std.specs.List.{All, Contains, slice_get, slice_index, list_any}
-use Rattle.std.proofs.lemmas.List.{get_or_append_left, append-nil, length-append, length-map, map-append, get_or-append-add}
+use Rattle.std.specs.List.{All, Contains, slice_get, slice_index}
+use Rattle.std.proofs.lemmas.List.{get_or_append_left, append-nil, length-append, length-map, get_or-append-add}
 use Rattle.std.proofs.lemmas.List.Elements.{All-contains}
 use Rattle.std.proofs.lemmas.Option.{slice_get_within, get_or_from_slice_get, slice_get_read, slice_get-map}
-use Rattle.std.proofs.lemmas.Bool.{cases_Bool, cases_lt, and_parts, eqb-true}
+use Rattle.std.proofs.lemmas.Bool.{cases_lt, and_parts, eqb-true}
 use Rattle.indexmap.specs.IndexSet.{insert_key}
-use Rattle.mine_model.proofs.ListLemmas.{Contains-cases, Contains-none}
+use Rattle.mine_model.proofs.ListLemmas.{Contains-none}
 use Rattle.mine_model.proofs.ElementLemmas.{get-left}
+use Rattle.mine_model.specs.Lists.{AddsTo}
 use Rattle.std.specs.Int.{bit_at}
 use Rattle.std.proofs.lemmas.Nat.Bits.{bit_at_cat_low, bit_at_cat_high}
 use Rattle.state_bits.specs.Members.{Has, HasBit, words_of}
 use Rattle.state_bits.proofs.NeighbourLemmas.{Has-none}
 use Rattle.sequence_grids.specs.declared.table.Class.{Class}
 use Rattle.sequence_grids.specs.declared.table.Triple.{Triple}
-use Rattle.sequence_grids.specs.Tables.{ClassSets, TripleSets, TableValue, class_sets, triple_sets, IsClassOf, Grows, IsLast, IsStepAt, AreBelow, AddsTo, IsTable, row, unknown}
+use Rattle.sequence_grids.specs.Tables.{ClassSets, TripleSets, TableValue, class_sets, triple_sets, IsClassOf, Grows, IsLast, IsStepAt, AreBelow, IsTable, row, unknown}
 
 -- an element of a list where it is mapped
 pub slice_get-mapped : {X Y : Type 0} (f : X → Y) (xs : List X) (i : ℕ) (x : X) → i < length xs → x ≡ get_or xs i x → slice_get (map f xs) i ≡ Some (f x)
 slice_get-mapped f xs i x inside is = slice_get-map f xs i ∙ (rw (slice_get_read xs (length xs) i x refl inside is) refl)
-
-pub slice_get-mapped_by : {X Y : Type 0} (f : X → Y) (xs : List X) (i : ℕ) (x : X) → slice_get xs i ≡ Some x → slice_get (map f xs) i ≡ Some (f x)
-slice_get-mapped_by f xs i x found = slice_get-map f xs i ∙ (rw found refl)
 
 -- the same of a list that is shown
 pub map_at : {X Y : Type 0} (f : X → Y) (xs shown : List X) (i : ℕ) (x : X) → i < length (map f xs) → shown ≡ xs → x ≡ get_or shown i x → slice_get (map f xs) i ≡ Some (f x)
@@ -33,14 +31,6 @@ pub mapped_is : {X Y : Type 0} (f : X → Y) (xs shown : List X) (i : ℕ) (x : 
 mapped_is f xs shown i x y there same is =
     let inside : i < length (map f xs) = slice_get_within (map f xs) i y there in
     sym (get_or_from_slice_get (map f xs) i y (f x) there) ∙ get_or_from_slice_get (map f xs) i (f x) (f x) (map_at f xs shown i x inside same is)
-
--- what an insertion into a set adds
-pub inserted : {X Y : Type 0} (f : X → Y) (eq : X → X → Bool) (ks after : List X) (k : X) → after ≡ insert_key eq ks k
-    → AddsTo (map f ks) (f k) (map f after)
-inserted f eq ks after k are = elim (cases_Bool (list_any (eq k) ks)) [
-  | inl there ↦ ([], (rw (are, there) (sym (append-nil (map f ks)))), (λ y none. absurd (Contains-none y none)))
-  | inr new ↦ (f k ∷ [], (rw (are, new) (map-append f ks (k ∷ []))), (λ y last. elim (Contains-cases (f k) [] y last) [ inl same ↦ same | inr none ↦ absurd (Contains-none y none) ]))
-]
 
 -- ---- steps
 

@@ -6,5 +6,6 @@ pub mod Readings
 pub mod Tables
 pub mod Words
 pub mod Widths
+pub mod Columns
 pub mod Kinds
 pub mod Places

@@ -112,7 +112,3 @@ pub record IsClassOf (class : ClassSets) (silent writes needs : List ℕ) : Type
 abbrev pub completing : TripleSets → Bool → ℕ
 completing triple true = triple.seen
 completing triple false = triple.unseen
-
--- the list stays, or gains the element at its end
-abbrev pub AddsTo : {A : Type 0} → List A → A → List A → Type 0
-AddsTo {A} before x after = (more : List A) × (after ≡ before ++ more) × ((y : A) → Contains more y → y ≡ x)

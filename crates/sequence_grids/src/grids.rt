@@ -57,7 +57,7 @@ impl<'a> Grids<'a> {
             job,
             bound,
             tables: Tables::new(alloc, job.fst())?,
-            kinds: Kinds::new(alloc, job.hierarchy().items())?,
+            kinds: Kinds::new(alloc, job.fst(), job.hierarchy().items())?,
             scratch: Scratch::new(alloc),
             places: Vec::new(alloc),
             ends: Vec::new(alloc),
@@ -187,6 +187,7 @@ impl<'a> Grids<'a> {
             seen: words.seen,
             unseen: words.unseen,
             ending: words.ending,
+            columns: self.kinds.columns.numbers.as_slice(),
             ends: ends_from(self.kinds.ends.as_slice(), kind.base),
             ranks: self.kinds.ranks.as_slice(),
         }

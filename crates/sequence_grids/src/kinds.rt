@@ -1,17 +1,19 @@
 //! What items may do under a bound, found out when they are first met.
 
-ghost use Rattle.std.specs.Prelude.{◌≡◌, ◌≢◌, ℕ, ◌+◌, ◌≤◌, ◌<◌, ◌⊎◌, ◌↔◌, AllPairs, ◌-◌, [], drop, length, slice_index, slice_get, slice_range, Some, Contains, IfOk, IfSome, OnOk, IsTrue};
+ghost use Rattle.std.specs.Prelude.{◌≡◌, ◌≢◌, ℕ, ◌+◌, ◌≤◌, ◌<◌, ◌⊎◌, ◌↔◌, AllPairs, List, [], drop, length, slice_index, slice_get, Some, Contains, IfOk, IfSome, OnOk, IsTrue};
 ghost use Rattle.mine_model.specs.declared.item.Item.{Item};
 ghost use Rattle.mine_model.specs.Ancestry.{AreRising};
 ghost use Rattle.mine_model.specs.Ranks.{HasRank};
 ghost use Rattle.sequence_grids.specs.Grids.{Reads, WritesRank};
 ghost use Rattle.sequence_grids.specs.Tables.{Grows, unknown};
-ghost use Rattle.sequence_grids.specs.Kinds.{IsTarget, IsNeededRank, IsRow, AreEntered, Extends, HasKind, HasCell, AreKinds, KindsGrow, IsKind, AreRows, row_at};
+ghost use Rattle.sequence_grids.specs.Columns.{AreColumns, AreHeads};
+ghost use Rattle.sequence_grids.specs.Kinds.{IsTarget, IsNeededRank, IsRow, AreActs, AreEntered, Extends, HasKind, HasCell, AreKinds, KindsGrow, IsKind, AreRows, IsInside, row_at};
 ghost use Rattle.sequence_grids.specs.declared.kinds.Kind.{Kind};
 
+use super::columns::Columns;
 use super::number::{NONE, to_number};
 use super::tables::Tables;
-use fst_compile::{State, outputs};
+use fst_compile::{Fst, State, outputs};
 use mine_model::{Item, NoMemory, Ranks};
 use mining_job::{Bound, Job};
 use std::alloc::Global;
@@ -23,11 +25,12 @@ pub(crate) struct Kind {
     pub(crate) base: usize,
 }
 
-/// The kinds of the items met so far, and their outputs as ranks, state by state behind each other.
+/// The kinds of the items met so far, and their outputs as ranks, column by column behind each other.
 ///
-/// From the base of a kind on there is where its outputs begin, and then where those of each state end.
+/// From the base of a kind on there is where its outputs begin, and then where those of each column end.
 #[derive(Drop)]
 pub(crate) struct Kinds {
+    pub(crate) columns: Columns,
     // By the number of an item that of its kind, or `NONE`.
     pub(crate) numbers: Vec<u32>,
     pub(crate) kinds: Vec<Kind>,
@@ -37,10 +40,20 @@ pub(crate) struct Kinds {
     pub(crate) hints: Vec<u32>,
 }
 
-/// Room for what is found out of one item: the states that it leads into without an output, with one, and
-/// with one that is needed; the outputs at one state, and their ranks.
+/// What edges of one label do at an item: whether they read it and write nothing, may write something that is
+/// allowed, and may write what is needed.
+#[derive(Clone, Copy, Debug)]
+pub(crate) struct Act {
+    pub(crate) silent: bool,
+    pub(crate) writes: bool,
+    pub(crate) needs: bool,
+}
+
+/// Room for what is found out of one item: what each column does; the states that it leads into without an
+/// output, with one, and with one that is needed; the outputs at one column, and their ranks.
 #[derive(Drop)]
 pub(crate) struct Scratch {
+    acts: Vec<Act>,
     pub(crate) silent: Vec<u32>,
     pub(crate) writes: Vec<u32>,
     pub(crate) needs: Vec<u32>,
@@ -52,6 +65,7 @@ impl Scratch {
     /// Empty room.
     pub(crate) fn new(alloc: Global) -> Scratch {
         Scratch {
+            acts: Vec::new(alloc),
             silent: Vec::new(alloc),
             writes: Vec::new(alloc),
             needs: Vec::new(alloc),
@@ -62,12 +76,15 @@ impl Scratch {
 }
 
 impl Kinds {
-    /// No kinds yet of so many items.
-    pub(crate) fn new(alloc: Global, items: u32) -> Result<Kinds, NoMemory>
-        ensures { IfOk result (λ kinds. (length kinds.numbers.items ≡ items)
+    /// No kinds yet of so many items, at the states of a transducer.
+    pub(crate) fn new(alloc: Global, fst: &Fst, items: u32) -> Result<Kinds, NoMemory>
+        ensures columns { IfOk result (λ kinds. AreColumns fst.now.labels
+            kinds.columns.numbers.items kinds.columns.heads.items) }
+        ensures none { IfOk result (λ kinds. (length kinds.numbers.items ≡ items)
             × ((k : ℕ) → k < length kinds.numbers.items → slice_index kinds.numbers.items k ≡ unknown)) }
     {
         Ok(Kinds {
+            columns: Columns::new(alloc, fst)?,
             numbers: vec![in alloc; NONE; items as usize]?,
             kinds: Vec::new(alloc),
             ends: Vec::new(alloc),
@@ -79,15 +96,14 @@ impl Kinds {
 
 /// What the edges into state k may write at an item of the kind with this number, as ranks.
 pub(crate) fn outputs_of(kinds: &Kinds, number: u32, k: u32) -> &[u32]
-    requires state { 0 < k }
     requires cell { HasCell kinds.now number k }
     ensures { (kind : Kind) → slice_get kinds.now.kinds.items number ≡ Some kind
-        → result.now ≡ slice_range kinds.now.ranks.items
-        (slice_index kinds.now.ends.items (kind.base + k - 1))
-        (slice_index kinds.now.ends.items (kind.base + k)) }
+        → result.now ≡ row_at kinds.now.ends.items kinds.now.ranks.items kind.base
+        (slice_index kinds.now.columns.numbers.items k) }
 {
-    let end = kinds.kinds[number as usize].base + k as usize;
-    &kinds.ranks[kinds.ends[end - 1] as usize..kinds.ends[end] as usize]
+    let column = kinds.columns.numbers[k as usize] as usize;
+    let start = kinds.kinds[number as usize].base + column;
+    &kinds.ranks[kinds.ends[start] as usize..kinds.ends[start + 1] as usize]
 }
 
 /// The ends from where those of a kind begin.
@@ -122,7 +138,16 @@ pub(crate) fn kind_of(
     }
     let base = kinds.ends.len();
     let first = kinds.ranks.len();
-    push_outputs(job, bound, t, &mut kinds.ends, &mut kinds.ranks, scratch)?;
+    push_outputs(
+        job,
+        bound,
+        &kinds.columns,
+        t,
+        &mut kinds.ends,
+        &mut kinds.ranks,
+        scratch,
+    )?;
+    enter(job, bound, &kinds.columns, t, scratch)?;
     let class = tables.class_number(
         scratch.silent.as_slice(),
         scratch.writes.as_slice(),
@@ -173,10 +198,11 @@ fn alike(
     hint: usize,
 ) -> Option<u32>
     requires kinds { AreKinds job.now bound tables.now.classes kinds.now }
-    requires kind { IsKind job.now bound tables.now.classes
+    requires kind { IsKind job.now bound tables.now.classes kinds.now.columns
         kinds.now.ends.items kinds.now.ranks.items t kind }
     ensures { IfSome result (HasKind job.now bound tables.now.classes kinds.now t) }
 {
+    let _job = job;
     let _tables = tables;
     let _bound = bound;
     let _t = t;
@@ -188,7 +214,7 @@ fn alike(
     if number == NONE {
         return None;
     }
-    let states = job.fst().states();
+    let columns = kinds.columns.heads.len();
     let met = kinds.kinds[number as usize];
     if met.class == kind.class
         && same_outputs(
@@ -196,7 +222,7 @@ fn alike(
             kinds.ranks.as_slice(),
             met.base,
             kind.base,
-            states,
+            columns,
         )
     {
         Some(number)
@@ -205,61 +231,60 @@ fn alike(
     }
 }
 
-// Whether the outputs of the states below the count are the same from one base on and from another.
-fn same_outputs(ends: &[u32], ranks: &[u32], one: usize, other: usize, count: u32) -> bool
+// Whether the outputs of so many columns are the same from one base on and from another.
+fn same_outputs(ends: &[u32], ranks: &[u32], one: usize, other: usize, count: usize) -> bool
     requires one { AreRows ends.now ranks.now one count }
     requires other { AreRows ends.now ranks.now other count }
-    ensures { IsTrue result → (k : ℕ) → 1 ≤ k → k < count
-        → row_at ends.now ranks.now other k ≡ row_at ends.now ranks.now one k }
+    ensures { IsTrue result → (column : ℕ) → column < count
+        → row_at ends.now ranks.now other column ≡ row_at ends.now ranks.now one column }
 {
-    for k in 1..count {
-        if outputs_from(ends, ranks, one, k) != outputs_from(ends, ranks, other, k) {
+    for column in 0..count {
+        if outputs_from(ends, ranks, one, column) != outputs_from(ends, ranks, other, column) {
             return false;
         }
     }
     true
 }
 
-// The outputs of state k from a base on.
-fn outputs_from<'a>(ends: &[u32], ranks: &'a [u32], base: usize, k: u32) -> &'a [u32]
-    requires state { 1 ≤ k }
-    requires room { base + k < length ends.now }
-    requires forward { slice_index ends.now (base + k - 1) ≤ slice_index ends.now (base + k) }
-    requires within { slice_index ends.now (base + k) ≤ length ranks.now }
-    ensures { result.now ≡ row_at ends.now ranks.now base k }
+// The outputs of a column from a base on.
+fn outputs_from<'a>(ends: &[u32], ranks: &'a [u32], base: usize, column: usize) -> &'a [u32]
+    requires { IsInside ends.now ranks.now base column }
+    ensures { result.now ≡ row_at ends.now ranks.now base column }
 {
-    let end = base + k as usize;
-    &ranks[ends[end - 1] as usize..ends[end] as usize]
+    let start = base + column;
+    &ranks[ends[start] as usize..ends[start + 1] as usize]
 }
 
-// The outputs of an item at all states behind the others, and the states that it leads into.
+// The outputs of an item at all columns behind the others, and what each column does.
 fn push_outputs(
     job: &Job,
     bound: Bound,
+    columns: &Columns,
     t: Item,
     ends: &mut Vec<u32>,
     ranks: &mut Vec<u32>,
     scratch: &mut Scratch,
 ) -> Result<(), NoMemory>
-    requires { t.0 < job.now.hierarchy.items }
+    requires item { t.0 < job.now.hierarchy.items }
+    requires heads { AreHeads job.now.machine.labels columns.now.heads.items }
     ensures ends { Extends ends.old.items ends.new.items }
     ensures ranks { Extends ranks.old.items ranks.new.items }
-    ensures row { OnOk result (IsRow job.now bound t (length ends.old.items) ends.new.items ranks.new.items
-        (length job.now.machine.labels + 1)) }
-    ensures entered { OnOk result (AreEntered job.now bound t (length job.now.machine.labels + 1)
-        scratch.new.silent.items scratch.new.writes.items scratch.new.needs.items) }
+    ensures row { OnOk result (IsRow job.now bound t columns.now.heads.items
+        (length ends.old.items) ends.new.items ranks.new.items (length columns.now.heads.items)) }
+    ensures acts { OnOk result (AreActs job.now bound t columns.now.heads.items
+        scratch.new.acts.items (length columns.now.heads.items)) }
 {
-    scratch.silent.clear();
-    scratch.writes.clear();
-    scratch.needs.clear();
+    scratch.acts.clear();
     ends.push(to_number(ranks.len())?)?;
-    for k in 1..job.fst().states() {
-        push_at(job, bound, t, k, ends, ranks, scratch)?;
+    for column in 0..columns.heads.len() {
+        let head = columns.heads[column];
+        push_at(job, bound, t, head, ends, ranks, scratch)?;
     }
     Ok(())
 }
 
-// The same at one state, where it is done for those before it. The row begins where `base` says.
+// The same at one column, whose first state is k, where it is done for those before it. The row begins where
+// `base` says.
 fn push_at(
     job: &Job,
     bound: Bound,
@@ -273,22 +298,53 @@ fn push_at(
     requires state { IsTarget job.now k }
     ensures ends { Extends ends.old.items ends.new.items }
     ensures ranks { Extends ranks.old.items ranks.new.items }
-    ensures row { OnOk result ((base : ℕ) → IsRow job.now bound t base ends.old.items ranks.old.items k
-        → IsRow job.now bound t base ends.new.items ranks.new.items (k + 1)) }
-    ensures entered { OnOk result (AreEntered job.now bound t k
-        scratch.old.silent.items scratch.old.writes.items scratch.old.needs.items
-        → AreEntered job.now bound t (k + 1)
-        scratch.new.silent.items scratch.new.writes.items scratch.new.needs.items) }
+    ensures row { OnOk result ((heads : List ℕ) (base column : ℕ) → slice_index heads column ≡ k
+        → IsRow job.now bound t heads base ends.old.items ranks.old.items column
+        → IsRow job.now bound t heads base ends.new.items ranks.new.items (column + 1)) }
+    ensures acts { OnOk result ((heads : List ℕ) (column : ℕ) → slice_index heads column ≡ k
+        → AreActs job.now bound t heads scratch.old.acts.items column
+        → AreActs job.now bound t heads scratch.new.acts.items (column + 1)) }
 {
     let silent = read_at(job, bound, t, k, &mut scratch.written, &mut scratch.found)?;
     let found = scratch.found.as_slice();
-    let any = is_needed(None, found);
-    let needed = is_needed(bound.need, found);
-    push_if(&mut scratch.silent, k, silent)?;
-    push_if(&mut scratch.writes, k, any)?;
-    push_if(&mut scratch.needs, k, needed)?;
+    let writes = is_needed(None, found);
+    let needs = is_needed(bound.need, found);
+    scratch.acts.push(Act {
+        silent,
+        writes,
+        needs,
+    })?;
     ranks.extend_from_slice(found)?;
     ends.push(to_number(ranks.len())?)?;
+    Ok(())
+}
+
+// The states that an item leads into, by what their columns do.
+fn enter(
+    job: &Job,
+    bound: Bound,
+    columns: &Columns,
+    t: Item,
+    scratch: &mut Scratch,
+) -> Result<(), NoMemory>
+    requires columns { AreColumns job.now.machine.labels columns.now.numbers.items columns.now.heads.items }
+    requires acts { AreActs job.now bound t columns.now.heads.items
+        scratch.old.acts.items (length columns.now.heads.items) }
+    ensures { OnOk result (AreEntered job.now bound t (length job.now.machine.labels + 1)
+        scratch.new.silent.items scratch.new.writes.items scratch.new.needs.items) }
+{
+    let _bound = bound;
+    let _t = t;
+    scratch.silent.clear();
+    scratch.writes.clear();
+    scratch.needs.clear();
+    for k in 1..job.fst().states() {
+        let column = columns.numbers[k as usize];
+        let act = scratch.acts[column as usize];
+        push_if(&mut scratch.silent, k, act.silent)?;
+        push_if(&mut scratch.writes, k, act.writes)?;
+        push_if(&mut scratch.needs, k, act.needs)?;
+    }
     Ok(())
 }
 
@@ -306,7 +362,7 @@ fn read_at(
     ensures silent { IfOk result (λ silent. IsTrue silent ↔ Reads job.now t k []) }
     ensures found { OnOk result ((rank : ℕ) → Contains found.new.items rank
         ↔ WritesRank job.now bound t k rank) }
-    ensures once { OnOk result (AllPairs (λ one other. one ≢ other) found.new.items) }
+    ensures rising { OnOk result (AllPairs (λ low high. low < high) found.new.items) }
 {
     found.clear();
     let leaf = job.fst().leaf(State(k));
@@ -315,6 +371,7 @@ fn read_at(
         return Ok(matches);
     }
     push_ranks(job.ranks(), written.as_slice(), bound.top, found)?;
+    found.sort_unstable();
     Ok(false)
 }
 

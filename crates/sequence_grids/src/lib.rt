@@ -2,6 +2,7 @@
 //! there.
 #![tactic(auto)]
 
+mod columns;
 mod grid;
 mod grids;
 mod kinds;

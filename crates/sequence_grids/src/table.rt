@@ -1,10 +1,11 @@
 //! What may come of the places of sequences, as sets of states that are numbered when they are first met.
 
 ghost use Rattle.std.specs.Prelude.{◌≡◌, ◌≢◌, ℕ, ◌+◌, ◌*◌, ◌≤◌, ◌<◌, ◌⊎◌, ◌↔◌, [], ◌∷◌, map, length, slice_index, slice_get, Some, All, IfOk, OnOk, IfSome, IsTrue};
+ghost use Rattle.mine_model.specs.Lists.{AddsTo};
 ghost use Rattle.state_bits.specs.Members.{Has, HasBit};
 ghost use Rattle.fst_compile.specs.Rows.{IsSetOf, Adds};
 ghost use Rattle.fst_compile.specs.Transducer.{Leads};
-ghost use Rattle.sequence_grids.specs.Tables.{ClassSets, TripleSets, class_sets, triple_sets, LeadTo, Precedes, IsStep, Grows, IsStepAt, IsLast, IsClassOf, AreSteps, AreBelow, completing, AddsTo};
+ghost use Rattle.sequence_grids.specs.Tables.{ClassSets, TripleSets, class_sets, triple_sets, LeadTo, Precedes, IsStep, Grows, IsStepAt, IsLast, IsClassOf, AreSteps, AreBelow, completing};
 ghost use Rattle.sequence_grids.specs.Words.{AreClassWords, AreTripleWords};
 
 use super::number::{NONE, to_number};

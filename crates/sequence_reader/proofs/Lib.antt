@@ -1,1 +1,4 @@
 pub mod TakingLemmas
+mod JoiningLemmas
+mod CuttingLemmas
+mod PieceLemmas

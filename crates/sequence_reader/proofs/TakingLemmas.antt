@@ -1,7 +1,8 @@
 -- Lemmas on the lines that were read, and on the first refusal.
-use Rattle.std.proofs.Common.{◌≡◌, ◌≢◌, ℕ, ◌+◌, ◌≤◌, ◌<◌, inl, inr, Bool, List, [], ◌∷◌, ◌++◌, map, length, refl, sym, ap, ◌∙◌, subst, arith, append_assoc}
-use Rattle.std.specs.List.{AllByRecursion}
-use Rattle.std.proofs.lemmas.List.{append-nil, map-append, length-map}
+use Rattle.std.proofs.Common.{◌≡◌, ◌≢◌, ℕ, ◌+◌, ◌≤◌, ◌<◌, inl, inr, Bool, List, [], ◌∷◌, ◌++◌, map, length, refl, sym, ap, ◌∙◌, subst, arith, append_assoc, length-append}
+use Rattle.std.specs.List.{AllByRecursion, Contains}
+use Rattle.std.proofs.lemmas.List.{append-nil, map-append, length-map, length_push}
+use Rattle.std.proofs.lemmas.List.Elements.{Contains-append_left, Contains-append_right, Contains-append_cases}
 use Rattle.std.proofs.lemmas.List.Concat.{flat_map-append}
 use Rattle.mine_model.specs.declared.item.Item.{Item}
 use Rattle.mine_model.specs.declared.fault.Fault.{Fault}
@@ -11,7 +12,7 @@ use Rattle.sequence_reader.specs.declared.sequence_fault.SequenceFault.{Sequence
 use Rattle.sequence_reader.specs.declared.sequence_fault.SequenceFault.TheVariants.{ReadFault, TooLarge, BadByte, NameTooLong, TooManySequences, BadWeight, TooLong, TooManyItems, NoMemory}
 use Rattle.sequence_reader.specs.Faults.{fault_of_sequences}
 use Rattle.mine_model.specs.First.{FirstAmong}
-use Rattle.mine_model.specs.Limits.{most_file_bytes, most_items}
+use Rattle.mine_model.specs.Limits.{most_file_bytes, most_sequences, most_items}
 use Rattle.mine_model.specs.Text.{lines_of, fields_of, placed_fields_of, bad_byte, long_name, IsSoundLine}
 use Rattle.mine_model.specs.Support.{Sequence}
 use Rattle.mine_model.specs.Names.{name_of, HasName, sequence_by, GrowBy}
@@ -22,12 +23,14 @@ use Rattle.mine_model.proofs.NameLemmas.{GrowBy-none, GrowBy-more, no_more_names
 use Rattle.item_names.proofs.Growing.{HasMoreNames-grown}
 use Rattle.text_ports.specs.Lines.{WasGiven, TookAll, StoppedAt, Refused}
 use Rattle.sequence_reader.specs.declared.reading.Reading.{Reading}
-use Rattle.sequence_reader.specs.Taking.{said_to, TookLine, IsLineFault, RefusedLine, IsTaken}
+use Rattle.sequence_reader.specs.Taking.{said_to, IsGoodLine, TookLine, IsLineFault, RefusedLine, IsTaken}
 use Rattle.item_names.proofs.FieldLemmas.{map-name_of-grown, AllNamed-grown}
 
 pub IsTaken-start : (reading : Reading) → length reading.names ≤ most_items → reading.db ≡ [] → IsTaken reading.names reading.weighted [] reading
 IsTaken-start reading room empty = record {
   same = refl;
+  good = tt;
+  few = omega arith;
   grown = GrowBy-none reading.names;
   room = room;
   named = subst (AllByRecursion (λ (sequence : Sequence Item). AllByRecursion (HasName reading.names) sequence.items)) (sym empty) tt;
@@ -35,7 +38,7 @@ IsTaken-start reading room empty = record {
 }
 
 -- sequences keep their names while names grow
-sequences-grown : (old names new : List (List ℕ)) (sequences : List (Sequence Item)) → GrowBy old names new → AllByRecursion (λ sequence. AllByRecursion (HasName old) sequence.items) sequences
+pub sequences-grown : (old names new : List (List ℕ)) (sequences : List (Sequence Item)) → GrowBy old names new → AllByRecursion (λ sequence. AllByRecursion (HasName old) sequence.items) sequences
     → map (sequence_by (name_of new)) sequences ≡ map (sequence_by (name_of old)) sequences
 sequences-grown old names new [] grown named = refl
 sequences-grown old names new (sequence ∷ sequences) grown named =
@@ -44,18 +47,51 @@ sequences-grown old names new (sequence ∷ sequences) grown named =
     let others = sequences-grown old names new sequences grown named.1 in
     cc (first, others)
 
-named-grown : (old names new : List (List ℕ)) (sequences : List (Sequence Item)) → GrowBy old names new → AllByRecursion (λ sequence. AllByRecursion (HasName old) sequence.items) sequences
+pub named-grown : (old names new : List (List ℕ)) (sequences : List (Sequence Item)) → GrowBy old names new → AllByRecursion (λ sequence. AllByRecursion (HasName old) sequence.items) sequences
     → AllByRecursion (λ sequence. AllByRecursion (HasName new) sequence.items) sequences
 named-grown old names new [] grown named = tt
 named-grown old names new (sequence ∷ sequences) grown named = (AllNamed-grown old names new sequence.items grown named.0, named-grown old names new sequences grown named.1)
 
+-- the items of lines and of lines behind them
+pub items_of-append : (weighted : Bool) (lines behind : List (List ℕ))
+    → items_of (sequences_of_lines weighted (lines ++ behind)) ≡ items_of (sequences_of_lines weighted lines) ++ items_of (sequences_of_lines weighted behind)
+items_of-append weighted lines behind =
+    ap items_of (map-append (λ line. sequence_of weighted (fields_of line)) lines behind)
+    ∙ flat_map-append (λ (sequence : Sequence (List ℕ)). sequence.items) (sequences_of_lines weighted lines) (sequences_of_lines weighted behind)
+
 -- the items of one line more
 items_of-more : (weighted : Bool) (lines : List (List ℕ)) (text : List ℕ)
     → items_of (sequences_of_lines weighted (lines ++ text ∷ [])) ≡ items_of (sequences_of_lines weighted lines) ++ (sequence_of weighted (fields_of text)).items
-items_of-more weighted lines text =
-    ap items_of (map-append (λ line. sequence_of weighted (fields_of line)) lines (text ∷ []))
-    ∙ flat_map-append (λ (sequence : Sequence (List ℕ)). sequence.items) (sequences_of_lines weighted lines) (sequence_of weighted (fields_of text) ∷ [])
-    ∙ ap (λ w. items_of (sequences_of_lines weighted lines) ++ w) (append-nil (sequence_of weighted (fields_of text)).items)
+items_of-more weighted lines text = items_of-append weighted lines (text ∷ []) ∙ ap (λ w. items_of (sequences_of_lines weighted lines) ++ w) (append-nil (sequence_of weighted (fields_of text)).items)
+
+-- Good lines that are few enough, with names that are few enough: none of them is refused.
+module _ (known : List (List ℕ)) (weighted : Bool) (all new : List (List ℕ)) (few : length all ≤ most_sequences) (grown : GrowBy known (items_of (sequences_of_lines weighted all)) new)
+    (room : length new ≤ most_items)
+  where
+    among : (earlier later : List (List ℕ)) (text : List ℕ) → earlier ++ text ∷ later ≡ all
+        → (name : List ℕ) → Contains (known ++ items_of (sequences_of_lines weighted (earlier ++ text ∷ []))) name → Contains (known ++ items_of (sequences_of_lines weighted all)) name
+    among earlier later text is name held = elim (Contains-append_cases known _ name held) [
+      | inl before ↦ Contains-append_left known _ name before
+      | inr met ↦ Contains-append_right known _ name (subst (λ (w : List (List ℕ)). Contains (items_of (sequences_of_lines weighted w)) name) (append_assoc earlier (text ∷ []) later ∙ is)
+          (subst (λ (w : List (List ℕ)). Contains w name) (sym (items_of-append weighted (earlier ++ text ∷ []) later)) (Contains-append_left _ (items_of (sequences_of_lines weighted later)) name met)))
+    ]
+
+    good_here : (earlier later : List (List ℕ)) (text : List ℕ) → earlier ++ text ∷ later ≡ all → IsGoodLine weighted text
+        → (other : Fault) → IsSequenceLineRefusal weighted known earlier text other → ⊥
+    good_here earlier later text is good other (inl textual) = no_text_fault Sequences _ text other good.sound textual
+    good_here earlier later text is good other (inr (no_text, inl many)) =
+        let count = ap length is in let size = length-append earlier (text ∷ later) in let over = many.0 in omega (arith, count, size, few, over)
+    good_here earlier later text is good other (inr (no_text, inr (not_many, inl weight))) = good.weighed weight.0 weight.1
+    good_here earlier later text is good other (inr (no_text, inr (not_many, inr (weighed, inl long)))) = let short = good.short in let over = long.0 in omega (arith, short, over)
+    good_here earlier later text is good other (inr (no_text, inr (not_many, inr (weighed, inr (short, more))))) =
+        let (some, apart, inside, many) = more.0 in
+        no_more_names most_items known _ new grown room (some, apart, (λ k d lt. among earlier later text is _ (inside k d lt)), many)
+
+    pub good_not_refused : (earlier texts : List (List ℕ)) → earlier ++ texts ≡ all → AllByRecursion (IsGoodLine weighted) texts
+        → (other : Fault) → FirstAmong (IsSequenceLineRefusal weighted known) earlier texts other → ⊥
+    good_not_refused earlier [] is good other refusal = refusal
+    good_not_refused earlier (text ∷ texts) is good other (inl here) = good_here earlier texts text is good.0 other here
+    good_not_refused earlier (text ∷ texts) is good other (inr later) = good_not_refused (earlier ++ text ∷ []) texts (append_assoc earlier (text ∷ []) texts ∙ is) good.1 other later.1
 
 module _ (known : List (List ℕ)) (weighted : Bool) where
   -- what a line says is said under the weights of the file
@@ -69,9 +105,22 @@ module _ (known : List (List ℕ)) (weighted : Bool) where
       subst (λ (s : Sequence (List ℕ)). GrowBy v.names s.items w.names) (said_in lines v text taken) took.grown in
       subst (λ items. GrowBy known items w.names) (sym (items_of-more weighted lines text)) (GrowBy-more known _ v.names _ w.names taken.grown step)
 
+  -- as many sequences as lines
+  pub counted : (lines : List (List ℕ)) (v : Reading) → IsTaken known weighted lines v → length v.db ≡ length lines
+  counted lines v taken = sym (length-map v.db (sequence_by (name_of v.names))) ∙ ap length taken.said ∙ length-map lines (λ line. sequence_of weighted (fields_of line))
+
+  good_line : (lines : List (List ℕ)) (v w : Reading) (n : ℕ) (text : List ℕ) → IsTaken known weighted lines v → TookLine v n text w → IsGoodLine weighted text
+  good_line lines v w n text taken took = record {
+    sound = took.sound;
+    weighed = λ column bad. took.weighed column (subst (λ b. IsBadWeight b (placed_fields_of text) column) (sym taken.same) bad);
+    short = subst (λ (s : Sequence (List ℕ)). length s.items ≤ 65535) (said_in lines v text taken) took.short;
+  }
+
   pub IsTaken-more : (lines : List (List ℕ)) (v w : Reading) (n : ℕ) (text : List ℕ) → IsTaken known weighted lines v → TookLine v n text w → IsTaken known weighted (lines ++ text ∷ []) w
   IsTaken-more lines v w n text taken took = record {
     same = took.same ∙ taken.same;
+    good = of_both (IsGoodLine weighted) lines (text ∷ []) taken.good (good_line lines v w n text taken took, tt);
+    few = let count = counted lines v taken in let few = took.few in let more = length_push lines text in omega (arith, count, few, more);
     grown = grown_more lines v w n text taken took;
     room = took.room;
     named = subst (AllByRecursion (λ (sequence : Sequence Item). AllByRecursion (HasName w.names) sequence.items)) (sym took.pushed)
@@ -83,23 +132,12 @@ module _ (known : List (List ℕ)) (weighted : Bool) where
         ∙ sym (map-append (λ line. sequence_of weighted (fields_of line)) lines (text ∷ []));
   }
 
-  -- as many sequences as lines
-  pub counted : (lines : List (List ℕ)) (v : Reading) → IsTaken known weighted lines v → length v.db ≡ length lines
-  counted lines v taken = sym (length-map v.db (sequence_by (name_of v.names))) ∙ ap length taken.said ∙ length-map lines (λ line. sequence_of weighted (fields_of line))
-
   -- a line that was taken is not refused
   accepted : (lines : List (List ℕ)) (v w : Reading) (n : ℕ) (text : List ℕ) → IsTaken known weighted lines v → TookLine v n text w
       → (other : Fault) → IsSequenceLineRefusal weighted known lines text other → ⊥
-  accepted lines v w n text taken took other (inl textual) = no_text_fault Sequences _ text other took.sound textual
-  accepted lines v w n text taken took other (inr (no_text, inl many)) =
-      let count = counted lines v taken in let few = took.few in let over = many.0 in omega (arith, count, few, over)
-  accepted lines v w n text taken took other (inr (no_text, inr (not_many, inl weight))) =
-      took.weighed weight.0 (subst (λ b. IsBadWeight b (placed_fields_of text) weight.0) (sym taken.same) weight.1)
-  accepted lines v w n text taken took other (inr (no_text, inr (not_many, inr (good, inl long)))) =
-      let short : length (sequence_of weighted (fields_of text)).items ≤ 65535 = subst (λ (s : Sequence (List ℕ)). length s.items ≤ 65535) (said_in lines v text taken) took.short in
-      let over = long.0 in omega (arith, short, over)
-  accepted lines v w n text taken took other (inr (no_text, inr (not_many, inr (good, inr (short, more))))) =
-      no_more_names most_items known _ w.names (grown_more lines v w n text taken took) took.room more.0
+  accepted lines v w n text taken took other refusal =
+      let more = IsTaken-more lines v w n text taken took in
+      good_here known weighted (lines ++ text ∷ []) w.names more.few more.grown more.room lines [] text refl (good_line lines v w n text taken took) other refusal
 
   -- Lines that were taken, one after another
 
@@ -110,12 +148,8 @@ module _ (known : List (List ℕ)) (weighted : Bool) where
       (IsTaken-all (lines ++ text ∷ []) texts (n + 1) between w (IsTaken-more lines v between n text taken took) given)
 
   -- none of them is refused
-  pub none_refused : (lines texts : List (List ℕ)) (n : ℕ) (v w : Reading) → IsTaken known weighted lines v → WasGiven TookLine n texts v w
-      → (other : Fault) → FirstAmong (IsSequenceLineRefusal weighted known) lines texts other → ⊥
-  none_refused lines [] n v w taken given other refusal = refusal
-  none_refused lines (text ∷ texts) n v w taken (between, took, given) other (inl here) = accepted lines v between n text taken took other here
-  none_refused lines (text ∷ texts) n v w taken (between, took, given) other (inr later) =
-      none_refused (lines ++ text ∷ []) texts (n + 1) between w (IsTaken-more lines v between n text taken took) given other later.1
+  pub none_refused : (lines : List (List ℕ)) (v : Reading) → IsTaken known weighted lines v → (other : Fault) → FirstAmong (IsSequenceLineRefusal weighted known) [] lines other → ⊥
+  none_refused lines v taken = good_not_refused known weighted lines v.names taken.few taken.grown taken.room [] lines refl taken.good
 
   -- the first refusal behind them is the first of all
   pub first_behind : (lines texts later : List (List ℕ)) (n : ℕ) (v w : Reading) → IsTaken known weighted lines v → WasGiven TookLine n texts v w
@@ -180,7 +214,7 @@ module _ (known : List (List ℕ)) (weighted : Bool) where
       )
   line_refused lines v text NoMemory taken sound why apart = absurd (apart refl)
 
--- The whole file
+-- All lines
 
 module _ (reading after : Reading) (room : length reading.names ≤ most_items) (empty : reading.db ≡ []) where
   start : IsTaken reading.names reading.weighted [] reading
@@ -189,39 +223,28 @@ module _ (reading after : Reading) (room : length reading.names ≤ most_items) 
   pub whole_taken : (lines : List (List ℕ)) → TookAll TookLine lines reading after → IsTaken reading.names reading.weighted lines after
   whole_taken lines took = IsTaken-all reading.names reading.weighted [] lines 1 reading after start took.given
 
-  pub whole_accepted : (bytes : List ℕ) → length bytes ≤ most_file_bytes → TookAll TookLine (lines_of bytes) reading after
-      → (other : Fault) → IsSequencesRefusal reading.weighted reading.names bytes other → ⊥
-  whole_accepted bytes few took other (inl large) = let over = large.0 in omega (arith, few, over)
-  whole_accepted bytes few took other (inr later) = none_refused reading.names reading.weighted [] (lines_of bytes) 1 reading after start took.given other later.1
-
   -- the first line that is refused
-  pub whole_refused : (bytes : List ℕ) (earlier later : List (List ℕ)) (text : List ℕ) (between : Reading) (other : Fault) → length bytes ≤ most_file_bytes
-      → lines_of bytes ≡ earlier ++ text ∷ later → TookAll TookLine earlier reading between
+  whole_refused : (lines earlier later : List (List ℕ)) (text : List ℕ) (between : Reading) (other : Fault) → lines ≡ earlier ++ text ∷ later → TookAll TookLine earlier reading between
       → IsSequenceLineRefusal reading.weighted reading.names earlier text other
-      → IsSequencesRefusal reading.weighted reading.names bytes other
-  whole_refused bytes earlier later text between other few cut took refusal =
-      inr (
-        (λ o large. let over = large.0 in omega (arith, few, over)),
-        subst (λ l. FirstAmong (IsSequenceLineRefusal reading.weighted reading.names) [] l other) (sym cut)
-            (first_behind reading.names reading.weighted [] earlier (text ∷ later) 1 reading between start took.given other (inl refusal)),
-      )
+      → FirstAmong (IsSequenceLineRefusal reading.weighted reading.names) [] lines other
+  whole_refused lines earlier later text between other cut took refusal =
+      subst (λ l. FirstAmong (IsSequenceLineRefusal reading.weighted reading.names) [] l other) (sym cut)
+      (first_behind reading.names reading.weighted [] earlier (text ∷ later) 1 reading between start took.given other (inl refusal))
 
-  pub stopped_bad : (bytes : List ℕ) (line column : ℕ) → length bytes ≤ most_file_bytes → StoppedAt TookLine (lines_of bytes) reading after bad_byte line column
-      → IsSequencesRefusal reading.weighted reading.names bytes (fault.BadByte Sequences line column)
-  stopped_bad bytes line column few stop =
-      whole_refused bytes stop.earlier stop.later stop.text after _ few stop.cut stop.taken
-      (inl (column, inl (stop.stands, ap (λ n. fault.BadByte Sequences n column) stop.number)))
+  pub stopped_bad : (lines : List (List ℕ)) (line column : ℕ) → StoppedAt TookLine lines reading after bad_byte line column
+      → FirstAmong (IsSequenceLineRefusal reading.weighted reading.names) [] lines (fault.BadByte Sequences line column)
+  stopped_bad lines line column stop =
+      whole_refused lines stop.earlier stop.later stop.text after _ stop.cut stop.taken (inl (column, inl (stop.stands, ap (λ n. fault.BadByte Sequences n column) stop.number)))
 
-  pub stopped_long : (bytes : List ℕ) (line column : ℕ) → length bytes ≤ most_file_bytes → StoppedAt TookLine (lines_of bytes) reading after long_name line column
-      → IsSequencesRefusal reading.weighted reading.names bytes (fault.NameTooLong Sequences line column)
-  stopped_long bytes line column few stop =
-      whole_refused bytes stop.earlier stop.later stop.text after _ few stop.cut stop.taken
-      (inl (column, inr (stop.stands, ap (λ n. fault.NameTooLong Sequences n column) stop.number)))
+  pub stopped_long : (lines : List (List ℕ)) (line column : ℕ) → StoppedAt TookLine lines reading after long_name line column
+      → FirstAmong (IsSequenceLineRefusal reading.weighted reading.names) [] lines (fault.NameTooLong Sequences line column)
+  stopped_long lines line column stop =
+      whole_refused lines stop.earlier stop.later stop.text after _ stop.cut stop.taken (inl (column, inr (stop.stands, ap (λ n. fault.NameTooLong Sequences n column) stop.number)))
 
-  pub refused_line : (bytes : List ℕ) (why : SequenceFault) → length bytes ≤ most_file_bytes → Refused TookLine RefusedLine (lines_of bytes) reading after why → why ≢ NoMemory
-      → IsSequencesRefusal reading.weighted reading.names bytes (fault_of_sequences why)
-  refused_line bytes why few refusal apart =
-      whole_refused bytes refusal.earlier refusal.later refusal.text refusal.between _ few refusal.cut refusal.taken
+  pub refused_line : (lines : List (List ℕ)) (why : SequenceFault) → Refused TookLine RefusedLine lines reading after why → why ≢ NoMemory
+      → FirstAmong (IsSequenceLineRefusal reading.weighted reading.names) [] lines (fault_of_sequences why)
+  refused_line lines why refusal apart =
+      whole_refused lines refusal.earlier refusal.later refusal.text refusal.between _ refusal.cut refusal.taken
       (line_refused reading.names reading.weighted refusal.earlier refusal.between refusal.text why
       (IsTaken-all reading.names reading.weighted [] refusal.earlier 1 reading refusal.between start refusal.taken.given) refusal.sound refusal.answer.why apart)
 
@@ -235,3 +258,9 @@ module _ (reading after : Reading) (room : length reading.names ≤ most_items) 
         taken.grown.added ++ refusal.answer.added,
         refusal.answer.kept ∙ ap (λ w. w ++ refusal.answer.added) taken.grown.behind ∙ append_assoc reading.names taken.grown.added refusal.answer.added,
       )
+
+-- bytes of a file, whose lines were all taken, are not refused
+pub file_not_refused : (known : List (List ℕ)) (weighted : Bool) (bytes : List ℕ) (reading : Reading) → length bytes ≤ most_file_bytes → IsTaken known weighted (lines_of bytes) reading
+    → (other : Fault) → IsSequencesRefusal weighted known bytes other → ⊥
+file_not_refused known weighted bytes reading few taken other (inl large) = let over = large.0 in omega (arith, few, over)
+file_not_refused known weighted bytes reading few taken other (inr later) = none_refused known weighted (lines_of bytes) reading taken other later.1

@@ -1,7 +1,7 @@
 -- The fault of a run that a refusal of its sequences is.
 use Rattle.mine_model.specs.declared.fault.Fault.{Fault}
-use Rattle.mine_model.specs.declared.fault.Fault.TheVariants.{BadToken, BadRepeat, Unexpected, Unknown, BadByte, BadWeight, Cycle, ExprTooLong, RepeatLimit, TooDeep, TooManyLeaves, TooLarge, NameTooLong, TooManyItems, TooManyAncestors, TooManySequences, SequenceTooLong, Read, NoMemory}
-use Rattle.mine_model.specs.declared.fault.Which.TheVariants.{Hierarchy, Sequences}
+use Rattle.mine_model.specs.declared.fault.Fault.TheVariants.{BadByte, BadWeight, TooLarge, NameTooLong, TooManyItems, TooManySequences, SequenceTooLong, Read, NoMemory}
+use Rattle.mine_model.specs.declared.fault.Which.TheVariants.{Sequences}
 use Rattle.sequence_reader.specs.declared.sequence_fault.SequenceFault.{SequenceFault}
 use Rattle.sequence_reader.specs.declared.sequence_fault.SequenceFault.TheVariants as sequences
 

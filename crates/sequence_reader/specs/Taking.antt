@@ -1,6 +1,6 @@
 -- How a line becomes a sequence, and why it is refused.
 use Rattle.std.specs.Prelude.{◌≡◌, ℕ, ◌≤◌, ◌<◌, Bool, List, [], ◌∷◌, ◌++◌, map, length}
-use Rattle.std.specs.List.{AllByRecursion}
+use Rattle.std.specs.List.{AllByRecursion, slice_index_or}
 use Rattle.mine_model.specs.declared.item.Item.{Item}
 use Rattle.sequence_reader.specs.declared.sequence_fault.SequenceFault.{SequenceFault}
 use Rattle.sequence_reader.specs.declared.sequence_fault.SequenceFault.TheVariants.{ReadFault, TooLarge, BadByte, NameTooLong, TooManySequences, BadWeight, TooLong, TooManyItems, NoMemory}
@@ -60,11 +60,23 @@ pub record RefusedLine (before : Reading) (number : ℕ) (text : List ℕ) (faul
   pub added : List (List ℕ)
   pub kept : after.names ≡ before.names ++ added
 
+-- nothing is wrong with the line alone
+pub record IsGoodLine (weighted : Bool) (text : List ℕ) : Type 0 where
+  pub sound : IsSoundLine text
+  pub weighed : (column : ℕ) → IsBadWeight weighted (placed_fields_of text) column → ⊥
+  pub short : length (sequence_of weighted (fields_of text)).items ≤ most_length
+
 -- the sequences of these lines were read, where the names were known before
 pub record IsTaken (known : List (List ℕ)) (weighted : Bool) (lines : List (List ℕ)) (reading : Reading)
     : Type 0 where
   pub same : reading.weighted ≡ weighted
+  pub good : AllByRecursion (IsGoodLine weighted) lines
+  pub few : length lines ≤ most_sequences
   pub grown : GrowBy known (items_of (sequences_of_lines weighted lines)) reading.names
   pub room : length reading.names ≤ most_items
   pub named : AllByRecursion (λ sequence. AllByRecursion (HasName reading.names) sequence.items) reading.db
   pub said : map (sequence_by (name_of reading.names)) reading.db ≡ sequences_of_lines weighted lines
+
+-- the item that has the number of this one
+abbrev pub renumbered : List Item → Item → Item
+renumbered numbers item = slice_index_or numbers item.0 (record { 0 = 0 })

@@ -1,6 +1,9 @@
 //! Reads a sequence file.
 #![tactic(auto)]
 
+mod cutting;
+mod joining;
+mod pieces;
 mod reading;
 mod sequence_fault;
 mod weighing;

@@ -1,36 +1,43 @@
-ghost use Rattle.std.specs.Prelude.{◌≡◌, ◌≢◌, ℕ, ◌≤◌, List, [], ◌++◌, map, Err, length, IsTrue, IfOk, OnOk, IfSome};
+ghost use Rattle.std.specs.Prelude.{◌≡◌, ◌≢◌, ℕ, ◌≤◌, List, [], ◌++◌, map, take, Err, length, IsTrue, IfOk, OnOk, OnErr, IfSome};
 ghost use Rattle.std.specs.List.{AllByRecursion};
 ghost use Rattle.mine_model.specs.declared.fault.Fault.{Fault};
-ghost use Rattle.mine_model.specs.Limits.{most_items};
+ghost use Rattle.mine_model.specs.First.{FirstAmong};
+ghost use Rattle.mine_model.specs.Limits.{most_file_bytes, most_items};
 ghost use Rattle.sequence_reader.specs.Faults.{fault_of_sequences};
 ghost use Rattle.mine_model.specs.Names.{name_of, HasName, sequence_by, GrowBy};
-ghost use Rattle.mine_model.specs.Refusal.{sequences_of, items_of, IsSequencesRefusal};
-ghost use Rattle.mine_model.specs.Text.{lines_of};
+ghost use Rattle.mine_model.specs.Refusal.{sequences_of, items_of, IsSequenceLineRefusal, IsSequencesRefusal};
 ghost use Rattle.text_ports.specs.Faults.{Rose};
-ghost use Rattle.text_ports.specs.Lines.{OfBytes};
+ghost use Rattle.text_ports.specs.Scanning.{lines_behind};
 ghost use Rattle.sequence_reader.specs.Taking.{TookLine, RefusedLine, IsTaken};
 
+use super::pieces::read_in_pieces;
 use super::sequence_fault::SequenceFault;
 use super::weighing::weigh;
 use item_names::{MOST_NAMES, Names, NamesFault};
-use mine_model::{Db, Item};
+use mine_model::{Db, Item, NoMemory};
 use std::alloc::Global;
 use std::mem;
-use text_ports::{Files, LineVisitor, Span, TextFault, read_lines};
+use std::thread::Threads;
+use text_ports::{
+    Files, LineVisitor, ReadFault, Span, TextFault, read_file, visit_lines, without_mark,
+};
 
 /// The most sequences of a file.
-const MOST_SEQUENCES: u32 = 4_194_304;
+pub(crate) const MOST_SEQUENCES: u32 = 4_194_304;
 
 /// The most items of a sequence.
 const MOST_LENGTH: usize = 65_535;
 
+/// Bytes below these are not worth pieces.
+const LEAST_BYTES: usize = 1_048_576;
+
 /// What was read so far. `items` is where the items of a line are collected.
 #[derive(Debug, Drop)]
-struct Reading {
-    weighted: bool,
-    names: Names,
-    items: Vec<Item>,
-    db: Db,
+pub(crate) struct Reading {
+    pub(crate) weighted: bool,
+    pub(crate) names: Names,
+    pub(crate) items: Vec<Item>,
+    pub(crate) db: Db,
 }
 
 impl LineVisitor for Reading {
@@ -61,8 +68,11 @@ impl LineVisitor for Reading {
 
 /// The sequences of a file, by the numbers of their names. Where lines have weights, the first field of each
 /// is its weight. A new name gets the next number. After a refusal the names that were met so far are held as
-/// well.
-pub fn read<F: Files>(
+/// well. Several workers read a large file in as many pieces, each in a thread of its own where one can be
+/// had.
+pub fn read<R: Threads + Sync, F: Files>(
+    rt: &R,
+    workers: u32,
     alloc: Global,
     files: &mut F,
     name: &str,
@@ -90,6 +100,12 @@ pub fn read<F: Files>(
     ensures same_files { F.holds files.new ≡ F.holds files.old }
     ensures never_falls { F.faults files.old ≤ F.faults files.new }
 {
+    let bytes = match read_file(alloc, files, name) {
+        Ok(bytes) => bytes,
+        Err(ReadFault::Failed) => return Err(SequenceFault::ReadFault),
+        Err(ReadFault::TooLarge) => return Err(SequenceFault::TooLarge),
+        Err(ReadFault::NoMemory) => return Err(SequenceFault::NoMemory),
+    };
     prove!(names.count() <= MOST_NAMES);
     let no_names = Names::new(alloc)?;
     let mut reading = Reading {
@@ -98,7 +114,13 @@ pub fn read<F: Files>(
         items: Vec::new(alloc),
         db: Db::new(alloc),
     };
-    let outcome = read_all(alloc, files, name, &mut reading);
+    let outcome = read_bytes(
+        rt,
+        workers,
+        alloc,
+        without_mark(bytes.as_slice()),
+        &mut reading,
+    );
     *names = reading.names;
     match outcome {
         Ok(()) => Ok(reading.db),
@@ -106,31 +128,70 @@ pub fn read<F: Files>(
     }
 }
 
-/// Reads the whole file into what was read so far, which has no sequence yet.
-fn read_all<F: Files>(
+/// Reads bytes into what was read so far, which has no sequence yet: in pieces where that pays and all of
+/// them are accepted, and else in order.
+fn read_bytes<R: Threads + Sync>(
+    rt: &R,
+    workers: u32,
     alloc: Global,
-    files: &mut F,
-    name: &str,
+    bytes: &[u8],
     reading: &mut Reading,
 ) -> Result<(), SequenceFault>
-    requires may { IsTrue (F.may files.old name.now) }
+    requires few { length bytes.now ≤ most_file_bytes }
     requires room { length reading.old.names ≤ most_items }
     requires empty { reading.old.db ≡ [] }
-    ensures taken { OnOk result (OfBytes (F.holds files.old name.now) (λ bytes.
-        IsTaken reading.old.names reading.old.weighted (lines_of bytes) reading.new)) }
-    ensures accepted { OnOk result (OfBytes (F.holds files.old name.now) (λ bytes.
-        (fault : Fault) → IsSequencesRefusal reading.old.weighted reading.old.names bytes fault → ⊥)) }
-    ensures refused { (fault : SequenceFault) → result ≡ Err fault
-        → fault ≢ SequenceFault.ReadFault → fault ≢ SequenceFault.NoMemory
-        → IfSome (F.holds files.old name.now) (λ bytes.
-        IsSequencesRefusal reading.old.weighted reading.old.names bytes (fault_of_sequences fault)) }
-    ensures failed { result ≡ Err SequenceFault.ReadFault → Rose (F.faults files.old) (F.faults files.new) }
+    ensures taken { OnOk result
+        (IsTaken reading.old.names reading.old.weighted (lines_behind bytes.now) reading.new) }
+    ensures refused { (fault : SequenceFault) → result ≡ Err fault → fault ≢ SequenceFault.NoMemory
+        → FirstAmong (IsSequenceLineRefusal reading.old.weighted reading.old.names) []
+        (lines_behind bytes.now) (fault_of_sequences fault) }
+    ensures read { result ≢ Err SequenceFault.ReadFault }
     ensures kept { (added : List (List ℕ)) × (reading.new.names ≡ reading.old.names ++ added) }
-    ensures same_names { F.may files.new ≡ F.may files.old }
-    ensures same_files { F.holds files.new ≡ F.holds files.old }
-    ensures never_falls { F.faults files.old ≤ F.faults files.new }
 {
-    match read_lines(alloc, files, name, reading) {
+    if workers > 1 && bytes.len() >= LEAST_BYTES {
+        let known = reading.names.count();
+        if read_in_pieces(rt, workers, alloc, bytes, reading)? {
+            return Ok(());
+        }
+        begin_again(alloc, known, reading)?;
+    }
+    read_in_order(alloc, bytes, reading)
+}
+
+/// Leaves the first names, so many of them, and no sequence.
+fn begin_again(alloc: Global, known: u32, reading: &mut Reading) -> Result<(), NoMemory>
+    requires { known ≤ length reading.old.names }
+    ensures names { OnOk result (reading.new.names ≡ take known reading.old.names) }
+    ensures empty { OnOk result (reading.new.db ≡ []) }
+    ensures same { reading.new.weighted ≡ reading.old.weighted }
+    ensures kept { OnErr result (reading.new.names ≡ reading.old.names) }
+{
+    match reading.names.first(alloc, known) {
+        Ok(names) => reading.names = names,
+        Err(_) => return Err(NoMemory),
+    }
+    reading.db = Db::new(alloc);
+    Ok(())
+}
+
+/// Reads bytes line by line into what was read so far, which has no sequence yet.
+pub(crate) fn read_in_order(
+    alloc: Global,
+    bytes: &[u8],
+    reading: &mut Reading,
+) -> Result<(), SequenceFault>
+    requires few { length bytes.now ≤ most_file_bytes }
+    requires room { length reading.old.names ≤ most_items }
+    requires empty { reading.old.db ≡ [] }
+    ensures taken { OnOk result
+        (IsTaken reading.old.names reading.old.weighted (lines_behind bytes.now) reading.new) }
+    ensures refused { (fault : SequenceFault) → result ≡ Err fault → fault ≢ SequenceFault.NoMemory
+        → FirstAmong (IsSequenceLineRefusal reading.old.weighted reading.old.names) []
+        (lines_behind bytes.now) (fault_of_sequences fault) }
+    ensures read { result ≢ Err SequenceFault.ReadFault }
+    ensures kept { (added : List (List ℕ)) × (reading.new.names ≡ reading.old.names ++ added) }
+{
+    match visit_lines(alloc, bytes, reading) {
         Ok(_) => Ok(()),
         Err(TextFault::ReadFault) => Err(SequenceFault::ReadFault),
         Err(TextFault::TooLarge) => Err(SequenceFault::TooLarge),

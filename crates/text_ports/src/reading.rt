@@ -15,7 +15,7 @@ pub(crate) const MOST_FILE_BYTES: usize = 67_108_864;
 
 /// Why a file was not read to its end.
 #[derive(Clone, Copy, Debug, PartialEq, Eq)]
-pub(crate) enum ReadFault {
+pub enum ReadFault {
     /// Opening or reading it failed.
     Failed,
     /// It has too many bytes.
@@ -47,11 +47,7 @@ impl From<AllocError> for ReadFault {
 }
 
 /// The bytes of the file of this name, where they are not too many. After a refusal it may be partly read.
-pub(crate) fn read_file<F: Files>(
-    alloc: Global,
-    files: &mut F,
-    name: &str,
-) -> Result<Vec<u8>, ReadFault>
+pub fn read_file<F: Files>(alloc: Global, files: &mut F, name: &str) -> Result<Vec<u8>, ReadFault>
     requires may { IsTrue (F.may files.old name.now) }
     ensures whole { IfOk result (λ v. IfSome (F.holds files.old name.now) (λ bytes. v.items ≡ bytes)) }
     ensures few { IfOk result (λ v. vec_len v ≤ most_file_bytes) }

@@ -75,15 +75,16 @@ pub fn read_lines<F: Files, V: LineVisitor>(
     visit_lines(alloc, without_mark(bytes.as_slice()), visitor)
 }
 
-/// The bytes without a mark that they begin with.
-fn without_mark(bytes: &[u8]) -> &[u8]
+/// The bytes without a byte order mark that they begin with. Takes no memory.
+pub fn without_mark(bytes: &[u8]) -> &[u8]
     ensures { result.now ≡ Rattle.mine_model.specs.Text.without_mark bytes.now }
 {
     bytes.strip_prefix(&BYTE_ORDER_MARK).unwrap_or(bytes)
 }
 
-/// Gives the lines of bytes that begin with no mark to the visitor.
-fn visit_lines<V: LineVisitor>(
+/// Gives the lines of bytes in order to the visitor, with the fields of each. The answer is the number of
+/// lines. No byte order mark is looked for: `without_mark` leaves the one of a file behind.
+pub fn visit_lines<V: LineVisitor>(
     alloc: Global,
     bytes: &[u8],
     visitor: &mut V,

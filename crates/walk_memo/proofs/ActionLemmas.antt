@@ -15,7 +15,8 @@ use Rattle.walk_memo.specs.Steps.{AreWritten, IsMarked}
 
 -- the action of a state
 abbrev pub action_of : MoveSets → ℕ → Action
-action_of move q = record { state = q; more = eqb (bit_at move.more q) 1; ends = eqb (bit_at move.ends q) 1 }
+action_of move q =
+    record { state = q; more = eqb (bit_at move.more q) 1; unseen = eqb (bit_at move.unseen q) 1; ends = eqb (bit_at move.ends q) 1 }
 
 -- a test of membership is the one of the bit
 pub test_is : (test : Bool) (members q : ℕ) → IsTrue test ↔ Has members q → test ≡ eqb (bit_at members q) 1
@@ -90,12 +91,13 @@ written-all targets move done left before now so_far none =
               let (q, inside, is) = Contains-from (action_of move) done action held in
               let (target, writes) = (members q).0 inside in
               subst (λ (a : Action). Has targets a.state × Has move.writes a.state × IsMarked move a) (sym is)
-              (target, writes, record { more = test_tells move.more q; ends = test_tells move.ends q })),
+              (target, writes, record { more = test_tells move.more q; unseen = test_tells move.unseen q; ends = test_tells move.ends q })),
           (λ (target, writes, marked).
               let inside : Contains done action.state = (members action.state).1 (target, writes) in
               let more : action.more ≡ eqb (bit_at move.more action.state) 1 = test_is action.more move.more action.state marked.more in
+              let unseen : action.unseen ≡ eqb (bit_at move.unseen action.state) 1 = test_is action.unseen move.unseen action.state marked.unseen in
               let ends : action.ends ≡ eqb (bit_at move.ends action.state) 1 = test_is action.ends move.ends action.state marked.ends in
-              let same : action_of move action.state ≡ action = rw (← more, ← ends) refl in
+              let same : action_of move action.state ≡ action = rw (← more, ← unseen, ← ends) refl in
               subst (Contains (map (action_of move) done)) same (Contains-by (action_of move) done action.state inside)),
         );
       },

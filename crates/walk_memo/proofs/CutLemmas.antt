@@ -38,24 +38,24 @@ agree-next rows move cut rest set other next cut_next is agree after cut_after q
 )
 
 -- actions are told by what edges lead into, what is written and the two marks
-actions-from : (rows : List ℕ) (one other : MoveSets) (set others : ℕ) → other.writes ≡ one.writes → other.more ≡ one.more → other.ends ≡ one.ends
+actions-from : (rows : List ℕ) (one other : MoveSets) (set others : ℕ) → other.writes ≡ one.writes → other.more ≡ one.more → other.unseen ≡ one.unseen → other.ends ≡ one.ends
     → ((q : ℕ) → Has one.writes q → IsNeighbour rows set q ↔ IsNeighbour rows others q)
     → (actions : List Action) → AreActions rows one set actions → AreActions rows other others actions
-actions-from rows one other set others writes_same more_same ends_same same actions are = record {
+actions-from rows one other set others writes_same more_same unseen_same ends_same same actions are = record {
   rising = are.rising;
   exact = λ action. (
     (λ held.
         let (stands, writes, marked) = (are.exact action).0 held in (
           (same action.state writes).0 stands,
           (rw writes_same writes),
-          record { more = rw more_same marked.more; ends = rw ends_same marked.ends },
+          record { more = rw more_same marked.more; unseen = rw unseen_same marked.unseen; ends = rw ends_same marked.ends },
         )),
     (λ (stands, writes, marked).
         let here : Has one.writes action.state = rw writes_same at writes in
         (are.exact action).1 (
           (same action.state here).1 stands,
           here,
-          record { more = rw more_same at marked.more; ends = rw ends_same at marked.ends },
+          record { more = rw more_same at marked.more; unseen = rw unseen_same at marked.unseen; ends = rw ends_same at marked.ends },
         )),
   );
 }
@@ -83,7 +83,7 @@ module _ (rows : List ℕ) (moves cuts : List MoveSets) (sets fewer : List ℕ) 
       subst (λ (ms : List MoveSets). AgreeOn rows ms (slice_index sets k) (slice_index fewer k)) (drop_at moves k move found) (agree-at k (omega arith)) in
       let is = are k move cut found cut_found in
       let same = written_from rows move (drop (suc k) moves) (slice_index sets k) (slice_index fewer k) here in (
-        actions-from rows move cut (slice_index sets k) (slice_index fewer k) is.writes is.more is.ends same actions,
-        actions-from rows cut move (slice_index fewer k) (slice_index sets k) (sym is.writes) (sym is.more) (sym is.ends)
+        actions-from rows move cut (slice_index sets k) (slice_index fewer k) is.writes is.more is.unseen is.ends same actions,
+        actions-from rows cut move (slice_index fewer k) (slice_index sets k) (sym is.writes) (sym is.more) (sym is.unseen) (sym is.ends)
             (λ q writes. let (forth, back) = same q (rw is.writes at writes) in (back, forth)) actions,
       )

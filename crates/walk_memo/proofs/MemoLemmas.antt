@@ -1,13 +1,13 @@
 -- Memos while they grow.
-use Rattle.std.proofs.Common.{◌≡◌, ℕ, zero, suc, ◌+◌, ◌*◌, ◌<◌, ◌≤◌, ◌⊎◌, ◌↔◌, inl, inr, Bool, true, false, Some, List, [], ◌∷◌, ◌++◌, map, length, slice_get, arith, refl, sym, ap, ◌∙◌, subst, ◌&&◌, eq-eqb, ◌≢◌}
+use Rattle.std.proofs.Common.{◌≡◌, ℕ, zero, suc, ◌+◌, ◌*◌, ◌<◌, ◌≤◌, ◌⊎◌, ◌↔◌, inl, inr, Bool, true, false, Some, List, [], ◌∷◌, ◌++◌, map, take, length, slice_get, arith, refl, sym, ap, ◌∙◌, subst, ◌&&◌, eq-eqb, ◌≢◌}
 use Rattle.std.specs.Bool.{◌==◌, Decides}
 use Rattle.std.specs.List.{list_any, slice_range, IsDistinct, AllPairs}
-use Rattle.std.proofs.lemmas.List.{append-nil, map-append, length-append}
+use Rattle.std.proofs.lemmas.List.{append-nil, length-append}
 use Rattle.std.proofs.lemmas.Bool.{cases_Bool, and_parts, eqb-true}
-use Rattle.std.proofs.lemmas.Option.{slice_get-map, slice_get_within, same_Some}
+use Rattle.std.proofs.lemmas.Option.{slice_get_within, same_Some}
 use Rattle.indexmap.specs.IndexSet.{insert_key}
 use Rattle.std.proofs.lemmas.Map.Made.{AllPairs-from_IsDistinct}
-use Rattle.mine_model.proofs.ListLemmas.{slice_range-append, apart_by_image, Contains-cases, Contains-none}
+use Rattle.mine_model.proofs.ListLemmas.{slice_range-append, apart_by_image}
 use Rattle.mine_model.proofs.ElementLemmas.{get-left, get_snoc}
 use Rattle.state_bits.specs.Members.{Has}
 use Rattle.state_bits.specs.Neighbours.{AreNeighbours}
@@ -16,37 +16,27 @@ use Rattle.walk_memo.specs.declared.action.Action.{Action}
 use Rattle.walk_memo.specs.declared.cells.Cells.{Cells}
 use Rattle.walk_memo.specs.declared.movement.Move.{Move}
 use Rattle.walk_memo.specs.declared.step.Step.{Step}
-use Rattle.walk_memo.specs.Moves.{MoveSets, move_sets, AddsTo}
+use Rattle.walk_memo.specs.Moves.{MoveSets, move_sets}
 use Rattle.walk_memo.specs.Cells.{HasCell}
 use Rattle.walk_memo.specs.Steps.{IsAfter, AreWritten}
 use Rattle.walk_memo.specs.Memos.{MemoValue, IsStep, IsJoined, Keeps, most_sets}
 use Rattle.walk_memo.specs.Kept.{IsMemo, IsStepAt, IsJoinAt, AreSets, AreRows}
 
--- ---- what an insertion into a set adds
-
-pub inserted : {X Y : Type 0} (f : X → Y) (eq : X → X → Bool) (ks after : List X) (k : X) → after ≡ insert_key eq ks k
-    → AddsTo (map f ks) (f k) (map f after)
-inserted f eq ks after k are = elim (cases_Bool (list_any (eq k) ks)) [
-  | inl there ↦ ([], (rw (are, there) (sym (append-nil (map f ks)))), (λ y none. absurd (Contains-none y none)))
-  | inr new ↦ (f k ∷ [], (rw (are, new) (map-append f ks (k ∷ []))), (λ y last. elim (Contains-cases (f k) [] y last) [ inl same ↦ same | inr none ↦ absurd (Contains-none y none) ]))
-]
-
 abbrev pub move_eq : {W : ℕ} → Move W → Move W → Bool
-move_eq a b = a.silent == b.silent && (a.writes == b.writes && (a.more == b.more && a.ends == b.ends))
+move_eq a b = a.silent == b.silent && (a.writes == b.writes && (a.more == b.more && (a.unseen == b.unseen && a.ends == b.ends)))
 
 pub same_move : {W : ℕ} (a b : Move W) → move_eq a b ≡ true → move_sets a ≡ move_sets b
 same_move a b same =
     let first = and_parts _ _ same in
     let second = and_parts _ _ first.1 in
     let third = and_parts _ _ second.1 in
+    let fourth = and_parts _ _ third.1 in
     let silent : a.silent ≡ b.silent = eqb-true _ _ first.0 in
     let writes : a.writes ≡ b.writes = eqb-true _ _ second.0 in
     let more : a.more ≡ b.more = eqb-true _ _ third.0 in
-    let ends : a.ends ≡ b.ends = eqb-true _ _ third.1 in
-    rw (silent, writes, more, ends) refl
-
-pub slice_get-mapped_by : {X Y : Type 0} (f : X → Y) (xs : List X) (i : ℕ) (x : X) → slice_get xs i ≡ Some x → slice_get (map f xs) i ≡ Some (f x)
-slice_get-mapped_by f xs i x found = slice_get-map f xs i ∙ (rw found refl)
+    let unseen : a.unseen ≡ b.unseen = eqb-true _ _ fourth.0 in
+    let ends : a.ends ≡ b.ends = eqb-true _ _ fourth.1 in
+    rw (silent, writes, more, unseen, ends) refl
 
 -- ---- sets
 
@@ -220,6 +210,15 @@ HasCell-none {T} cells row column value none held =
     let inside : row * cells.columns + column < length cells.cells.items = slice_get_within cells.cells.items (row * cells.columns + column) (Some value) held in
     omega (arith, ap length none)
 
+-- no rows
+pub AreRows-none : (width : ℕ) (rows : List ℕ) → rows ≡ [] → AreRows width rows
+AreRows-none width rows none = rw none (record { room = omega arith; closed = λ from q has. absurd (Has-none q has) })
+
+-- the empty set is the first, and all behind it are forgotten
+pub first_left : (sets after : List ℕ) → slice_get sets 0 ≡ Some 0 → after ≡ take 1 sets → after ≡ 0 ∷ []
+first_left [] after first is = absurd (cc)
+first_left (x ∷ xs) after first is = let same : x ≡ 0 = same_Some x 0 first in rw (is, same) refl
+
 pub IsMemo-new : (width : ℕ) (memo : MemoValue) (steps : Cells Step) (joins : Cells ℕ) (most : ℕ) → width ≤ 17 → AreRows width memo.rows → memo.sets ≡ 0 ∷ []
     → steps.columns ≡ length memo.moves → joins.columns ≡ length memo.rows → steps.cells.items ≡ [] → joins.cells.items ≡ [] → most ≡ most_sets memo.rows memo.moves
     → IsMemo width memo steps joins most
@@ -254,13 +253,13 @@ join_read memo shown number state joined same known set found =
 
 move_from_sets : {W : ℕ} (a b : Move W) → move_sets a ≡ move_sets b → a ≡ b
 move_from_sets {W} a b same =
-    ap (λ (m : MoveSets). let move : Move W = record { silent = m.silent; writes = m.writes; more = m.more; ends = m.ends } in move) same
+    ap (λ (m : MoveSets). let move : Move W = record { silent = m.silent; writes = m.writes; more = m.more; unseen = m.unseen; ends = m.ends } in move) same
 
-decides_moves : {W : ℕ} (a b : Move W) → Decides (move_eq a b) (a ≡ b)
+pub decides_moves : {W : ℕ} (a b : Move W) → Decides (move_eq a b) (a ≡ b)
 decides_moves {W} a b = (
   (λ same. move_from_sets a b (same_move a b same)),
   (λ is. subst (λ (x : Move W). move_eq a x ≡ true) is
-      (rw (eq-eqb a.silent a.silent refl, eq-eqb a.writes a.writes refl, eq-eqb a.more a.more refl, eq-eqb a.ends a.ends refl) refl)),
+      (rw (eq-eqb a.silent a.silent refl, eq-eqb a.writes a.writes refl, eq-eqb a.more a.more refl, eq-eqb a.unseen a.unseen refl, eq-eqb a.ends a.ends refl) refl)),
 )
 
 pub moves_once : {W : ℕ} (keys : List (Move W)) → IsDistinct (move_eq {W = W}) keys → AllPairs (λ one other. one ≢ other) (map (move_sets {W = W}) keys)

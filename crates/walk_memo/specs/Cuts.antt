@@ -25,6 +25,7 @@ AreSetsAlong rows moves sets =
 pub record IsCut (rows : List ℕ) (rest : List MoveSets) (move cut : MoveSets) : Type 0 where
   pub writes : cut.writes ≡ move.writes
   pub more : cut.more ≡ move.more
+  pub unseen : cut.unseen ≡ move.unseen
   pub ends : cut.ends ≡ move.ends
   pub fewer : (q : ℕ) → Has cut.silent q → Has move.silent q
   pub enough : (q : ℕ) → Has move.silent q → CanWrite rows rest q → Has cut.silent q

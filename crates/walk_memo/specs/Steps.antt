@@ -9,9 +9,10 @@ use Rattle.walk_memo.specs.Moves.{MoveSets}
 abbrev pub IsAfter : List ℕ → MoveSets → ℕ → ℕ → Type 0
 IsAfter rows move set next = (q : ℕ) → Has next q ↔ (IsNeighbour rows set q × Has move.silent q)
 
--- the marks of an action: more can be written behind it; it can end
+-- the marks of an action: more can be written behind it; so with what is needed; it can end
 pub record IsMarked (move : MoveSets) (action : Action) : Type 0 where
   pub more : IsTrue action.more ↔ Has move.more action.state
+  pub unseen : IsTrue action.unseen ↔ Has move.unseen action.state
   pub ends : IsTrue action.ends ↔ Has move.ends action.state
 
 -- the actions of a step: of each state in the rows of the set into which an edge writes, one, by state

@@ -15,13 +15,13 @@ pub(crate) struct Cells<T> {
 }
 
 impl<T: Copy> Cells<T> {
-    /// No row is reached.
-    pub(crate) fn new(alloc: Global, columns: u32) -> Cells<T>
-        ensures columns { result.columns ≡ columns }
+    /// No columns, and no row is reached.
+    pub(crate) fn new(alloc: Global) -> Cells<T>
+        ensures columns { result.columns ≡ 0 }
         ensures cells { result.cells.items ≡ [] }
     {
         Cells {
-            columns,
+            columns: 0,
             cells: Vec::new(alloc),
         }
     }
@@ -48,6 +48,15 @@ impl<T: Copy> Cells<T> {
         reach(&mut self.cells, place)?;
         self.cells[place] = Some(value);
         Ok(())
+    }
+
+    /// Begins anew with so many columns, all cells empty.
+    pub(crate) fn begin(&mut self, columns: u32)
+        ensures columns { self.new.columns ≡ columns }
+        ensures cells { self.new.cells.items ≡ [] }
+    {
+        self.columns = columns;
+        self.cells.clear();
     }
 
     /// Empties all cells.

@@ -12,7 +12,6 @@ ghost use Rattle.walk_memo.specs.Kept.{IsStepAt, IsJoinAt};
 use super::action::Action;
 use super::cells::Cells;
 use super::movement::Move;
-use super::moves::Moves;
 use super::number::to_number;
 use super::step::Step;
 use super::writing::push_actions;
@@ -27,13 +26,14 @@ const MOST_CELLS: usize = 1 << 20;
 
 /// What sets of states do at moves, over rows that say for each state to which others edges lead. Sets are
 /// known by numbers, the empty one by 0. What is asked once is kept: asked again, it is read from a table.
+/// Rows and moves are the memo's own, so that it can be kept from one walk to the next.
 /// A memo that is full is begun again where a set or a step that is new comes: numbers from before are then
 /// void, but what that very call answers is a number of the new memo. So a walk needs to hold no more than
 /// its present number.
 #[derive(Drop)]
-pub struct Memo<'a, const W: usize> {
-    rows: &'a [StateSet<W>],
-    moves: &'a Moves<W>,
+pub struct Memo<const W: usize> {
+    rows: Vec<StateSet<W>>,
+    moves: Vec<Move<W>>,
     most_sets: usize,
     sets: IndexSet<StateSet<W>>,
     actions: Vec<Action>,
@@ -41,52 +41,95 @@ pub struct Memo<'a, const W: usize> {
     joins: Cells<u32>,
 }
 
-impl<'a, const W: usize> Model for Memo<'a, W> {
+impl<const W: usize> Model for Memo<W> {
+    ghost use Rattle.std.specs.Prelude.{map};
+    ghost use Rattle.walk_memo.specs.Moves.{move_sets};
     ghost use Rattle.walk_memo.specs.Memos.{MemoValue};
     ghost use Rattle.walk_memo.specs.Kept.{IsMemo};
 
     ghost Value = { MemoValue };
 
     ghost view = { λ m. record {
-      rows = m.rows.now;
-      moves = m.moves.now;
+      rows = m.rows.items;
+      moves = map move_sets m.moves.items;
       sets = m.sets.keys;
       actions = m.actions.items;
     } };
 
     ghost invariant = { λ m. IsMemo W (record {
-      rows = m.rows.now;
-      moves = m.moves.now;
+      rows = m.rows.items;
+      moves = map move_sets m.moves.items;
       sets = m.sets.keys;
       actions = m.actions.items;
     }) m.steps m.joins m.most_sets };
 }
 
-impl<'a, const W: usize> Memo<'a, W> {
-    /// A memo that knows the empty set alone.
-    pub fn new(
-        alloc: Global,
-        rows: &'a [StateSet<W>],
-        moves: &'a Moves<W>,
-    ) -> Result<Memo<'a, W>, NoMemory>
-        requires width { W ≤ 17 }
-        requires room { length rows.now ≤ 64 * W }
-        requires closed { (from q : ℕ) → Has (slice_index rows.now from) q → q < length rows.now }
-        ensures { IfOk result (λ memo. memo
-            ≡ record { rows = rows.now; moves = moves.now; sets = 0 ∷ []; actions = [] }) }
+impl<const W: usize> Memo<W> {
+    /// A memo of no rows and no moves, that knows the empty set alone.
+    pub fn new(alloc: Global) -> Result<Memo<W>, NoMemory>
+        requires { W ≤ 17 }
+        ensures { IfOk result (λ memo. memo ≡ record { rows = []; moves = []; sets = 0 ∷ []; actions = [] }) }
     {
         let mut sets = IndexSet::new(alloc);
         sets.insert(StateSet::new())?;
-        let count = moves.count();
         Ok(Memo {
-            rows,
-            moves,
-            most_sets: MOST_CELLS / (rows.len() + count as usize + 1),
+            rows: Vec::new(alloc),
+            moves: Vec::new(alloc),
+            most_sets: MOST_CELLS,
             sets,
             actions: Vec::new(alloc),
-            steps: Cells::new(alloc, count),
-            joins: Cells::new(alloc, rows.len() as u32),
+            steps: Cells::new(alloc),
+            joins: Cells::new(alloc),
         })
+    }
+
+    /// Makes it a memo of these rows and moves. Where it is one already, nothing is forgotten; else it begins
+    /// anew. It also wants memory where there are more than 2^32 - 1 moves.
+    pub fn enter(&mut self, rows: &[StateSet<W>], moves: &[Move<W>]) -> Result<(), NoMemory>
+        requires width { W ≤ 17 }
+        requires room { length rows.now ≤ 64 * W }
+        requires closed { (from q : ℕ) → Has (slice_index rows.now from) q → q < length rows.now }
+        ensures rows { OnOk result (self.new.rows ≡ rows.now) }
+        ensures moves { OnOk result (self.new.moves ≡ map move_sets moves.now) }
+    {
+        if self.rows.as_slice() == rows && self.moves.as_slice() == moves {
+            return Ok(());
+        }
+        self.begin(rows, moves)
+    }
+
+    // Begins anew, with these rows and moves.
+    fn begin(&mut self, rows: &[StateSet<W>], moves: &[Move<W>]) -> Result<(), NoMemory>
+        requires width { W ≤ 17 }
+        requires room { length rows.now ≤ 64 * W }
+        requires closed { (from q : ℕ) → Has (slice_index rows.now from) q → q < length rows.now }
+        ensures rows { OnOk result (self.new.rows ≡ rows.now) }
+        ensures moves { OnOk result (self.new.moves ≡ map move_sets moves.now) }
+    {
+        let count = to_number(moves.len())?;
+        self.sets.truncate(1);
+        self.actions.clear();
+        self.rows.clear();
+        self.moves.clear();
+        self.steps.begin(0);
+        self.joins.begin(0);
+        self.most_sets = MOST_CELLS;
+        self.moves.extend_from_slice(moves)?;
+        self.steps.begin(count);
+        self.most_sets = MOST_CELLS / (moves.len() + 1);
+        self.rows.extend_from_slice(rows)?;
+        self.joins.begin(rows.len() as u32);
+        self.most_sets = MOST_CELLS / (rows.len() + moves.len() + 1);
+        Ok(())
+    }
+
+    /// The number of the empty set.
+    pub fn empty(&self) -> u32
+        ensures number { result ≡ 0 }
+        ensures is { slice_get self.now.sets result ≡ Some 0 }
+    {
+        let _sets = &self.sets;
+        0
     }
 
     /// The set with the number.
@@ -205,8 +248,7 @@ impl<'a, const W: usize> Memo<'a, W> {
         requires number { number < length self.now.moves }
         ensures { slice_get self.now.moves number ≡ Some (move_sets result.now) }
     {
-        let moves = self.moves;
-        moves.get(number)
+        &self.moves[number as usize]
     }
 
     // The states in the rows of these.
@@ -216,7 +258,7 @@ impl<'a, const W: usize> Memo<'a, W> {
         ensures are { AreNeighbours self.now.rows before.now result }
         ensures within { (q : ℕ) → Has result q → q < length self.now.rows }
     {
-        neighbours(self.rows, before)
+        neighbours(self.rows.as_slice(), before)
     }
 
     // The set with the state.
@@ -225,7 +267,7 @@ impl<'a, const W: usize> Memo<'a, W> {
         requires state { state < length self.now.rows }
         ensures { IsJoin before.now state result }
     {
-        let _rows = self.rows;
+        let _rows = &self.rows;
         let mut joined = *before;
         joined.add(state);
         joined

@@ -1,7 +1,8 @@
 //! Moves, numbered by what they do.
 
 ghost use Rattle.std.specs.Prelude.{◌≡◌, ◌≢◌, ◌<◌, ◌≤◌, ◌^◌, [], map, length, slice_get, Some, IfOk, AllPairs};
-ghost use Rattle.walk_memo.specs.Moves.{move_sets, AddsTo};
+ghost use Rattle.mine_model.specs.Lists.{AddsTo};
+ghost use Rattle.walk_memo.specs.Moves.{move_sets};
 
 use super::movement::Move;
 use super::number::to_number;
@@ -59,6 +60,14 @@ impl<const W: usize> Moves<W> {
         ensures { result ≡ length self.now }
     {
         self.moves.len() as u32
+    }
+
+    /// The moves, by number.
+    pub fn as_slice(&self) -> &[Move<W>]
+        requires { W ≤ 17 }
+        ensures { map move_sets result.now ≡ self.now }
+    {
+        self.moves.as_slice()
     }
 
     /// The move with the number.

@@ -25,10 +25,12 @@ pub(crate) fn push_actions<const W: usize>(
     writers.intersect_with(&movement.writes);
     for state in writers.iter() {
         let more = movement.more.has(state);
+        let unseen = movement.unseen.has(state);
         let ends = movement.ends.has(state);
         actions.push(Action {
             state: state as u16,
             more,
+            unseen,
             ends,
         })?;
     }

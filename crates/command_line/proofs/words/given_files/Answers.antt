@@ -1,18 +1,27 @@
-use Rattle.std.proofs.Common.{◌≡◌, ◌∙◌, sym, ap, List, codes, None, option_map, string_bytes}
+use Rattle.std.proofs.Common.{rules, ◌∙◌, sym, List, Option, Some, None, codes, MatchOption}
 use Rattle.std.proofs.lemmas.Option.{none-some}
-use Rattle.clap.specs.Words.{Row, first_of, found_of, rows_of}
+use Rattle.clap.specs.Words.{Row, Text, found_of, rows_of}
 use Rattle.gap_front.specs.declared.rule.GapRule.{GapRule}
-use Rattle.command_line.specs.Words.{GivesRule, GivesSource, IsAway, Source, read, embed, make}
+use Rattle.command_line.specs.Words.{GivesSource, HasNoRule, IsAway, IsGiven, Source, read, embed, make, merge}
+use Rattle.command_line.specs.Commands.{source_said}
+use Rattle.command_line.specs.declared.words.Source.{Source as ReadSource}
 use Rattle.command_line.proofs.words.given_files.Goals as goal
 
--- without FILE, with no rule and no number of made sequences there is no source
-no_source : (found : List Row) → first_of (codes "file") found ≡ None → IsAway found (codes "generated")
-    → ((rule : GapRule) → GivesRule found rule → ⊥) → (source : Source) → GivesSource found source → ⊥
-no_source found away files none (read expression file) gives = none-some file (sym away ∙ gives.1)
-no_source found away files none (embed rule file) gives = none rule gives.3
-no_source found away files none (make count expression) gives = none-some gives.1.digits (sym files ∙ gives.1.given)
+-- beside words of a rule there is no source but one by that rule
+no_source : (found : List Row) → (HasNoRule found → ⊥) → IsAway found (codes "generated") → (IsGiven found (codes "merge") → ⊥)
+    → ((rule : GapRule) (file : Text) → GivesSource found (embed rule file) → ⊥) → (source : Source) → GivesSource found source → ⊥
+no_source found ruled made apart none (read expression file) gives = ruled gives.3
+no_source found ruled made apart none (embed rule file) gives = none rule file gives
+no_source found ruled made apart none (make count expression) gives = none-some gives.1.digits (sym made ∙ gives.1.given)
+no_source found ruled made apart none (merge files) gives = apart gives.given
 
-pub returns-in-None-given_rule : goal.returns-in-None-given_rule
-returns-in-None-given_rule c =
-    let away = sym c.in_ok-file.ensures ∙ ap (option_map string_bytes) c.in-None.is in
-    no_source (rows_of (found_of c.args.matches.now)) away c.requires.away c.in-None-given_rule.ensures
+by_rule : (found : List Row) → (HasNoRule found → ⊥) → IsAway found (codes "generated") → (IsGiven found (codes "merge") → ⊥) → (o : Option ReadSource)
+    → MatchOption o ((rule : GapRule) (file : Text) → GivesSource found (embed rule file) → ⊥) (λ source. GivesSource found (source_said source))
+    → MatchOption o ((source : Source) → GivesSource found source → ⊥) (λ source. GivesSource found (source_said source))
+by_rule found ruled made apart None none = no_source found ruled made apart none
+by_rule found ruled made apart (Some source) gives = gives
+
+pub returns-then-not-has_no_rule : goal.returns-then-not-has_no_rule
+returns-then-not-has_no_rule c =
+    let ruled : HasNoRule (rows_of (found_of c.args.matches.now)) → ⊥ = search rules in
+    by_rule (rows_of (found_of c.args.matches.now)) ruled c.requires.made c.requires.merge c.given_embedding.result c.given_embedding.ensures

@@ -1,4 +1,4 @@
-use Rattle.std.proofs.Common.{rules, ◌≡◌, ap, Err, string_bytes}
+use Rattle.std.proofs.Common.{rules, ◌≡◌, ap, map, Err, string_bytes}
 use Rattle.mine_model.specs.declared.fault.Fault.TheVariants.{NoMemory}
 use Rattle.command_line.specs.Commands.{source_said, command_said}
 use Rattle.desq_run.specs.Ends.{no_memory}
@@ -13,3 +13,6 @@ pub returns-in_ok-make_inputs-in-Make-clause-inputs : goal.returns-in_ok-make_in
 returns-in_ok-make_inputs-in-Make-clause-inputs g c =
     c.in_ok-make_inputs-in-Make.ensures.inputs (g.F.Files.holds c.args.files.now) (command_said c.args.command.now) (string_bytes c.in-Make.expression)
     (ap source_said c.in-Make.is)
+
+pub unreachable-requires : goal.unreachable-requires
+unreachable-requires g c = c.requires.mined (map string_bytes c.in-Merge.files.items) (ap source_said c.in-Merge.is)

@@ -38,3 +38,6 @@ pub returns-in-TooManyLeaves-clause-text : goal.returns-in-TooManyLeaves-clause-
 returns-in-TooManyLeaves-clause-text c =
     rw (c.in-TooManyLeaves.is, c.push_str-in-TooManyLeaves-2.ensures.bytes, c.push_number.ensures.bytes, c.push_str-in-TooManyLeaves.ensures.bytes, c.from.ensures)
     (simp append_assoc refl)
+
+pub returns-in-BadProof-clause-text : goal.returns-in-BadProof-clause-text
+returns-in-BadProof-clause-text c = rw c.in-BadProof.is c.push_at_line-in-BadProof.ensures.text

@@ -1,4 +1,4 @@
-use Rattle.std.proofs.Common.{ℕ, List, ◌↔◌, None, Contains}
+use Rattle.std.proofs.Common.{None}
 use Rattle.mine_model.specs.declared.mined.Mined.{Mined}
 use Rattle.mine_model.specs.Numbered.{AreFrequent}
 use Rattle.mine_model.specs.PartitionWork.{IsNamedBefore}

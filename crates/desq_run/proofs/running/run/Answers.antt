@@ -1,5 +1,5 @@
 use Rattle.std.proofs.Common.{inl, inr, ◌∙◌, sym, map, string_bytes}
-use Rattle.desq_run.proofs.EndLemmas.{usage-ended, ended-usage, ended-source, ended-hierarchy, refusal-ended, ended-refusal, ended-accepted, accepted-ended, if-done, if-failed, if-unread, if-unwritten}
+use Rattle.desq_run.proofs.EndLemmas.{usage-ended, ended-usage, ended-source, ended-hierarchy, ended-data, refusal-ended, ended-refusal, ended-accepted, accepted-ended, if-done, if-failed, if-unread, if-unwritten}
 use Rattle.desq_run.proofs.running.run.Goals as goal
 
 pub returns-clause-done : goal.returns-clause-done
@@ -27,6 +27,18 @@ pub returns-clause-refuses_hierarchy : goal.returns-clause-refuses_hierarchy
 returns-clause-refuses_hierarchy g c = λ command bytes fault has told refused.
     let ended = ended-hierarchy (map string_bytes c.args.words.now) (g.F.Files.holds c.args.files.now) c.attempt-outcome.result c.attempt-outcome.ensures.ends
     command bytes fault has told refused in
+    elim ended [
+      | inl same ↦ inl (c.status-status.ensures ∙ same)
+      | inr other ↦ elim other [
+        | inl memory ↦ inr (inl (c.status-status.ensures ∙ memory))
+        | inr unread ↦ inr (inr (if-unread c.attempt-outcome.result _ c.attempt-outcome.ensures.read_fault unread))
+      ]
+    ]
+
+pub returns-clause-refuses_data : goal.returns-clause-refuses_data
+returns-clause-refuses_data g c = λ command input fault has unmerged told refused.
+    let ended = ended-data (map string_bytes c.args.words.now) (g.F.Files.holds c.args.files.now) c.attempt-outcome.result c.attempt-outcome.ensures.ends
+    command input fault has unmerged told refused in
     elim ended [
       | inl same ↦ inl (c.status-status.ensures ∙ same)
       | inr other ↦ elim other [

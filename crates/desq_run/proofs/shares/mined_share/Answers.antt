@@ -1,4 +1,4 @@
-use Rattle.std.proofs.Common.{ℕ, ◌↔◌, ◌≤◌, Some, [], Contains}
+use Rattle.std.proofs.Common.{◌↔◌, ◌≤◌, Some, [], Contains}
 use Rattle.mine_model.specs.declared.mined.Mined.{Mined}
 use Rattle.mine_model.specs.declared.row.Row.{Row}
 use Rattle.mine_model.specs.Answer.{IsFrequent}

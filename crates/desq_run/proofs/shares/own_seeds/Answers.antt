@@ -1,5 +1,5 @@
 use Rattle.std.proofs.lemmas.Fn.{filter_same}
-use Rattle.std.proofs.Common.{rules, ◌≡◌, filter}
+use Rattle.std.proofs.Common.{rules}
 use Rattle.desq_run.proofs.SeedLemmas.{has_seed, tested, own-complete, own-rising, own-exact}
 use Rattle.desq_run.proofs.shares.own_seeds.Goals as goal
 

@@ -1,8 +1,9 @@
-use Rattle.std.proofs.Common.{map, string_bytes}
+use Rattle.std.proofs.Common.{ap, map, string_bytes}
 use Rattle.mine_model.specs.Numbered.{tree_of}
 use Rattle.patex_parser.specs.Parsing.{use_view, IsParsed}
 use Rattle.patex_parser.specs.declared.parsed.Parsed.{Parsed}
 use Rattle.command_line.specs.Words.{read, make}
+use Rattle.command_line.specs.Commands.{source_said}
 use Rattle.desq_run.specs.Inputs.{IsRead}
 use Rattle.desq_run.proofs.SourceLemmas.{parsed-read, made-read}
 use Rattle.desq_run.proofs.RowLemmas.{if_ok}
@@ -39,3 +40,6 @@ returns-in-Make-clause-accepted c = rw c.in-Make.is (rw c.as_bytes-in-Make.ensur
 
 pub returns-in-Make-clause-refused : goal.returns-in-Make-clause-refused
 returns-in-Make-clause-refused c = rw c.in-Make.is (rw c.as_bytes-in-Make.ensures.value at c.read_expression-in-Make.ensures.refused)
+
+pub unreachable-requires : goal.unreachable-requires
+unreachable-requires c = c.requires.mined (map string_bytes c.in-Merge.files.items) (ap source_said c.in-Merge.is)

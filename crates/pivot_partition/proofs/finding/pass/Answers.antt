@@ -19,6 +19,10 @@ loop-state-init c = record {
   least = written-none (λ state p. GoesUpTo c.args.reading.now state p × (slice_index c.args.entered.now state ≤ p)) _;
 }
 
+pub pass_state-requires-clause-outputs : goal.pass_state-requires-clause-outputs
+pass_state-requires-clause-outputs c =
+    c.requires.outputs c.loop-state.state c.loop-state.auto.state (omega (arith, c.loop-state-test.true, c.requires.entered))
+
 pub pass_state-requires-clause-within : goal.pass_state-requires-clause-within
 pass_state-requires-clause-within c =
     subst (λ n. All (λ rank. rank < n) (outputs_at c.args.reading.now c.loop-state.state)) (sym c.loop-state.invariant.marks_long)

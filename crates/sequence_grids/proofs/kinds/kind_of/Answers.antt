@@ -12,52 +12,57 @@ use Rattle.sequence_grids.proofs.kinds.kind_of.Goals as goal
 pub returns-in_err-push_outputs-clause-kinds : goal.returns-in_err-push_outputs-clause-kinds
 returns-in_err-push_outputs-clause-kinds c =
     AreKinds-grow c.args.job.now c.args.bound c.args.tables.now.classes c.args.tables.now.classes c.args.kinds.now _ c.requires.kinds (Extends-nothing c.args.tables.now.classes)
-    (record { kinds = Extends-nothing c.args.kinds.now.kinds.items; ends = c.push_outputs.ensures.ends; ranks = c.push_outputs.ensures.ranks }) refl
+    (record { columns = refl; kinds = Extends-nothing c.args.kinds.now.kinds.items; ends = c.push_outputs.ensures.ends; ranks = c.push_outputs.ensures.ranks }) refl
+
+pub returns-in_err-enter-clause-kinds : goal.returns-in_err-enter-clause-kinds
+returns-in_err-enter-clause-kinds c =
+    AreKinds-grow c.args.job.now c.args.bound c.args.tables.now.classes c.args.tables.now.classes c.args.kinds.now _ c.requires.kinds (Extends-nothing c.args.tables.now.classes)
+    (record { columns = refl; kinds = Extends-nothing c.args.kinds.now.kinds.items; ends = c.push_outputs.ensures.ends; ranks = c.push_outputs.ensures.ranks }) refl
 
 pub class_number-requires-clause-silent : goal.class_number-requires-clause-silent
 class_number-requires-clause-silent c =
-    rw c.as_slice.ensures.value (entered_below (λ k. Reads c.args.job.now c.args.t k []) c.push_outputs.new.scratch.silent.items (length c.args.job.now.machine.labels + 1)
-    (length c.args.tables.now.predecessors) c.in_ok-push_outputs.ensures.entered.silent_are (sym c.requires.states))
+    rw c.as_slice.ensures.value (entered_below (λ k. Reads c.args.job.now c.args.t k []) c.enter.new.scratch.silent.items (length c.args.job.now.machine.labels + 1)
+    (length c.args.tables.now.predecessors) c.in_ok-enter.ensures.silent_are (sym c.requires.states))
 
 pub class_number-requires-clause-writes : goal.class_number-requires-clause-writes
 class_number-requires-clause-writes c =
-    rw c.as_slice-2.ensures.value (entered_below (λ k. Writes c.args.job.now c.args.bound c.args.t k) c.push_outputs.new.scratch.writes.items (length c.args.job.now.machine.labels + 1)
-    (length c.args.tables.now.predecessors) c.in_ok-push_outputs.ensures.entered.writes_are (sym c.requires.states))
+    rw c.as_slice-2.ensures.value (entered_below (λ k. Writes c.args.job.now c.args.bound c.args.t k) c.enter.new.scratch.writes.items (length c.args.job.now.machine.labels + 1)
+    (length c.args.tables.now.predecessors) c.in_ok-enter.ensures.writes_are (sym c.requires.states))
 
 pub class_number-requires-clause-needs : goal.class_number-requires-clause-needs
 class_number-requires-clause-needs c =
-    rw c.as_slice-3.ensures.value (entered_below (λ k. Needs c.args.job.now c.args.bound c.args.t k) c.push_outputs.new.scratch.needs.items (length c.args.job.now.machine.labels + 1)
-    (length c.args.tables.now.predecessors) c.in_ok-push_outputs.ensures.entered.needs_are (sym c.requires.states))
+    rw c.as_slice-3.ensures.value (entered_below (λ k. Needs c.args.job.now c.args.bound c.args.t k) c.enter.new.scratch.needs.items (length c.args.job.now.machine.labels + 1)
+    (length c.args.tables.now.predecessors) c.in_ok-enter.ensures.needs_are (sym c.requires.states))
 
 pub returns-in_err-class-clause-kinds : goal.returns-in_err-class-clause-kinds
 returns-in_err-class-clause-kinds c =
     AreKinds-grow c.args.job.now c.args.bound c.args.tables.now.classes c.class_number.new.self.classes c.args.kinds.now _ c.requires.kinds c.class_number.ensures.grows.classes
-    (record { kinds = Extends-nothing c.args.kinds.now.kinds.items; ends = c.push_outputs.ensures.ends; ranks = c.push_outputs.ensures.ranks }) refl
+    (record { columns = refl; kinds = Extends-nothing c.args.kinds.now.kinds.items; ends = c.push_outputs.ensures.ends; ranks = c.push_outputs.ensures.ranks }) refl
 
 pub returns-in_err-number-clause-kinds : goal.returns-in_err-number-clause-kinds
 returns-in_err-number-clause-kinds c =
     AreKinds-grow c.args.job.now c.args.bound c.args.tables.now.classes c.class_number.new.self.classes c.args.kinds.now _ c.requires.kinds c.class_number.ensures.grows.classes
-    (record { kinds = Extends-nothing c.args.kinds.now.kinds.items; ends = c.push_outputs.ensures.ends; ranks = c.push_outputs.ensures.ranks }) refl
+    (record { columns = refl; kinds = Extends-nothing c.args.kinds.now.kinds.items; ends = c.push_outputs.ensures.ends; ranks = c.push_outputs.ensures.ranks }) refl
 
 pub returns-in_err-push-clause-kinds : goal.returns-in_err-push-clause-kinds
 returns-in_err-push-clause-kinds c =
     AreKinds-grow c.args.job.now c.args.bound c.args.tables.now.classes c.class_number.new.self.classes c.args.kinds.now _ c.requires.kinds c.class_number.ensures.grows.classes
-    (record { kinds = ([], c.in_err-push.ensures.items ∙ sym (append-nil c.args.kinds.now.kinds.items)); ends = c.push_outputs.ensures.ends; ranks = c.push_outputs.ensures.ranks }) refl
+    (record { columns = refl; kinds = ([], c.in_err-push.ensures.items ∙ sym (append-nil c.args.kinds.now.kinds.items)); ends = c.push_outputs.ensures.ends; ranks = c.push_outputs.ensures.ranks }) refl
 
 pub returns-clause-kind : goal.returns-clause-kind
 returns-clause-kind c =
     let (class, found, are) = c.in_ok-class.ensures.class in
-    let of : IsClassOf class c.push_outputs.new.scratch.silent.items c.push_outputs.new.scratch.writes.items c.push_outputs.new.scratch.needs.items =
+    let of : IsClassOf class c.enter.new.scratch.silent.items c.enter.new.scratch.writes.items c.enter.new.scratch.needs.items =
     rw (c.as_slice.ensures.value, c.as_slice-2.ensures.value, c.as_slice-3.ensures.value) at are in
     let number : c.in_ok-number.number ≡ length c.args.kinds.now.kinds.items = omega (arith, c.in_ok-number.ensures, c.len.ensures) in
     let base : c.len-base.result ≡ length c.args.kinds.now.ends.items = omega (arith, c.len-base.ensures) in
     let kind : Kind = record { class = c.in_ok-class.class; base = c.len-base.result } in (
       kind,
       (rw c.in_ok-push.ensures.items (stands_last c.args.kinds.now.kinds.items kind c.in_ok-number.number number)),
-      IsKind-of c.args.job.now c.args.bound c.class_number.new.self.classes c.push_outputs.new.ends.items c.push_outputs.new.ranks.items c.args.t kind (length c.args.kinds.now.ends.items) base
-          c.in_ok-push_outputs.ensures.row class found
-          (IsClassFor-of c.args.job.now c.args.bound c.args.t class c.push_outputs.new.scratch.silent.items c.push_outputs.new.scratch.writes.items c.push_outputs.new.scratch.needs.items of
-          c.in_ok-push_outputs.ensures.entered),
+      IsKind-of c.args.job.now c.args.bound c.class_number.new.self.classes c.args.kinds.now.columns c.push_outputs.new.ends.items c.push_outputs.new.ranks.items c.args.t kind (length c.args.kinds.now.ends.items) base
+          c.requires.kinds.columns_are c.in_ok-push_outputs.ensures.row class found
+          (IsClassFor-of c.args.job.now c.args.bound c.args.t class c.enter.new.scratch.silent.items c.enter.new.scratch.writes.items c.enter.new.scratch.needs.items of
+          c.in_ok-enter.ensures),
     )
 
 pub returns-clause-kinds : goal.returns-clause-kinds
@@ -66,28 +71,29 @@ returns-clause-kinds c =
     AreKinds-grow c.args.job.now c.args.bound c.args.tables.now.classes c.class_number.new.self.classes c.args.kinds.now c.args.kinds.now c.requires.kinds c.class_number.ensures.grows.classes
     (KindsGrow-nothing c.args.kinds.now) refl in
     AreKinds-more c.args.job.now c.args.bound c.class_number.new.self.classes c.args.kinds.now _ c.args.t c.in_ok-number.number grown
-    (record { kinds = (_, c.in_ok-push.ensures.items); ends = c.push_outputs.ensures.ends; ranks = c.push_outputs.ensures.ranks })
+    (record { columns = refl; kinds = (_, c.in_ok-push.ensures.items); ends = c.push_outputs.ensures.ends; ranks = c.push_outputs.ensures.ranks })
     (omega (arith, c.requires.item, c.requires.kinds.all)) refl (returns-clause-kind c)
 
 pub alike-requires-clause-kinds : goal.alike-requires-clause-kinds
 alike-requires-clause-kinds c =
     AreKinds-grow c.args.job.now c.args.bound c.args.tables.now.classes c.class_number.new.self.classes c.args.kinds.now _ c.requires.kinds c.class_number.ensures.grows.classes
-    (record { kinds = Extends-nothing c.args.kinds.now.kinds.items; ends = c.push_outputs.ensures.ends; ranks = c.push_outputs.ensures.ranks }) refl
+    (record { columns = refl; kinds = Extends-nothing c.args.kinds.now.kinds.items; ends = c.push_outputs.ensures.ends; ranks = c.push_outputs.ensures.ranks }) refl
 
 pub alike-requires-clause-kind : goal.alike-requires-clause-kind
 alike-requires-clause-kind c =
     let (class, found, are) = c.in_ok-class.ensures.class in
-    let of : IsClassOf class c.push_outputs.new.scratch.silent.items c.push_outputs.new.scratch.writes.items c.push_outputs.new.scratch.needs.items =
+    let of : IsClassOf class c.enter.new.scratch.silent.items c.enter.new.scratch.writes.items c.enter.new.scratch.needs.items =
     rw (c.as_slice.ensures.value, c.as_slice-2.ensures.value, c.as_slice-3.ensures.value) at are in
     let base : c.len-base.result ≡ length c.args.kinds.now.ends.items = omega (arith, c.len-base.ensures) in
-    IsKind-of c.args.job.now c.args.bound c.class_number.new.self.classes c.push_outputs.new.ends.items c.push_outputs.new.ranks.items c.args.t
-    (record { class = c.in_ok-class.class; base = c.len-base.result }) (length c.args.kinds.now.ends.items) base c.in_ok-push_outputs.ensures.row class found
-    (IsClassFor-of c.args.job.now c.args.bound c.args.t class c.push_outputs.new.scratch.silent.items c.push_outputs.new.scratch.writes.items c.push_outputs.new.scratch.needs.items of
-    c.in_ok-push_outputs.ensures.entered)
+    IsKind-of c.args.job.now c.args.bound c.class_number.new.self.classes c.args.kinds.now.columns c.push_outputs.new.ends.items c.push_outputs.new.ranks.items c.args.t
+    (record { class = c.in_ok-class.class; base = c.len-base.result }) (length c.args.kinds.now.ends.items) base c.requires.kinds.columns_are c.in_ok-push_outputs.ensures.row class found
+    (IsClassFor-of c.args.job.now c.args.bound c.args.t class c.enter.new.scratch.silent.items c.enter.new.scratch.writes.items c.enter.new.scratch.needs.items of
+    c.in_ok-enter.ensures)
 
 pub returns-in-Some-clause-kinds : goal.returns-in-Some-clause-kinds
 returns-in-Some-clause-kinds c =
     let kinds : Kinds = record {
+      columns = c.args.kinds.now.columns;
       numbers = c.args.kinds.now.numbers;
       kinds = c.args.kinds.now.kinds;
       ends = c.push_outputs.new.ends;
@@ -96,7 +102,7 @@ returns-in-Some-clause-kinds c =
     } in
     let grown : AreKinds c.args.job.now c.args.bound c.class_number.new.self.classes kinds =
     AreKinds-grow c.args.job.now c.args.bound c.args.tables.now.classes c.class_number.new.self.classes c.args.kinds.now kinds c.requires.kinds c.class_number.ensures.grows.classes
-    (record { kinds = Extends-nothing c.args.kinds.now.kinds.items; ends = c.push_outputs.ensures.ends; ranks = c.push_outputs.ensures.ranks }) refl in
+    (record { columns = refl; kinds = Extends-nothing c.args.kinds.now.kinds.items; ends = c.push_outputs.ensures.ends; ranks = c.push_outputs.ensures.ranks }) refl in
     AreKinds-more c.args.job.now c.args.bound c.class_number.new.self.classes kinds _ c.args.t c.in-Some.number grown
-    (record { kinds = Extends-nothing kinds.kinds.items; ends = Extends-nothing kinds.ends.items; ranks = Extends-nothing kinds.ranks.items })
+    (record { columns = refl; kinds = Extends-nothing kinds.kinds.items; ends = Extends-nothing kinds.ends.items; ranks = Extends-nothing kinds.ranks.items })
     (omega (arith, c.requires.item, c.requires.kinds.all)) refl c.in-Some.ensures

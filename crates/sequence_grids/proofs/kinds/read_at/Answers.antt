@@ -10,7 +10,9 @@ use Rattle.mine_model.specs.Numbered.{leaf_of}
 use Rattle.mine_model.specs.Generation.{Matches, MayWrite}
 use Rattle.fst_compile.specs.declared.edge.Label.{Label}
 use Rattle.fst_compile.specs.Transducer.{Transducer}
-use Rattle.sequence_grids.proofs.KindLemmas.{label_at, named_label, silent_reads, silent_writes, captured_silent, captured_writes}
+use Rattle.sequence_grids.proofs.KindLemmas.{label_at, named_label, silent_reads, silent_writes, captured_silent, captured_writes, held_by_sort, rising_by_sort}
+use Rattle.sequence_grids.specs.Grids.{WritesRank}
+use Rattle.std.proofs.lemmas.List.Sorted.{IsNonDecreasingBy-from_sort}
 use Rattle.sequence_grids.proofs.kinds.read_at.Goals as goal
 use Rattle.sequence_grids.proofs.kinds.read_at.Goals.{After-is_captured}
 
@@ -56,7 +58,16 @@ pub returns-clause-found : goal.returns-clause-found
 returns-clause-found c =
     let there = the_label (goal.at.returns-clause-found c).After-is_captured in
     let label : slice_get c.args.job.now.machine.labels (c.args.k - 1) ≡ Some (record { leaf = c.leaf-leaf.result; captured = true }) = rw c.if-not-is_captured.false at there in
-    captured_writes c.args.job.now c.args.bound c.args.t c.args.k c.leaf-leaf.result label c.outputs.new.out.items c.push_ranks.new.found.items
+    held_by_sort c.push_ranks.new.found.items c.sort_unstable.new.self.items (λ rank. WritesRank c.args.job.now c.args.bound c.args.t c.args.k rank) c.sort_unstable.ensures.permutation
+    (captured_writes c.args.job.now c.args.bound c.args.t c.args.k c.leaf-leaf.result label c.outputs.new.out.items c.push_ranks.new.found.items
     (subst (λ (h : Ancestry). (v : Item) → Contains c.outputs.new.out.items v ↔ (Matches h.links (leaf_of c.leaf-leaf.result) c.args.t × MayWrite h.links (leaf_of c.leaf-leaf.result) c.args.t v))
     c.hierarchy.ensures.hierarchy c.in_ok-matches.ensures.outputs)
-    (rw (c.as_slice.ensures.value, c.ranks.ensures.ranking) at c.in_ok-push_ranks.ensures.ranks)
+    (rw (c.as_slice.ensures.value, c.ranks.ensures.ranking) at c.in_ok-push_ranks.ensures.ranks))
+
+pub returns-clause-rising : goal.returns-clause-rising
+returns-clause-rising c =
+    rising_by_sort c.push_ranks.new.found.items c.sort_unstable.new.self.items c.in_ok-push_ranks.ensures.once c.sort_unstable.ensures.permutation
+    (IsNonDecreasingBy-from_sort (λ (n : ℕ). n) c.sort_unstable.new.self.items c.sort_unstable.ensures.sorted)
+
+pub returns-then-not-is_captured-clause-rising : goal.returns-then-not-is_captured-clause-rising
+returns-then-not-is_captured-clause-rising c = rw c.clear.ensures.items (λ i j d less within. absurd (omega arith))

@@ -2,11 +2,13 @@ use Rattle.std.proofs.Common.{map, ℕ, ◌≡◌, ◌∙◌, sym, ap, subst, So
 use Rattle.std.specs.List.{slice_get}
 use Rattle.std.proofs.lemmas.Result.{IfOk-weaker}
 use Rattle.sequence_grids.specs.Tables.{class_sets}
-use Rattle.sequence_grids.proofs.TableLemmas.{inserted, same_class, class_eq, slice_get-mapped_by}
+use Rattle.mine_model.proofs.ListLemmas.{AddsTo-inserted}
+use Rattle.mine_model.proofs.ElementLemmas.{slice_get-mapped_by}
+use Rattle.sequence_grids.proofs.TableLemmas.{same_class, class_eq}
 use Rattle.sequence_grids.proofs.table.class_in.Goals as goal
 
 pub returns-clause-grows : goal.returns-clause-grows
-returns-clause-grows g c = inserted (class_sets {W = g.row.W}) (class_eq {W = g.row.W}) c.args.classes.now.keys c.insert_full.new.self.keys c.args.class.now c.in_ok-index.ensures.keys
+returns-clause-grows g c = AddsTo-inserted (class_sets {W = g.row.W}) (class_eq {W = g.row.W}) c.args.classes.now.keys c.insert_full.new.self.keys c.args.class.now c.in_ok-index.ensures.keys
 
 pub returns-clause-there : goal.returns-clause-there
 returns-clause-there g c =

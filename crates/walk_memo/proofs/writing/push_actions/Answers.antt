@@ -32,6 +32,12 @@ has-more-requires g c =
     let width = c.requires.width in
     search rules
 
+pub has-unseen-requires : goal.has-unseen-requires
+has-unseen-requires g c =
+    let below = inside g (goal.at.has-unseen-requires g c).In-Some in
+    let width = c.requires.width in
+    search rules
+
 pub has-ends-requires : goal.has-ends-requires
 has-ends-requires g c =
     let below = inside g (goal.at.has-ends-requires g c).In-Some in
@@ -47,9 +53,9 @@ overflow_cast-state g c =
 pub loop-state-preserved : goal.loop-state-preserved
 loop-state-preserved g c =
     let move = move_sets {W = g.row.W} c.args.movement.now in
-    let action : Action = record { state = c.in-Some.state; more = c.has-more.result; ends = c.has-ends.result } in
+    let action : Action = record { state = c.in-Some.state; more = c.has-more.result; unseen = c.has-unseen.result; ends = c.has-ends.result } in
     let same : action ≡ action_of move c.in-Some.state =
-    rw (test_is c.has-more.result move.more c.in-Some.state c.has-more.ensures, test_is c.has-ends.result move.ends c.in-Some.state c.has-ends.ensures) refl in
+    rw (test_is c.has-more.result move.more c.in-Some.state c.has-more.ensures, test_is c.has-unseen.result move.unseen c.in-Some.state c.has-unseen.ensures, test_is c.has-ends.result move.ends c.in-Some.state c.has-ends.ensures) refl in
     written-more c.args.targets.now move c.loop-state.yielded c.loop-state.state-iterator c.next.new.self c.args.actions.now.items c.loop-state.actions.items c.push.new.self.items c.in-Some.state
     action c.loop-state.invariant c.in-Some.ensures.steps c.in_ok-push.ensures.items same
 

@@ -1,7 +1,7 @@
 use Rattle.std.proofs.Common.{◌≡◌, ◌+◌, ◌<◌, [], ◌∷◌, ◌++◌, length, ap, arith}
 use Rattle.mine_model.proofs.AncestryLemmas.{cut-more}
 use Rattle.std.proofs.lemmas.List.{length_push}
-use Rattle.item_names.proofs.TextLemmas.{length-names_in, names_in-push}
+use Rattle.mine_model.proofs.CutLemmas.{length-lists_in, lists_in-push}
 use Rattle.item_names.proofs.texts.Texts.push.Goals as goal
 
 ends : (c : goal.After-unwrap) → c.push.new.self.items ≡ c.self.inside.ends.items ++ c.len-end.result ∷ []
@@ -12,7 +12,7 @@ end c = let len = c.len-end.ensures in let more = c.in_ok-extend_from_slice.ensu
 
 few : (c : goal.After-unwrap) → length c.self.inside.ends.items < 1048576
 few c =
-    omega (arith, c.requires, length-names_in c.self.inside.ends.items c.self.inside.bytes.items, ap length c.self.view_is)
+    omega (arith, c.requires, length-lists_in c.self.inside.ends.items c.self.inside.bytes.items, ap length c.self.view_is)
 
 pub invariant_of-self-2 : goal.invariant_of-self-2
 invariant_of-self-2 c =
@@ -24,4 +24,4 @@ invariant_of-self-2 c =
 pub returns-clause-ok : goal.returns-clause-ok
 returns-clause-ok c =
     rw (ends c, c.in_ok-extend_from_slice.ensures.items, ← c.self.view_is)
-    (names_in-push c.self.inside.ends.items c.self.inside.bytes.items c.args.name.now c.len-end.result (end c) c.self.invariant.1)
+    (lists_in-push c.self.inside.ends.items c.self.inside.bytes.items c.args.name.now c.len-end.result (end c) c.self.invariant.1)

@@ -1,6 +1,6 @@
 use Rattle.std.proofs.Common.{length, ap, arith}
 use Rattle.pattern_counts.specs.Lists.{Shelf}
-use Rattle.pattern_counts.proofs.ListsLemmas.{length-lists_in}
+use Rattle.mine_model.proofs.CutLemmas.{length-lists_in}
 use Rattle.pattern_counts.proofs.lists.Lists.len.Goals as goal
 
 pub returns : goal.returns

@@ -4,7 +4,8 @@ use Rattle.std.proofs.lemmas.List.{get_or_default}
 use Rattle.mine_model.specs.Ancestry.{start_of}
 use Rattle.mine_model.proofs.AncestryLemmas.{end_within}
 use Rattle.pattern_counts.specs.Lists.{Shelf}
-use Rattle.pattern_counts.proofs.ListsLemmas.{length-lists_in, list_read}
+use Rattle.mine_model.proofs.CutLemmas.{length-lists_in}
+use Rattle.pattern_counts.proofs.ListsLemmas.{list_read}
 use Rattle.pattern_counts.proofs.lists.Lists.list.Goals as goal
 use Rattle.pattern_counts.proofs.lists.Lists.list.Goals.{After-as_slice, After-deref}
 

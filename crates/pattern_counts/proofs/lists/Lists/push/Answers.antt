@@ -1,7 +1,8 @@
 use Rattle.std.proofs.Common.{◌≡◌, ◌+◌, ◌<◌, ◌≤◌, ◌++◌, length, vec_len, ap, arith}
 use Rattle.mine_model.proofs.AncestryLemmas.{cut-more}
 use Rattle.pattern_counts.specs.Lists.{Shelf, ranks_of}
-use Rattle.pattern_counts.proofs.ListsLemmas.{length-lists_in, lists_in-push, ranks_of-lists_in}
+use Rattle.mine_model.proofs.CutLemmas.{length-lists_in, lists_in-push}
+use Rattle.pattern_counts.proofs.ListsLemmas.{ranks_of-lists_in}
 use Rattle.pattern_counts.proofs.lists.Lists.push.Goals as goal
 
 pub push_reserved-requires : goal.push_reserved-requires

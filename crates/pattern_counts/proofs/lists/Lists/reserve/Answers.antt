@@ -1,6 +1,7 @@
 use Rattle.std.proofs.Common.{length, arith}
 use Rattle.mine_model.specs.Ancestry.{AreCut}
-use Rattle.pattern_counts.proofs.ListsLemmas.{length-lists_in, ranks_of-lists_in}
+use Rattle.mine_model.proofs.CutLemmas.{length-lists_in}
+use Rattle.pattern_counts.proofs.ListsLemmas.{ranks_of-lists_in}
 use Rattle.pattern_counts.proofs.lists.Lists.reserve.Goals as goal
 
 pub returns-clause-room_for_lists : goal.returns-clause-room_for_lists

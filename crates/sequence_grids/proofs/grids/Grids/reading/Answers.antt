@@ -1,12 +1,13 @@
-use Rattle.std.proofs.Common.{rules, ◌≡◌, ◌∙◌, ◌+◌, ◌<◌, ap, arith, Some, length, drop}
-use Rattle.std.specs.List.{slice_get}
+use Rattle.std.proofs.Common.{rules, ◌≡◌, ◌∙◌, ◌+◌, ◌<◌, ℕ, ap, arith, Some, length, drop}
+use Rattle.std.specs.List.{slice_get, slice_index}
 use Rattle.std.proofs.lemmas.Option.{slice_get_within, get_or_from_slice_get}
 use Rattle.mine_model.specs.declared.item.Item.{Item}
 use Rattle.sequence_grids.specs.declared.kinds.Kind.{Kind}
 use Rattle.sequence_grids.specs.Grids.{items_at}
 use Rattle.sequence_grids.specs.Kinds.{HasKind}
 use Rattle.sequence_grids.specs.Places.{IsPlaceAt}
-use Rattle.sequence_grids.proofs.GridLemmas.{at_end, at_place, the_place, states_are, both_ways, item_there}
+use Rattle.sequence_grids.proofs.GridLemmas.{at_end, at_place, the_place, states_are, columns_of, both_ways, item_there}
+use Rattle.sequence_grids.proofs.KindLemmas.{once_by_rising}
 use Rattle.sequence_grids.proofs.ReadingLemmas.{row_inside, row_end, row_start}
 use Rattle.sequence_grids.proofs.grids.Grids.reading.Goals as goal
 use Rattle.sequence_grids.proofs.grids.Grids.reading.Goals.{After-place_of-place, After-place_behind-behind}
@@ -56,7 +57,7 @@ ends_from-requires c =
     let same : c.index-kind.result.now ≡ kind = c.index-kind.ensures ∙ get_or_from_slice_get c.self.inside.kinds.kinds.items c.place_of-place.result.kind kind c.index-kind.result.now found in
     let base : c.index-kind.result.now.base ≡ kind.base = ap (λ (k : Kind). k.base) same in
     let room = is.room in
-    rw c.as_slice-5.ensures.value (omega (arith, base, room))
+    rw c.as_slice-6.ensures.value (omega (arith, base, room))
 
 pub returns : goal.returns
 returns c t there k least most =
@@ -71,11 +72,13 @@ returns c t there k least most =
     let inside : k < length c.self.inside.tables.predecessors = omega (arith, states, most) in
     let cell = is.cells k (least, most) in
     let row : c.ends_from.result.now ≡ drop kind.base c.self.inside.kinds.ends.items =
-    c.ends_from.ensures ∙ ap (λ (k : Kind). drop k.base c.as_slice-5.result.now) same ∙ ap (drop kind.base) c.as_slice-5.ensures.value in
-    let start = row_start c.self.inside.kinds.ends.items c.ends_from.result.now kind.base k row least in
-    let end = row_end c.self.inside.kinds.ends.items c.ends_from.result.now kind.base k row in
-    let within = row_inside c.self.inside.kinds.ends.items c.ends_from.result.now kind.base k row in
-    let room = is.room in
+    c.ends_from.ensures ∙ ap (λ (k : Kind). drop k.base c.as_slice-6.result.now) same ∙ ap (drop kind.base) c.as_slice-6.ensures.value in
+    let columns = columns_of c.args.self.now c.self.inside.job.now c.self.inside.bound c.self.inside.tables c.self.inside.kinds c.self.inside.places.items c.self.inside.ends.items c.self.inside.sequences.items c.self.view_is c.self.invariant c.args.grid c.args.pos c.requires.grid (omega (arith, c.requires.pos)) in
+    let all = columns.all in
+    let column : ℕ = slice_index c.self.inside.kinds.columns.numbers.items k in
+    let start = row_start c.self.inside.kinds.ends.items c.ends_from.result.now kind.base column row in
+    let end = row_end c.self.inside.kinds.ends.items c.ends_from.result.now kind.base column row in
+    let within = row_inside c.self.inside.kinds.ends.items c.ends_from.result.now kind.base column row in
     record {
       silent = both_ways (of_class.silent k inside) (right.silent k (least, most));
       writing = both_ways (of_class.writing k inside) (right.writes k (least, most));
@@ -83,11 +86,13 @@ returns c t there k least most =
       unseen = both_ways (of_triple.unseen k inside) (behind.unseen k most);
       ending = both_ways (of_triple.ending k inside) (behind.ends k most);
       kept = record {
-        start = least;
-        inside = within (omega (arith, room, most));
-        forward = rw (start, end) cell.forward;
-        within = rw (end, c.as_slice-6.ensures.value) cell.within;
+        state = rw c.as_slice-5.ensures.value (omega (arith, all, most));
+        column = rw c.as_slice-5.ensures.value (record {
+          inside = within cell.inside.room;
+          forward = rw (start, end) cell.inside.forward;
+          within = rw (end, c.as_slice-7.ensures.value) cell.inside.within;
+        });
       };
-      outputs = rw (start, end, c.as_slice-6.ensures.value) cell.outputs;
-      once = rw (start, end, c.as_slice-6.ensures.value) cell.once;
+      outputs = rw (c.as_slice-5.ensures.value, start, end, c.as_slice-7.ensures.value) cell.outputs;
+      once = rw (c.as_slice-5.ensures.value, start, end, c.as_slice-7.ensures.value) (once_by_rising _ cell.rising);
     }

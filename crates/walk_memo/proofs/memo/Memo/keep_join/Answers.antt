@@ -1,7 +1,8 @@
-use Rattle.std.proofs.Common.{◌≡◌, ◌<◌, ◌⊎◌, ℕ, sym, subst, List, Some}
+use Rattle.std.proofs.Common.{◌≡◌, ◌<◌, ◌⊎◌, ℕ, sym, subst, List, map, Some}
 use Rattle.std.specs.List.{slice_get}
 use Rattle.walk_memo.specs.declared.cells.Cells.{Cells}
 use Rattle.walk_memo.specs.Cells.{HasCell}
+use Rattle.walk_memo.specs.Moves.{move_sets}
 use Rattle.walk_memo.specs.Memos.{MemoValue, IsJoined}
 use Rattle.walk_memo.specs.Kept.{IsMemo, IsJoinAt}
 use Rattle.walk_memo.proofs.MemoLemmas.{IsMemo-keep_join}
@@ -11,7 +12,7 @@ use Rattle.walk_memo.proofs.memo.Memo.keep_join.Goals.{After-keep}
 
 module _ (g : Over) (c : After-keep g) where
   abbrev memo : MemoValue
-  memo = record { rows = c.self.inside.rows.now; moves = c.self.inside.moves.now; sets = c.self.inside.sets.keys; actions = c.self.inside.actions.items }
+  memo = record { rows = c.self.inside.rows.items; moves = map (move_sets {W = g.row.W}) c.self.inside.moves.items; sets = c.self.inside.sets.keys; actions = c.self.inside.actions.items }
 
   right : IsJoinAt memo c.args.number c.args.state c.args.joined
   right = record {

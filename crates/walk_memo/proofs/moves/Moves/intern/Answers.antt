@@ -1,14 +1,17 @@
 use Rattle.std.proofs.Common.{map, ◌≢◌, ℕ, ◌≡◌, ◌∙◌, sym, ap, subst, Some, List}
 use Rattle.std.specs.List.{slice_get, AllPairs}
 use Rattle.std.proofs.lemmas.Result.{IfOk-weaker}
-use Rattle.walk_memo.specs.Moves.{MoveSets, move_sets, AddsTo}
-use Rattle.walk_memo.proofs.MemoLemmas.{inserted, same_move, move_eq, slice_get-mapped_by, moves_once}
+use Rattle.mine_model.specs.Lists.{AddsTo}
+use Rattle.mine_model.proofs.ListLemmas.{AddsTo-inserted}
+use Rattle.mine_model.proofs.ElementLemmas.{slice_get-mapped_by}
+use Rattle.walk_memo.specs.Moves.{MoveSets, move_sets}
+use Rattle.walk_memo.proofs.MemoLemmas.{same_move, move_eq, moves_once}
 use Rattle.walk_memo.proofs.moves.Moves.intern.Goals as goal
 
 pub returns-clause-grows : goal.returns-clause-grows
 returns-clause-grows g c =
     subst (λ (moves : List MoveSets). AddsTo moves (move_sets {W = g.row.W} c.args.movement.now) (map (move_sets {W = g.row.W}) c.insert_full.new.self.keys)) c.self.view_is
-    (inserted (move_sets {W = g.row.W}) (move_eq {W = g.row.W}) c.self.inside.moves.keys c.insert_full.new.self.keys c.args.movement.now c.in_ok-index.ensures.keys)
+    (AddsTo-inserted (move_sets {W = g.row.W}) (move_eq {W = g.row.W}) c.self.inside.moves.keys c.insert_full.new.self.keys c.args.movement.now c.in_ok-index.ensures.keys)
 
 pub returns-clause-number : goal.returns-clause-number
 returns-clause-number g c =

@@ -1,0 +1,17 @@
+pub mod ZipLemmas
+pub mod OrderLemmas
+pub mod AutomatonLemmas
+pub mod CountLemmas
+pub mod MergeLemmas
+pub mod HeldLemmas
+pub mod RegistryLemmas
+pub mod PivotLemmas
+pub mod WalkLemmas
+pub mod LanguageLemmas
+pub mod SearchLemmas
+pub mod NumberLemmas
+pub mod VisitLemmas
+pub mod ExistenceLemmas
+pub mod WorkedRows
+pub mod CodedLemmas
+pub mod WorkLemmas

@@ -1,0 +1,8 @@
+use Rattle.std.proofs.Common.{List, subst}
+use Rattle.std.specs.List.{Contains}
+use Rattle.mine_model.specs.declared.row.Row.{Row}
+use Rattle.layer_tests.proofs.proving.written.Goals as goal
+
+pub new-requires-clause-frequent : goal.new-requires-clause-frequent
+new-requires-clause-frequent c = λ row has.
+    (c.in_ok-mined.ensures.frequent.frequent row).0 (subst (λ (rows : List Row). Contains rows row) c.as_slice-2.ensures.value has)

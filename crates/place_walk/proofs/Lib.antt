@@ -1,0 +1,5 @@
+pub mod StandLemmas
+pub mod VisitLemmas
+pub mod JoinLemmas
+pub mod WayLemmas
+pub mod GroupLemmas

@@ -1,0 +1,7 @@
+-- the words of the promise
+pub mod Courses
+pub mod Stands
+pub mod Visits
+pub mod Groups
+-- what the proofs keep
+pub mod Ways

@@ -1,0 +1,158 @@
+-- What was read of a piece by names of its own becomes a part of all.
+use Rattle.std.proofs.Common.{◌≡◌, ℕ, ◌+◌, ◌≤◌, ◌<◌, Bool, List, [], ◌∷◌, ◌++◌, map, length, get_or, inl, inr, refl, sym, ap, ◌∙◌, subst, arith, length-append}
+use Rattle.std.specs.List.{AllByRecursion, AllZip, Contains, flat_map}
+use Rattle.std.proofs.lemmas.List.{map-append, append-nil, length-map, get_or-map}
+use Rattle.std.proofs.lemmas.List.Concat.{flat_map-append}
+use Rattle.std.proofs.lemmas.List.Elements.{Contains-get_or, Contains-append_left, Contains-append_right, Contains-append_cases}
+use Rattle.mine_model.specs.declared.item.Item.{Item}
+use Rattle.mine_model.specs.Limits.{most_sequences, most_items}
+use Rattle.mine_model.specs.Text.{fields_of}
+use Rattle.mine_model.specs.Support.{Sequence}
+use Rattle.mine_model.specs.Names.{name_of, HasName, sequence_by, GrowBy}
+use Rattle.mine_model.specs.Refusal.{sequence_of}
+use Rattle.mine_model.proofs.ListLemmas.{of_both, AllByRecursion-contained}
+use Rattle.mine_model.proofs.NameLemmas.{GrowBy-more}
+use Rattle.item_names.specs.Fields.{AreItemsOf}
+use Rattle.text_ports.specs.Scanning.{lines_behind}
+use Rattle.sequence_reader.specs.declared.reading.Reading.{Reading}
+use Rattle.sequence_reader.specs.Taking.{IsGoodLine, IsTaken, renumbered}
+use Rattle.sequence_reader.proofs.TakingLemmas.{items_of-append, counted, sequences-grown, named-grown}
+
+-- names that grow by names grow by any others that are the same among them
+GrowBy-same : (old some others new : List (List ℕ)) → GrowBy old some new → GrowBy [] others some → GrowBy old others new
+GrowBy-same old some others new grown same = record {
+  added = grown.added;
+  behind = grown.behind;
+  exact = λ name. (λ inside. forth name ((grown.exact name).0 inside), λ inside. (grown.exact name).1 (back name inside));
+}
+  where
+    forth : (name : List ℕ) → Contains (old ++ some) name → Contains (old ++ others) name
+    forth name inside = elim (Contains-append_cases old some name inside) [
+      | inl here ↦ Contains-append_left old others name here
+      | inr there ↦ Contains-append_right old others name ((same.exact name).0 there)
+    ]
+
+    back : (name : List ℕ) → Contains (old ++ others) name → Contains (old ++ some) name
+    back name inside = elim (Contains-append_cases old others name inside) [
+      | inl here ↦ Contains-append_left old some name here
+      | inr there ↦ Contains-append_right old some name ((same.exact name).1 there)
+    ]
+
+-- Items whose new numbers have the names of the old ones
+
+module _ (names own : List (List ℕ)) (numbers : List Item) (are : AreItemsOf names numbers own) where
+  as_many : length numbers ≡ length own
+  as_many = sym (length-map numbers (name_of names)) ∙ ap length are.said
+
+  item-named : (item : Item) → HasName own item → HasName names (renumbered numbers item)
+  item-named item has =
+      AllByRecursion-contained (HasName names) numbers (renumbered numbers item) are.named (Contains-get_or numbers item.0 _ (let size = as_many in omega (arith, has, size)))
+
+  item-said : (item : Item) → HasName own item → name_of names (renumbered numbers item) ≡ name_of own item
+  item-said item has =
+      sym (get_or-map (name_of names) numbers item.0 _ [] (let size = as_many in omega (arith, has, size))) ∙ ap (λ (w : List (List ℕ)). get_or w item.0 []) are.said
+
+  items-named : (items : List Item) → AllByRecursion (HasName own) items → AllByRecursion (HasName names) (map (renumbered numbers) items)
+  items-named [] named = tt
+  items-named (item ∷ items) named = (item-named item named.0, items-named items named.1)
+
+  items-said : (items : List Item) → AllByRecursion (HasName own) items → map (name_of names) (map (renumbered numbers) items) ≡ map (name_of own) items
+  items-said [] named = refl
+  items-said (item ∷ items) named =
+      let first = item-said item named.0 in
+      let others = items-said items named.1 in
+      cc (first, others)
+
+  sequences-named : (sequences : List (Sequence Item)) → AllByRecursion (λ sequence. AllByRecursion (HasName own) sequence.items) sequences
+      → AllByRecursion (λ sequence. AllByRecursion (HasName names) sequence.items) (map (sequence_by (renumbered numbers)) sequences)
+  sequences-named [] named = tt
+  sequences-named (sequence ∷ sequences) named = (items-named sequence.items named.0, sequences-named sequences named.1)
+
+  sequences-said : (sequences : List (Sequence Item)) → AllByRecursion (λ sequence. AllByRecursion (HasName own) sequence.items) sequences
+      → map (sequence_by (name_of names)) (map (sequence_by (renumbered numbers)) sequences) ≡ map (sequence_by (name_of own)) sequences
+  sequences-said [] named = refl
+  sequences-said (sequence ∷ sequences) named =
+      let first : sequence_by (name_of names) (sequence_by (renumbered numbers) sequence) ≡ sequence_by (name_of own) sequence =
+      ap (λ (w : List (List ℕ)). record { items = w; weight = sequence.weight }) (items-said sequence.items named.0) in
+      let others = sequences-said sequences named.1 in
+      cc (first, others)
+
+  pub items-within : (sequences : List (Sequence Item)) → AllByRecursion (λ sequence. AllByRecursion (HasName own) sequence.items) sequences
+      → AllByRecursion (λ sequence. AllByRecursion (λ item. item.0 < length numbers) sequence.items) sequences
+  items-within sequences named =
+      subst (λ n. AllByRecursion (λ (sequence : Sequence Item). AllByRecursion (λ (item : Item). item.0 < n) sequence.items) sequences) (sym as_many) named
+
+-- the sequences of a piece, renumbered, behind those before it
+pub IsTaken-joined : (known : List (List ℕ)) (weighted : Bool) (earlier lines : List (List ℕ)) (all piece new : Reading) (numbers : List Item)
+    → IsTaken known weighted earlier all → IsTaken [] weighted lines piece → AreItemsOf new.names numbers piece.names → GrowBy all.names piece.names new.names
+    → length new.names ≤ most_items → new.db ≡ all.db ++ map (sequence_by (renumbered numbers)) piece.db → new.weighted ≡ all.weighted
+    → length all.db + length piece.db ≤ most_sequences → IsTaken known weighted (earlier ++ lines) new
+IsTaken-joined known weighted earlier lines all piece new numbers taken own are grown room joined same few = record {
+  same = same ∙ taken.same;
+  good = of_both (IsGoodLine weighted) earlier lines taken.good own.good;
+  few =
+      let first = counted known weighted earlier all taken in
+      let second = counted [] weighted lines piece own in
+      let both = length-append earlier lines in
+      omega (arith, first, second, both, few);
+  grown =
+      subst (λ items. GrowBy known items new.names) (sym (items_of-append weighted earlier lines))
+      (GrowBy-more known _ all.names _ new.names taken.grown (GrowBy-same all.names piece.names _ new.names grown own.grown));
+  room = room;
+  named =
+      subst (AllByRecursion (λ (sequence : Sequence Item). AllByRecursion (HasName new.names) sequence.items)) (sym joined)
+      (of_both (λ (sequence : Sequence Item). AllByRecursion (HasName new.names) sequence.items) all.db (map (sequence_by (renumbered numbers)) piece.db)
+      (named-grown all.names _ new.names all.db grown taken.named) (sequences-named new.names piece.names numbers are piece.db own.named));
+  said =
+      ap (map (sequence_by (name_of new.names))) joined
+      ∙ map-append (sequence_by (name_of new.names)) all.db (map (sequence_by (renumbered numbers)) piece.db)
+      ∙ (λ j. (sequences-grown all.names _ new.names all.db grown taken.named ∙ taken.said) j ++ (sequences-said new.names piece.names numbers are piece.db own.named ∙ own.said) j)
+      ∙ sym (map-append (λ line. sequence_of weighted (fields_of line)) earlier lines);
+}
+
+-- Pieces, one after another
+
+-- the last of two lists that go together
+AllZip-last : {X Y : Type 0} (R : X → Y → Type 0) (xs : List X) (ys : List Y) (y : Y) → AllZip R xs (ys ++ y ∷ [])
+    → (front : List X) × (x : X) × (xs ≡ front ++ x ∷ []) × AllZip R front ys × R x y
+AllZip-last R [] [] y zip = absurd zip
+AllZip-last R (x ∷ []) [] y zip = ([], x, refl, tt, zip.0)
+AllZip-last R (x ∷ z ∷ xs) [] y zip = absurd zip.1
+AllZip-last R [] (w ∷ ys) y zip = absurd zip
+AllZip-last R (x ∷ xs) (w ∷ ys) y zip =
+    let (front, last, is, others, own) = AllZip-last R xs ys y zip.1 in
+    (x ∷ front, last, ap (λ l. x ∷ l) is, (zip.0, others), own)
+
+pub pieces-none : (known : List (List ℕ)) (weighted : Bool) (v : Reading) → IsTaken known weighted [] v → (texts : List (List ℕ))
+    → AllZip (λ text reading. IsTaken [] weighted (lines_behind text) reading) texts [] → IsTaken known weighted (flat_map lines_behind texts) v
+pieces-none known weighted v start [] zip = start
+pieces-none known weighted v start (text ∷ texts) zip = absurd zip
+
+pub pieces-more : (known : List (List ℕ)) (weighted : Bool) (seen : List Reading) (v piece w : Reading)
+    → ((texts : List (List ℕ)) → AllZip (λ text reading. IsTaken [] weighted (lines_behind text) reading) texts seen → IsTaken known weighted (flat_map lines_behind texts) v)
+    → ((earlier lines : List (List ℕ)) → IsTaken known weighted earlier v → IsTaken [] weighted lines piece → IsTaken known weighted (earlier ++ lines) w)
+    → (texts : List (List ℕ)) → AllZip (λ text reading. IsTaken [] weighted (lines_behind text) reading) texts (seen ++ piece ∷ []) → IsTaken known weighted (flat_map lines_behind texts) w
+pieces-more known weighted seen v piece w so_far step texts zip =
+    let (front, text, is, others, own) = AllZip-last (λ (text : List ℕ) (reading : Reading). IsTaken [] weighted (lines_behind text) reading) texts seen piece zip in
+    let whole : flat_map lines_behind texts ≡ flat_map lines_behind front ++ lines_behind text =
+    ap (flat_map lines_behind) is ∙ flat_map-append lines_behind front (text ∷ []) ∙ ap (λ w. flat_map lines_behind front ++ w) (append-nil (lines_behind text)) in
+    subst (λ lines. IsTaken known weighted lines w) (sym whole) (step (flat_map lines_behind front) (lines_behind text) (so_far front others) own)
+
+-- the items of each piece have names
+pub pieces-named : {X : Type 0} (weighted : Bool) (lines : X → List (List ℕ)) (pieces : List X) (readings : List Reading) → AllZip (λ piece reading. IsTaken [] weighted (lines piece) reading) pieces readings
+    → AllByRecursion (λ reading. AllByRecursion (λ sequence. AllByRecursion (HasName reading.names) sequence.items) reading.db) readings
+pieces-named weighted lines pieces [] zip = tt
+pieces-named weighted lines [] (reading ∷ readings) zip = absurd zip
+pieces-named weighted lines (piece ∷ pieces) (reading ∷ readings) zip = (zip.0.named, pieces-named weighted lines pieces readings zip.1)
+
+-- pieces by their bytes
+pub pieces-bytes : {X : Type 0} (bytes : X → List ℕ) (R : List ℕ → Reading → Type 0) (pieces : List X) (readings : List Reading) → AllZip (λ piece reading. R (bytes piece) reading) pieces readings
+    → AllZip R (map bytes pieces) readings
+pieces-bytes bytes R [] [] zip = tt
+pieces-bytes bytes R [] (reading ∷ readings) zip = absurd zip
+pieces-bytes bytes R (piece ∷ pieces) [] zip = absurd zip
+pieces-bytes bytes R (piece ∷ pieces) (reading ∷ readings) zip = (zip.0, pieces-bytes bytes R pieces readings zip.1)
+
+pub lines-bytes : {X : Type 0} (bytes : X → List ℕ) (pieces : List X) → flat_map lines_behind (map bytes pieces) ≡ flat_map (λ piece. lines_behind (bytes piece)) pieces
+lines-bytes bytes [] = refl
+lines-bytes bytes (piece ∷ pieces) = ap (λ w. lines_behind (bytes piece) ++ w) (lines-bytes bytes pieces)

@@ -1,0 +1,8 @@
+-- the words of the promise
+pub mod Aims
+pub mod Writings
+pub mod Sequences
+pub mod Sums
+pub mod Files
+-- what the proofs keep
+pub mod Kept

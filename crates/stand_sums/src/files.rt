@@ -1,0 +1,108 @@
+ghost use Rattle.std.specs.Prelude.{◌≡◌, ℕ, ◌<◌, List, [], Some, map, length, slice_get, slice_range, All, AllPairs, IfOk, OnOk, OnErr};
+ghost use Rattle.place_walk.specs.declared.visit.Visit.{Visit as Visited};
+ghost use Rattle.stand_sums.specs.Writings.{IsReadable};
+ghost use Rattle.stand_sums.specs.Sequences.{AreSequences};
+ghost use Rattle.stand_sums.specs.Sums.{AreLaidOut};
+ghost use Rattle.stand_sums.specs.Files.{Filed, unfiled, with_more, HasRoom, IsFull};
+
+use super::aim::Aim;
+use super::filing::{file_all, run_end, shelves_for};
+use super::next_rank::NextRank;
+use super::outputs::Outputs;
+use super::shelf::Shelf;
+use mine_model::NoMemory;
+use place_walk::{Stand, Visit};
+use std::alloc::Global;
+use std::marker::Model;
+
+/// A worker's room for stands by rank. A contract sees up to which rank there is room, and what is filed of
+/// each rank. The stands of all ranks lie in one run, those of each at its own places.
+#[derive(Drop)]
+pub struct Files {
+    // Where the shelf of each rank is. It counts only where that shelf has the rank, so none is cleared.
+    places: Vec<u32>,
+    shelves: Vec<Shelf>,
+    run: Vec<Stand>,
+}
+
+impl Model for Files {
+    ghost use Rattle.std.specs.Prelude.{length, map};
+    ghost use Rattle.stand_sums.specs.Files.{FilesValue};
+    ghost use Rattle.stand_sums.specs.Kept.{filed_in, AreFiles};
+
+    ghost Value = { FilesValue };
+
+    ghost view = { λ f. record {
+      room = length f.places.items;
+      filed = map (filed_in f.run.items) f.shelves.items;
+    } };
+
+    ghost invariant = { λ f. AreFiles f.places.items f.shelves.items f.run.items };
+}
+
+impl Files {
+    /// Nothing is filed, with room for so many ranks, 0 among them.
+    pub fn new(alloc: Global, ranks: usize) -> Result<Files, NoMemory>
+        ensures { IfOk result (λ files. files ≡ record { room = ranks; filed = [] }) }
+    {
+        Ok(Files {
+            places: vec![in alloc; 0; ranks]?,
+            shelves: Vec::new(alloc),
+            run: Vec::new(alloc),
+        })
+    }
+
+    /// Begins a run with the places of these ranks.
+    pub fn begin(&mut self, alloc: Global, next: &[NextRank]) -> Result<(), NoMemory>
+        requires rising { AllPairs (λ low high. low.rank < high.rank) next.now }
+        requires within { All (λ n. n.rank < self.old.room) next.now }
+        requires places { (end : ℕ) × AreLaidOut 0 next.now end }
+        ensures room { self.new.room ≡ self.old.room }
+        ensures begun { OnOk result (self.new.filed ≡ map unfiled next.now) }
+        ensures none { OnErr result (self.new.filed ≡ []) }
+    {
+        self.shelves.clear();
+        let end = run_end(next);
+        self.run = vec![in alloc; NOWHERE; end]?;
+        shelves_for(next, &mut self.places, &mut self.shelves)
+    }
+
+    /// Files the visits of some whole sequences behind what was filed, for each rank that has places: behind
+    /// each visit that writes the rank and goes on, where it stands.
+    pub fn file<T: Outputs>(&mut self, table: &T, aim: Aim, visits: &[Visit])
+        requires readable { All (IsReadable (T.ranks table.now) (T.CanAsk table.now) self.old.room)
+            visits.now }
+        requires room { All (HasRoom (T.ranks table.now) aim visits.now) self.old.filed }
+        ensures room { self.new.room ≡ self.old.room }
+        ensures filed { (sequences : List (List Visited)) → AreSequences visits.now sequences
+            → self.new.filed ≡ map (with_more (T.ranks table.now) aim sequences) self.old.filed }
+    {
+        file_all(
+            table,
+            aim,
+            visits,
+            self.places.as_slice(),
+            &mut self.shelves,
+            &mut self.run,
+        )
+    }
+
+    /// The run, in which each rank has its stands at its places. Nothing is filed then.
+    pub fn finish(&mut self, alloc: Global) -> Vec<Stand>
+        requires full { All IsFull self.old.filed }
+        ensures room { self.new.room ≡ self.old.room }
+        ensures empty { self.new.filed ≡ [] }
+        ensures stands { All (λ filed. slice_range result.items filed.first filed.last ≡ filed.stands)
+            self.old.filed }
+    {
+        self.shelves.clear();
+        std::mem::replace(&mut self.run, Vec::new(alloc))
+    }
+}
+
+// What stands at a place where none was filed.
+const NOWHERE: Stand = Stand {
+    place: 0,
+    state: 0,
+    first: false,
+};

@@ -1,0 +1,2 @@
+-- what the proofs keep
+pub mod Records

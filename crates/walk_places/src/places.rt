@@ -1,0 +1,96 @@
+//! Records by place.
+
+ghost use Rattle.std.specs.Prelude.{◌≡◌, ◌*◌, ◌+◌, ◌<◌, ◌^◌, ◌↔◌, [], ◌∷◌, ◌++◌, length, slice_get, Some, IsTrue, OnOk, OnErr};
+ghost use Rattle.walk_places.specs.Records.{record_of, Fits};
+
+use mine_model::NoMemory;
+use std::alloc::Global;
+use std::marker::Model;
+
+/// What a walk meets at a place: the kind of the item there, and the number of what the place does.
+#[derive(Clone, Copy, Debug, PartialEq, Eq)]
+pub struct Record {
+    pub kind: u32,
+    pub of: u32,
+}
+
+/// Records by place. A contract sees the list of them. A record takes four bytes up to the first one that
+/// does not fit into them, and eight from there on.
+#[derive(Drop)]
+pub struct Places {
+    codes: Vec<u32>,
+    rest: Vec<Record>,
+}
+
+impl Model for Places {
+    ghost use Rattle.std.specs.Prelude.{List, ◌++◌, map};
+    ghost use Rattle.walk_places.specs.declared.places.Record.{Record};
+    ghost use Rattle.walk_places.specs.Records.{record_of};
+
+    ghost Value = { List Record };
+
+    ghost view = { λ p. map record_of p.codes.items ++ p.rest.items };
+}
+
+impl Places {
+    /// No places.
+    pub fn new(alloc: Global) -> Places
+        ensures { result ≡ [] }
+    {
+        Places {
+            codes: Vec::new(alloc),
+            rest: Vec::new(alloc),
+        }
+    }
+
+    /// How many places there are.
+    pub fn len(&self) -> usize
+        ensures { result ≡ length self.now }
+    {
+        self.codes.len() + self.rest.len()
+    }
+
+    /// The record at the place.
+    #[inline]
+    pub fn get(&self, place: u32) -> Record
+        requires { place < length self.now }
+        ensures { slice_get self.now place ≡ Some result }
+    {
+        let place = place as usize;
+        match self.codes.get(place) {
+            Some(code) => decoded(*code),
+            None => self.rest[place - self.codes.len()],
+        }
+    }
+
+    /// Adds a place behind the others.
+    pub fn push(&mut self, entry: Record) -> Result<(), NoMemory>
+        ensures pushed { OnOk result (self.new ≡ self.old ++ entry ∷ []) }
+        ensures same { OnErr result (self.new ≡ self.old) }
+    {
+        if self.rest.is_empty() && fits(entry) {
+            self.codes.push(entry.kind * 4096 + entry.of)?;
+        } else {
+            self.rest.push(entry)?;
+        }
+        Ok(())
+    }
+}
+
+// Whether the kind fits into 20 bits and the number into 12.
+fn fits(entry: Record) -> bool
+    ensures { IsTrue result ↔ Fits entry }
+{
+    entry.kind < 1 << 20 && entry.of < 1 << 12
+}
+
+// The record of a code.
+#[inline]
+fn decoded(code: u32) -> Record
+    ensures { result ≡ record_of code }
+{
+    Record {
+        kind: code / 4096,
+        of: code % 4096,
+    }
+}
