@@ -56,8 +56,10 @@ rows.hold("parallel, a share that fails: no answer", first[0] not in (0, None) a
 rows.hold("parallel, the share alone is run again",
           typed([f"{HERE}/parallel.sh", "3", f"{WORK}/lost", "3", *WORDS]) == (0, answer, ["2"]))
 
-# The same over hosts, with a command in the place of ssh that notes the host and runs what it is given here.
+# The same over hosts, with a command in the place of ssh that notes the host and runs what it is given here, with the SHELL
+# that a login sets.
 HOST = """#!/bin/sh
+export SHELL=/bin/sh
 while :; do
     case $1 in -[bcDEeFIiJLlmOopQRSWw]) shift 2 ;; -*) shift ;; *) break ;; esac
 done
