@@ -61,8 +61,10 @@ def shared(name, words, answer, threads):
 # Little but the frequencies of the items above the one that each line has.
 chain = write("chain", "".join(f"i{number} i{number + 1}\n" for number in range(1_999)))
 alike = write("alike", "i0\n" * 100_000)
-shared("frequencies are counted by several threads, where there are several processors",
-       ["--support", "1000000000000000000", "--hierarchy", chain, "(i5=)", alike], b"", min(processors(), 2))
+for workers in (2, 4):
+    shared(f"frequencies are counted by {workers} threads, where there are as many processors",
+           ["--support", "1000000000000000000", "--workers", str(workers), "--hierarchy", chain, "(i5=)", alike], b"",
+           min(workers, processors()))
 # Little but the pivots of all lines. Each item stands in all lines, of which all but the last generate patterns. So each is
 # frequent, and no pivot has enough lines.
 line = [f"n{number}" for number in range(24)]

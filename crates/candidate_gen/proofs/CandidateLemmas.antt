@@ -5,7 +5,8 @@ use Rattle.std.proofs.lemmas.List.Elements.{Contains-get_or}
 use Rattle.mine_model.specs.declared.item.Item.{Item}
 use Rattle.mine_model.specs.Candidates.{IsFrequentItem}
 use Rattle.mine_model.specs.Ranks.{AreRanked, AreAllRanked}
-use Rattle.mine_model.proofs.ListLemmas.{AllByRecursion-weaker}
+use Rattle.mine_model.proofs.ListLemmas.{AllByRecursion-weaker, Contains-none}
+use Rattle.mine_model.proofs.RankLemmas.{HasRank-most}
 use Rattle.mine_model.proofs.RankedLemmas.{ranked-none, ranked-same, ranked-all, ranked-held, ranked-bounds, AreAllRanked-length, AreAllRanked-at}
 use Rattle.mining_job.specs.Problems.{Problem, IsWhole, items_of}
 use Rattle.candidate_gen.specs.Candidates.{IsCandidateAt, AreCandidateRanks, AreCandidates}
@@ -52,6 +53,22 @@ module _ (problem : Problem) (seq : ℕ) (whole : IsWhole problem) where
   listed-within listed are = λ k d below. λ i e inside.
       let (pattern, candidate, ranked) = (are.exact (get_or listed k d)).0 (Contains-get_or listed k d below) in
       ranked-bounds problem.ranking.order pattern (get_or listed k d) ranked (get_or (get_or listed k d) i e) (Contains-get_or (get_or listed k d) i e inside)
+
+  -- where there is no rank, no lists are the ranks of the candidates
+  pub no-candidates : length problem.ranking.order ≡ 0 → (listed : List (List ℕ)) → listed ≡ [] → AreCandidateRanks problem seq listed
+  no-candidates none listed empty = rw empty (record {
+    rises = λ i j d less inside. absurd (omega (arith, inside));
+    exact = λ ranks. (
+      (λ held. absurd (Contains-none ranks held)),
+      (λ (pattern, candidate, ranked). absurd (candidate.generated.0 (unranked pattern ranks ranked))),
+    );
+  })
+    where
+      unranked : (pattern : List Item) (ranks : List ℕ) → AreRanked problem.ranking.order pattern ranks → pattern ≡ []
+      unranked [] ranks ranked = refl
+      unranked (v ∷ pattern) [] ranked = absurd ranked
+      unranked (v ∷ pattern) (rank ∷ ranks) ranked =
+          absurd (omega (arith, none, ranked.0.least, HasRank-most problem.ranking.order v rank ranked.0))
 
   -- the patterns of all lists are the candidates
   pub patterns-all : (listed : List (List ℕ)) (patterns : List (List Item)) → AreCandidateRanks problem seq listed

@@ -1,5 +1,5 @@
 -- What grids say, as ranks.
-use Rattle.std.proofs.Common.{◌≡◌, ◌↔◌, ℕ, ◌-◌, ◌<◌, ◌≤◌, inl, inr, IsTrue, Bool, true, false, None, Some, List, [], ◌∷◌, length, drop, refl, subst, arith}
+use Rattle.std.proofs.Common.{◌≡◌, ◌↔◌, ℕ, inl, inr, IsTrue, Bool, true, false, None, Some, List, [], ◌∷◌, length, drop, refl, subst}
 use Rattle.std.specs.List.{AllByRecursion, Contains, slice_get}
 use Rattle.mine_model.specs.declared.item.Item.{Item}
 use Rattle.mine_model.specs.Ranks.{Ranking, AreRanked}

@@ -67,6 +67,10 @@ impl<'a> CandidateList<'a> {
             × (rank ≤ length self.old.problem.ranking.order))) self.new.listed) }
     {
         self.listed.clear();
+        // Where no item has a rank there is no candidate.
+        if self.job.ranks().count() == 0 {
+            return Ok(());
+        }
         self.grids.clear();
         self.grids.push(seq)?;
         let view = View::new(self.job, &self.grids, seq);

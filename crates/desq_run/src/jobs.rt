@@ -32,7 +32,8 @@ use std::alloc::Global;
 use std::thread::Threads;
 use text_ports::Files;
 
-/// The job of the expression, where its names have these items.
+/// The job of the expression, where its names have these items. Their frequencies are counted by so many
+/// workers.
 fn job_of<R: Threads + Sync>(
     rt: &R,
     alloc: Global,
@@ -41,6 +42,7 @@ fn job_of<R: Threads + Sync>(
     db: Db,
     expression: &Expr,
     support: u64,
+    workers: u32,
 ) -> Result<Job, NoMemory>
     requires support { 1 ≤ support }
     requires items { hierarchy.items ≡ length names.now }
@@ -56,7 +58,7 @@ fn job_of<R: Threads + Sync>(
     ensures items { IfOk result (λ job. job.hierarchy.items ≡ hierarchy.items) }
     ensures ties { IfOk result (λ job. AreTiesByName names.now job.ranking) }
 {
-    let ranks = count(rt, alloc, &hierarchy, &db, support, names)?;
+    let ranks = count(rt, alloc, &hierarchy, &db, support, names, workers)?;
     let fst = compile(alloc, expression)?;
     Ok(Job::new(hierarchy, db, fst, ranks, support))
 }
@@ -82,6 +84,7 @@ fn job_by<R: Threads + Sync>(
     db: Db,
     parsed: &Parsed,
     support: u64,
+    workers: u32,
 ) -> Result<Job, Fault>
     requires support { 1 ≤ support }
     requires items { hierarchy.items ≡ length names.now }
@@ -97,7 +100,16 @@ fn job_by<R: Threads + Sync>(
         ⊎ IsUnknown names.now (map use_view parsed.now.uses.items) fault) }
 {
     let expression = resolve(parsed, &HeldNames(names))?;
-    Ok(job_of(rt, alloc, names, hierarchy, db, &expression, support)?)
+    Ok(job_of(
+        rt,
+        alloc,
+        names,
+        hierarchy,
+        db,
+        &expression,
+        support,
+        workers,
+    )?)
 }
 
 /// What a command is to mine, and the names of its items.
@@ -138,6 +150,15 @@ pub(crate) fn read_job<R: Threads + Sync, F: Files>(
         hierarchy,
         db,
     } = inputs;
-    let job = job_by(rt, alloc, &names, hierarchy, db, &parsed, command.support)?;
+    let job = job_by(
+        rt,
+        alloc,
+        &names,
+        hierarchy,
+        db,
+        &parsed,
+        command.support,
+        command.workers,
+    )?;
     Ok(NamedJob { names, job })
 }

@@ -19,8 +19,8 @@ use std::thread::Threads;
 /// The frequency of each item of the hierarchy, and the ranks of those whose frequency reaches the support:
 /// by falling frequency, and those of one frequency by their names in byte order, a proper prefix first.
 ///
-/// The sequences are cut into as many pieces as there are processors, at most 16, and each piece is counted
-/// by a thread of its own; a few sequences are counted by the caller alone.
+/// The sequences are cut into as many pieces as threads may be used, at most 16, and each piece is counted
+/// by a thread of its own; a few sequences are counted by the caller alone, and all where one may be used.
 pub fn count<R: Threads + Sync>(
     rt: &R,
     alloc: Global,
@@ -28,6 +28,7 @@ pub fn count<R: Threads + Sync>(
     db: &Db,
     support: u64,
     names: &Names,
+    threads: u32,
 ) -> Result<Ranks, NoMemory>
     requires support { 1 ≤ support }
     requires items { AllByRecursion
@@ -40,7 +41,7 @@ pub fn count<R: Threads + Sync>(
     // For the proof alone: no link leads out of the items, so what is no item of the hierarchy is not
     // frequent.
     let _items = hierarchy.items();
-    let frequencies = frequencies(rt, alloc, hierarchy, db)?;
+    let frequencies = frequencies(rt, alloc, hierarchy, db, threads)?;
     let order = ranked(alloc, frequencies.as_slice(), support, names)?;
     Ranks::new(alloc, order, frequencies)
 }

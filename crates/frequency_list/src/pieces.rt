@@ -6,34 +6,55 @@ ghost use Rattle.frequency_list.specs.Tallies.{IsTally, piece_of, AreTallies};
 
 use super::tally::tally;
 use mine_model::{Db, Hierarchy, NoMemory};
-use rayon::current_num_threads;
 use rayon::prelude::*;
 use std::alloc::Global;
 use std::thread::Threads;
 
 /// The most pieces: each takes a sum and a stamp for each item.
-const MOST_PIECES: usize = 16;
+const MOST_PIECES: u32 = 16;
 
 /// The least sequences for which a thread of their own pays.
 const LEAST_SEQUENCES: u32 = 1_024;
 
-/// The frequency of each item of the hierarchy.
+/// The frequency of each item of the hierarchy, counted by so many threads or fewer.
 pub(crate) fn frequencies<R: Threads + Sync>(
     rt: &R,
     alloc: Global,
     hierarchy: &Hierarchy,
     db: &Db,
+    threads: u32,
 ) -> Result<Vec<u64>, NoMemory>
     requires { AllByRecursion
         (λ sequence. AllByRecursion (λ t. t.0 < hierarchy.now.items) sequence.items) db.now }
     ensures { IfOk result (λ sums. IsTally hierarchy.now db.now sums.items) }
 {
     let sequences = db.sequences();
-    let pieces = current_num_threads(rt).min(MOST_PIECES) as u32;
-    let pieces = pieces.min(sequences / LEAST_SEQUENCES + 1);
+    let pieces = pieces_for(threads, sequences);
+    if pieces == 1 {
+        return tally_alone(alloc, hierarchy, db);
+    }
     let size = sequences / pieces + 1;
     let parts = tallies(rt, alloc, hierarchy, db, size, pieces)?;
     total(alloc, parts.as_slice(), hierarchy.items() as usize)
+}
+
+/// Into how many pieces so many sequences are cut for so many threads.
+fn pieces_for(threads: u32, sequences: u32) -> u32
+    ensures least { 1 ≤ result }
+    ensures most { result ≤ 16 }
+{
+    let pieces = threads.min(MOST_PIECES).min(sequences / LEAST_SEQUENCES);
+    pieces.max(1)
+}
+
+/// The same, counted by the caller.
+fn tally_alone(alloc: Global, hierarchy: &Hierarchy, db: &Db) -> Result<Vec<u64>, NoMemory>
+    requires { AllByRecursion
+        (λ sequence. AllByRecursion (λ t. t.0 < hierarchy.now.items) sequence.items) db.now }
+    ensures { IfOk result (λ sums. IsTally hierarchy.now db.now sums.items) }
+{
+    let sequences = db.sequences();
+    tally(alloc, hierarchy, db, 0, sequences)
 }
 
 /// What is counted in each of the pieces, in order.

@@ -270,7 +270,7 @@ fn ranked<T: Threads + Sync>(
     ensures items { IfOk result (λ ranks. length ranks.frequencies ≡ 11) }
 {
     let names = names_of(alloc, &WORDS)?;
-    count(rt, alloc, hierarchy, db, support, &names)
+    count(rt, alloc, hierarchy, db, support, &names, 2)
 }
 
 /// The job of the shape and these lines, each so many times.

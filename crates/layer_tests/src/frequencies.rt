@@ -45,7 +45,7 @@ fn counted<T: Threads + Sync>(
     let names = names_of(alloc, words)?;
     let hierarchy = hierarchy(alloc)?;
     let db = database(alloc, lines, times)?;
-    let ranks = count(rt, alloc, &hierarchy, &db, support, &names)?;
+    let ranks = count(rt, alloc, &hierarchy, &db, support, &names, 2)?;
     text_of(alloc, &ranks, words)
 }
 

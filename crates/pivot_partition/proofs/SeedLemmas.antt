@@ -127,6 +127,14 @@ module _ (problem : Problem) where
       (Counts-part Has problem.sequences numbers rising (λ i held. ((exact i).0 held).0) (λ i below has. (exact i).1 (below, has)) (sum_by weight_at numbers)).0
       (counts-all Has numbers (λ i held. ((exact i).0 held).1))
 
+  -- a pivot that is alive is a rank
+  pub alive-rank : 1 ≤ problem.threshold → (pivot : ℕ) → 1 ≤ pivot → IsAliveLabel (data_of problem) problem.ranking.order pivot [] → pivot ≤ length problem.ranking.order
+  alive-rank threshold zero least alive = absurd (omega (arith, least))
+  alive-rank threshold (suc before) least alive =
+      let (sequence, held, (more, pattern, within)) = IsAlive-some (data_of problem) (IsWithinPivot problem.ranking.order (suc before)) alive.prefix threshold alive.alive in
+      let (v, among, has) = within.needed in
+      HasRank-most problem.ranking.order v (suc before) has
+
   -- All pairs
 
   module _ (pairs : List Pair) (are : ArePairs problem 0 (length problem.sequences) pairs) where
@@ -171,13 +179,6 @@ module _ (problem : Problem) where
 
     -- a pivot is alive where its sequences weigh enough
     module _ (threshold : 1 ≤ problem.threshold) where
-      pub alive-rank : (pivot : ℕ) → 1 ≤ pivot → IsAliveLabel (data_of problem) problem.ranking.order pivot [] → pivot ≤ length problem.ranking.order
-      alive-rank zero least alive = absurd (omega (arith, least))
-      alive-rank (suc before) least alive =
-          let (sequence, held, (more, pattern, within)) = IsAlive-some (data_of problem) (IsWithinPivot problem.ranking.order (suc before)) alive.prefix threshold alive.alive in
-          let (v, among, has) = within.needed in
-          HasRank-most problem.ranking.order v (suc before) has
-
       pub alive-weighs : (pivot : ℕ) → 1 ≤ pivot → pivot ≤ length problem.ranking.order
           → IsAliveLabel (data_of problem) problem.ranking.order pivot [] ↔ problem.threshold ≤ weight_with problem pivot pairs
       alive-weighs pivot least most =
@@ -198,7 +199,7 @@ module _ (problem : Problem) where
         (λ enough.
             let some = weight-some pivot (omega (arith, enough, threshold)) in
             (some.0, (alive-weighs pivot some.0 some.1).1 enough)),
-        (λ (least, alive). (alive-weighs pivot least (alive-rank pivot least alive)).0 alive),
+        (λ (least, alive). (alive-weighs pivot least (alive-rank threshold pivot least alive)).0 alive),
       )
 
 -- Seeds, pivot after pivot
@@ -255,13 +256,18 @@ module _ (problem : Problem) where
   }
 
   -- where the pivots below the number are all ranks, they are all pivots that are alive
-  pub seeds-all : (pairs : List Pair) → ArePairs problem 0 (length problem.sequences) pairs → 1 ≤ problem.threshold → (seeds : List PartSeed) (place : ℕ) → length problem.ranking.order < place
-      → AreSeedsBelow problem seeds place
+  pub seeds-all : 1 ≤ problem.threshold → (seeds : List PartSeed) (place : ℕ) → length problem.ranking.order < place → AreSeedsBelow problem seeds place
       → (p : ℕ) → Contains (pivots_in seeds) p ↔ ((1 ≤ p) × IsAliveLabel (data_of problem) problem.ranking.order p [])
-  seeds-all pairs are threshold seeds place over below p = (
+  seeds-all threshold seeds place over below p = (
     (λ held. ((below.exact p).0 held).1),
-    (λ (least, alive). (below.exact p).1 (let most = alive-rank problem pairs are threshold p least alive in omega (arith, most, over), (least, alive))),
+    (λ (least, alive). (below.exact p).1 (let most = alive-rank problem threshold p least alive in omega (arith, most, over), (least, alive))),
   )
+
+  -- where there is no rank, no seeds are those of all pivots
+  pub no-seeds : 1 ≤ problem.threshold → length problem.ranking.order ≡ 0 → (seeds : List PartSeed) → seeds ≡ []
+      → (p : ℕ) → Contains (pivots_in seeds) p ↔ ((1 ≤ p) × IsAliveLabel (data_of problem) problem.ranking.order p [])
+  no-seeds threshold none seeds empty =
+      seeds-all threshold seeds 1 (omega (arith, none)) (seeds-pass seeds 0 (λ (least, alive). absurd (omega (arith, least))) (seeds-none seeds empty))
 
 -- Lists
 
@@ -394,7 +400,7 @@ module _ (problem : Problem) where
       let enough : problem.threshold ≤ slice_index sums place = leb-true problem.threshold (slice_index sums place) (sym test) in
       let (seed, longer, pivot, items) = pushed refl in
       let alive = (weighs-enough problem pairs are threshold place).0 (omega (arith, enough, weights place)) in
-      let most = alive-rank problem pairs are threshold place alive.0 alive.1 in
+      let most = alive-rank problem threshold place alive.0 alive.1 in
       let numbers : seed.sequences.items ≡ sequences_with place pairs = items ∙ ap (λ (v : Vec ℕ). v.items) is ∙ filed place list inside enough in
       rw longer (seeds-push problem seeds seed place (seed-complete problem pairs are place seed alive.0 most pivot numbers) (ap pivot_of pivot) alive before)
   seeds-next pairs are threshold sums weights lists filed place list inside is false test seeds new pushed passed before =

@@ -1,5 +1,5 @@
 -- Ranks that are found once each: those that are found have a mark.
-use Rattle.std.specs.Prelude.{◌≡◌, ◌≢◌, ℕ, ◌<◌, ◌↔◌, Bool, true, false, List, length, AllPairs, Contains}
+use Rattle.std.specs.Prelude.{◌≡◌, ◌≢◌, ℕ, ◌↔◌, Bool, true, false, List, AllPairs, Contains}
 use Rattle.std.specs.List.{slice_index_or}
 
 -- the rank has a mark

@@ -1,5 +1,5 @@
 -- Pairs of a sequence and one of its pivots.
-use Rattle.std.specs.Prelude.{◌≡◌, ◌≢◌, ℕ, zero, suc, ◌+◌, ◌*◌, ◌≤◌, ◌<◌, ◌⊎◌, ◌↔◌, ◌==◌, min, cond, List, [], ◌∷◌, ◌++◌, length, map, filter, AllPairs, Contains, sum_by, slice_index}
+use Rattle.std.specs.Prelude.{◌≡◌, ◌≢◌, ℕ, ◌+◌, ◌*◌, ◌≤◌, ◌<◌, ◌⊎◌, ◌↔◌, ◌==◌, min, cond, List, [], ◌∷◌, length, AllPairs, Contains, sum_by, slice_index}
 use Rattle.std.specs.List.{AllZip, range_with_len, flat_map, slice_index_or}
 use Rattle.std.specs.Global.{Vec}
 use Rattle.mine_model.specs.Database.{sequence_at}

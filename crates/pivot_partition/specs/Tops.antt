@@ -1,8 +1,7 @@
 -- Up to which rank a path has to write, at least: what may be written on it is then no more than whether it
 -- goes.
-use Rattle.std.specs.Prelude.{◌≡◌, ℕ, ◌+◌, ◌-◌, ◌*◌, ◌≤◌, ◌<◌, ◌⊎◌, ◌↔◌, true, false, Some, List, [], length, slice_index, drop, Contains}
+use Rattle.std.specs.Prelude.{◌≡◌, ℕ, ◌+◌, ◌-◌, ◌*◌, ◌≤◌, ◌<◌, ◌⊎◌, ◌↔◌, true, false, Some, List, length, slice_index, drop, Contains}
 use Rattle.mine_model.specs.declared.item.Item.{Item}
-use Rattle.fst_compile.specs.Transducer.{Leads}
 use Rattle.mining_job.specs.declared.bound.Bound.{Bound}
 use Rattle.sequence_grids.specs.declared.reading.Reading.{Reading}
 use Rattle.mining_job.specs.Problems.{Problem}

@@ -18,6 +18,7 @@ use std::thread::Threads;
 
 /// The seeds of the pivots whose sequences weigh at least the support, by rising pivot. The sequences are cut
 /// into as many pieces as there are to be threads, and the pivots of each are found by a thread of its own.
+/// Where no item has a rank there is no pivot, and no sequence is looked at.
 pub fn split<R: Threads + Sync>(
     rt: &R,
     alloc: Global,
@@ -31,6 +32,9 @@ pub fn split<R: Threads + Sync>(
     ensures alive { IfOk result (λ seeds. (pivot : ℕ) → Contains (pivots_in seeds.items) pivot
         ↔ ((1 ≤ pivot) × IsAliveLabel (data_of job.now) job.now.ranking.order pivot [])) }
 {
+    if job.ranks().count() == 0 {
+        return Ok(Vec::new(alloc));
+    }
     let size = job.db().sequences() / threads + 1;
     let parts = pieces_of(rt, alloc, job, size, threads)?;
     seeds_of(alloc, job, parts.as_slice())
@@ -43,6 +47,9 @@ pub fn split_alone(alloc: Global, job: &Job) -> Result<Vec<PartSeed>, NoMemory>
     ensures alive { IfOk result (λ seeds. (pivot : ℕ) → Contains (pivots_in seeds.items) pivot
         ↔ ((1 ≤ pivot) × IsAliveLabel (data_of job.now) job.now.ranking.order pivot [])) }
 {
+    if job.ranks().count() == 0 {
+        return Ok(Vec::new(alloc));
+    }
     let pairs = pairs_of(alloc, job, 0, job.db().sequences())?;
     let mut parts = Vec::new(alloc);
     parts.push(pairs)?;

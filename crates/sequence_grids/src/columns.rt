@@ -11,11 +11,11 @@ use std::alloc::Global;
 
 /// The columns of a transducer, numbered by their first states.
 #[derive(Drop)]
-pub(crate) struct Columns {
+pub struct Columns {
     // By the number of a state that of its column. The start, into which no edge leads, has the number 0.
-    pub(crate) numbers: Vec<u32>,
+    pub numbers: Vec<u32>,
     // By the number of a column its first state.
-    pub(crate) heads: Vec<u32>,
+    pub heads: Vec<u32>,
 }
 
 impl Columns {

@@ -2,8 +2,10 @@ ghost use Rattle.std.specs.Prelude.{◌≡◌, ◌≢◌, AllPairs, ℕ, ◌+◌
 ghost use Rattle.mine_model.specs.declared.item.Item.{Item};
 ghost use Rattle.state_bits.specs.Members.{HasBit};
 ghost use Rattle.sequence_grids.specs.Grids.{Completes, Ends, Reads, WritesRank, items_at, rest_at};
+ghost use Rattle.sequence_grids.specs.Places.{AreGrids};
 ghost use Rattle.sequence_grids.specs.Readings.{IsReading};
 
+use super::grid_parts::GridParts;
 use super::kinds::{Kinds, Scratch, ends_from, outputs_of};
 use super::places::{Place, push_places};
 use super::reading::Reading;
@@ -95,6 +97,25 @@ impl<'a> Grids<'a> {
         self.places.clear();
         self.ends.clear();
         self.sequences.clear();
+    }
+
+    /// What the grids are made of. Takes no memory.
+    pub fn into_parts(self) -> GridParts<'a>
+        ensures job { result.job.now ≡ self.entry.problem }
+        ensures bound { result.bound ≡ self.entry.bound }
+        ensures sequences { result.sequences.items ≡ self.entry.sequences }
+        ensures grids { AreGrids self.entry.problem self.entry.bound result.tables result.kinds
+            result.places.items result.ends.items self.entry.sequences }
+    {
+        GridParts {
+            job: self.job,
+            bound: self.bound,
+            tables: self.tables,
+            kinds: self.kinds,
+            places: self.places,
+            ends: self.ends,
+            sequences: self.sequences,
+        }
     }
 
     /// The numbers of the sequences, in the order of their grids. Takes no memory.

@@ -20,24 +20,24 @@ use std::alloc::Global;
 
 /// What an item may do: the class of its steps, and where the ends of its outputs begin.
 #[derive(Clone, Copy, Debug)]
-pub(crate) struct Kind {
-    pub(crate) class: u32,
-    pub(crate) base: usize,
+pub struct Kind {
+    pub class: u32,
+    pub base: usize,
 }
 
 /// The kinds of the items met so far, and their outputs as ranks, column by column behind each other.
 ///
 /// From the base of a kind on there is where its outputs begin, and then where those of each column end.
 #[derive(Drop)]
-pub(crate) struct Kinds {
-    pub(crate) columns: Columns,
+pub struct Kinds {
+    pub columns: Columns,
     // By the number of an item that of its kind, or `NONE`.
-    pub(crate) numbers: Vec<u32>,
-    pub(crate) kinds: Vec<Kind>,
-    pub(crate) ends: Vec<u32>,
-    pub(crate) ranks: Vec<u32>,
+    pub numbers: Vec<u32>,
+    pub kinds: Vec<Kind>,
+    pub ends: Vec<u32>,
+    pub ranks: Vec<u32>,
     // By a hash of its outputs an item that may have the same ones: no more than a hint.
-    pub(crate) hints: Vec<u32>,
+    pub hints: Vec<u32>,
 }
 
 /// What edges of one label do at an item: whether they read it and write nothing, may write something that is
@@ -95,7 +95,7 @@ impl Kinds {
 }
 
 /// What the edges into state k may write at an item of the kind with this number, as ranks.
-pub(crate) fn outputs_of(kinds: &Kinds, number: u32, k: u32) -> &[u32]
+pub fn outputs_of(kinds: &Kinds, number: u32, k: u32) -> &[u32]
     requires cell { HasCell kinds.now number k }
     ensures { (kind : Kind) → slice_get kinds.now.kinds.items number ≡ Some kind
         → result.now ≡ row_at kinds.now.ends.items kinds.now.ranks.items kind.base

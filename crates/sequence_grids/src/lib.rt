@@ -4,6 +4,7 @@
 
 mod columns;
 mod grid;
+mod grid_parts;
 mod grids;
 mod kinds;
 mod number;
@@ -13,7 +14,13 @@ mod successors;
 mod table;
 mod tables;
 
+pub use columns::Columns;
 pub use grid::Grid;
+pub use grid_parts::GridParts;
 pub use grids::Grids;
+pub use kinds::{Kind, Kinds, outputs_of};
+pub use places::Place;
 pub use reading::Reading;
 pub use successors::{Successors, successors_of};
+pub use table::{Words, keep_step, known_step};
+pub use tables::Tables;

@@ -15,9 +15,9 @@ use mining_job::{Bound, Job};
 
 /// The kind of the item at a place, and the triple of what may come of it.
 #[derive(Clone, Copy, Debug)]
-pub(crate) struct Place {
-    pub(crate) kind: u32,
-    pub(crate) triple: u32,
+pub struct Place {
+    pub kind: u32,
+    pub triple: u32,
 }
 
 /// The places of a sequence behind the others, from the last to the first.

@@ -37,12 +37,12 @@ pub(crate) struct Triple<const W: usize> {
 /// The states that an item leads into without an output and with one, those that complete behind it where
 /// what is needed was seen and where it was not, and those that end there, as words.
 #[derive(Clone, Copy, Debug)]
-pub(crate) struct Words<'a> {
-    pub(crate) silent: &'a [u64],
-    pub(crate) writing: &'a [u64],
-    pub(crate) seen: &'a [u64],
-    pub(crate) unseen: &'a [u64],
-    pub(crate) ending: &'a [u64],
+pub struct Words<'a> {
+    pub silent: &'a [u64],
+    pub writing: &'a [u64],
+    pub seen: &'a [u64],
+    pub unseen: &'a [u64],
+    pub ending: &'a [u64],
 }
 
 /// How many classes have their steps kept.
@@ -269,7 +269,8 @@ fn triple_in<const W: usize>(
 }
 
 /// The step, if it is known.
-fn known_step(steps: &[u32], class: u32, after: u32) -> Option<u32>
+#[inline]
+pub fn known_step(steps: &[u32], class: u32, after: u32) -> Option<u32>
     ensures { IfSome result (λ number. (class < 256) × (256 * after + class < length steps.now)
         × (slice_index steps.now (256 * after + class) ≡ number) × (number ≢ 4294967295)) }
 {
@@ -282,8 +283,8 @@ fn known_step(steps: &[u32], class: u32, after: u32) -> Option<u32>
     }
 }
 
-// Keeps a step, if its class is one of the first.
-fn keep_step(steps: &mut Vec<u32>, class: u32, after: u32, number: u32) -> Result<(), NoMemory>
+/// Keeps a step, if its class is one of the first.
+pub fn keep_step(steps: &mut Vec<u32>, class: u32, after: u32, number: u32) -> Result<(), NoMemory>
     ensures { (i : ℕ) → i < length steps.new.items → slice_index steps.new.items i ≢ 4294967295
         → (((i ≡ 256 * after + class) × (class < 256) × (slice_index steps.new.items i ≡ number))
         ⊎ ((i < length steps.old.items) × (slice_index steps.new.items i ≡ slice_index steps.old.items i))) }

@@ -33,7 +33,7 @@ macro_rules! on_table {
 
 /// The classes and the triples met so far, in sets of one of three widths.
 #[derive(Drop)]
-pub(crate) struct Tables {
+pub struct Tables {
     width: Width,
 }
 
@@ -109,7 +109,7 @@ impl Tables {
 
     /// The states that an item of the class leads into, and those that complete and that end behind it at a
     /// place of the triple, as words.
-    pub(crate) fn words(&self, class: u32, after: u32) -> Words<'_>
+    pub fn words(&self, class: u32, after: u32) -> Words<'_>
         requires class { class < length self.now.classes }
         requires after { after < length self.now.triples }
         ensures class { (c : ClassSets) → slice_get self.now.classes class ≡ Some c

@@ -16,9 +16,9 @@ use Rattle.stand_sums.specs.Sequences.{AreSequences}
 use Rattle.stand_sums.specs.declared.next_rank.NextRank.{NextRank}
 use Rattle.stand_sums.specs.Sums.{stands_among, AreLaidOut}
 use Rattle.stand_sums.specs.Files.{Filed, IsFull, unfiled, HasRoom, stand_at, stands_in, stands_of, with_more}
-use Rattle.stand_sums.specs.Kept.{empty_shelf, filed_in, filing_in, filings_in, Filing, with_stand, is_kept, filed_for, filed_behind, filed_behind_all, older, HasRoomFor, AreShelved, ArePlaced, AreFiles, IsSequenceEnd}
+use Rattle.stand_sums.specs.Kept.{empty_shelf, filed_in, filing_in, filings_in, Filing, with_stand, is_kept, filed_for, filed_behind, filed_behind_all, older, HasRoomFor, is_among, AreShelved, ArePlaced, AreFiles, IsSequenceEnd}
 use Rattle.stand_sums.proofs.CutLemmas.{AreNone, next-cut, all-none, drop-past}
-use Rattle.stand_sums.proofs.SumLemmas.{is_among, not-before, among-more, or_false}
+use Rattle.stand_sums.proofs.SumLemmas.{not-before, among-more, or_false}
 
 -- ---- a run that is written at one place
 
@@ -753,38 +753,6 @@ full-stands run shelves shelved full j d inside =
     let long = range-length run shelf.first shelf.next filled (omega arith) in
     let all : shelf.next ≡ shelf.last = omega (arith, is_full, long) in
     subst (λ (f : Filed). slice_range run f.first f.last ≡ f.stands) (sym read) (ap (slice_range run shelf.first) (sym all))
-
--- ---- the shelf that was found
-
-pub record IsFound (shelves : List Shelf) (place : ℕ) (shelf : Shelf) (rank : ℕ) : Type 0 where
-  pub at : slice_get shelves place ≡ Some shelf
-  pub rank_is : shelf.rank ≡ rank
-  pub kept : shelf.first < shelf.last
-
-pub shelf-found : (shelves listed : List Shelf) (place : ℕ) (shelf : Shelf) (rank : ℕ) → listed ≡ shelves
-    → ((found : Shelf) × (slice_get listed place ≡ Some found) × (found.rank ≡ rank) × (found.first < found.last)) → shelf ≡ get_or shelves place shelf → IsFound shelves place shelf rank
-shelf-found shelves listed place shelf rank same (found, there, rank_is, kept) read =
-    let at : slice_get shelves place ≡ Some found = ap (λ (l : List Shelf). slice_get l place) (sym same) ∙ there in
-    let is : shelf ≡ found = read ∙ get_or_from_slice_get shelves place found shelf at in
-    record {
-      at = at ∙ ap (λ (s : Shelf). Some s) (sym is);
-      rank_is = ap (λ (s : Shelf). s.rank) is ∙ rank_is;
-      kept = subst (λ (s : Shelf). s.first < s.last) (sym is) kept;
-    }
-
-module _ (shelves : List Shelf) (place : ℕ) (shelf : Shelf) (rank : ℕ) (found : IsFound shelves place shelf rank) (room : All (HasRoomFor rank) shelves) where
-  pub shelf-free : shelf.next < shelf.last
-  shelf-free =
-      let same : get_or shelves place shelf ≡ shelf = get_or_from_slice_get shelves place shelf shelf found.at in
-      let one : HasRoomFor rank shelf = subst (HasRoomFor rank) same (room place shelf (slice_get_within shelves place shelf found.at)) in
-      one found.rank_is found.kept
-
-  pub shelf-within : (run : List Stand) → AreShelved 0 shelves (length run) → shelf.next < length run
-  shelf-within run shelved =
-      let lies = shelf-lies 0 shelves (length run) place shelf shelved found.at in
-      let free = shelf-free in
-      let within = lies.within in
-      omega arith
 
 -- ---- a run is begun, or there is no memory
 

@@ -3,5 +3,6 @@ pub mod PartLemmas
 pub mod SumLemmas
 pub mod ReachLemmas
 pub mod FileLemmas
+pub mod ShelfLemmas
 pub mod LawLemmas
 pub mod GroupLemmas

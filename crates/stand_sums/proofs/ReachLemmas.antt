@@ -1,12 +1,11 @@
 -- The ranks whose weight is enough, sorted and laid out.
-use Rattle.std.proofs.Common.{◌≡◌, ◌≢◌, ℕ, zero, suc, ◌+◌, ◌≤◌, ◌<◌, inl, inr, Bool, cond, leb, Some, List, [], ◌∷◌, ◌++◌, length, get_or, set, map, take, drop, append_assoc, refl, sym, ap, ◌∙◌, arith}
+use Rattle.std.proofs.Common.{◌≡◌, ◌≢◌, ℕ, zero, suc, ◌+◌, ◌≤◌, ◌<◌, inl, inr, Bool, leb, Some, List, [], ◌∷◌, ◌++◌, length, get_or, set, map, take, drop, append_assoc, refl, sym, ap, ◌∙◌, arith}
 use Rattle.std.specs.List.{AllPairs, Contains, filter, slice_get}
 use Rattle.std.specs.List.Sorted.{IsPermutation, IsNonDecreasingBy}
-use Rattle.std.proofs.lemmas.Bool.{cases_lt, leb-true, le-leb, lt-leb}
+use Rattle.std.proofs.lemmas.Bool.{cases_lt, leb-true, le-leb}
 use Rattle.std.proofs.lemmas.Bool.Decides.{Decides-eqb}
-use Rattle.std.proofs.lemmas.List.{get_or-map, get_or_at, set_at, take_more, drop_more, length-map, length-take-le, map-append, append-nil}
+use Rattle.std.proofs.lemmas.List.{get_or-map, get_or_at, set_at, take_more, drop_more, length-map, length-take-le}
 use Rattle.std.proofs.lemmas.List.Kept.{AllPairs-filter}
-use Rattle.std.proofs.lemmas.List.Elements.{filter_more}
 use Rattle.std.proofs.lemmas.List.Sorted.{IsPermutation-map, IsPermutation-sym, Contains-permutation}
 use Rattle.std.proofs.lemmas.Option.{same_Some, slice_get_within, get_or_from_slice_get}
 use Rattle.mine_model.proofs.ApartLemmas.{apart_by_permutation}
@@ -33,25 +32,6 @@ reaches least sums rank = leb least (sum_in sums rank).weight
 -- of these ranks those that reach the least
 abbrev pub found_of : ℕ → ℕ → List Sum → List ℕ → List NextRank
 found_of least longer sums touched = map (told_in longer sums) (filter (reaches least sums) touched)
-
--- ---- rank by rank
-
-found-more : (least longer : ℕ) (sums : List Sum) (touched : List ℕ) (k : ℕ) → k < length touched
-    → found_of least longer sums (take (k + 1) touched)
-    ≡ found_of least longer sums (take k touched) ++ map (told_in longer sums) (cond (reaches least sums (get_or touched k 0)) (get_or touched k 0 ∷ []) [])
-found-more least longer sums touched k inside =
-    ap (map (told_in longer sums)) (filter_more (reaches least sums) touched k 0 inside)
-    ∙ map-append (told_in longer sums) (filter (reaches least sums) (take k touched)) (cond (reaches least sums (get_or touched k 0)) (get_or touched k 0 ∷ []) [])
-
-pub found-yes : (least longer : ℕ) (sums : List Sum) (touched : List ℕ) (k : ℕ) → k < length touched → least ≤ (sum_in sums (get_or touched k 0)).weight
-    → found_of least longer sums (take k touched) ++ told_in longer sums (get_or touched k 0) ∷ [] ≡ found_of least longer sums (take (k + 1) touched)
-found-yes least longer sums touched k inside enough =
-    sym (found-more least longer sums touched k inside ∙ (rw (le-leb least (sum_in sums (get_or touched k 0)).weight enough) refl))
-
-pub found-no : (least longer : ℕ) (sums : List Sum) (touched : List ℕ) (k : ℕ) → k < length touched → (sum_in sums (get_or touched k 0)).weight < least
-    → found_of least longer sums (take k touched) ≡ found_of least longer sums (take (k + 1) touched)
-found-no least longer sums touched k inside short =
-    sym (found-more least longer sums touched k inside ∙ (rw (lt-leb least (sum_in sums (get_or touched k 0)).weight short) (append-nil (found_of least longer sums (take k touched)))))
 
 -- ---- laid out
 

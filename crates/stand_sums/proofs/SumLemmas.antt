@@ -13,10 +13,11 @@ use Rattle.place_walk.specs.declared.visit.Visit.{Visit}
 use Rattle.stand_sums.specs.declared.aim.Aim.{Aim}
 use Rattle.stand_sums.specs.declared.sum.Sum.{Sum}
 use Rattle.stand_sums.specs.declared.sum.Counted.{Counted}
-use Rattle.stand_sums.specs.Writings.{goes_on, stops}
+use Rattle.stand_sums.specs.Aims.{sees}
+use Rattle.stand_sums.specs.Writings.{Ranks, goes_on, stops}
 use Rattle.stand_sums.proofs.CutLemmas.{drop-past}
 use Rattle.stand_sums.specs.Sums.{Tally, empty_tally}
-use Rattle.stand_sums.specs.Kept.{nothing, tally_of, once, latest, met, IsSum, AreSums}
+use Rattle.stand_sums.specs.Kept.{nothing, tally_of, once, latest, met, is_among, behind_ranks, behind_visit, IsSum, AreSums}
 
 -- ---- one sum
 
@@ -136,33 +137,48 @@ not-before (rank ∷ ranks) (suc k) once inside =
     let apart : (rank == get_or ranks k 0) ≡ false = ne_eqb rank (get_or ranks k 0) (once 0 (suc k) 0 (omega arith) inside) in
     rw apart (not-before ranks k (AllPairs-tail (λ (one other : ℕ). one ≢ other) rank ranks once) (omega arith))
 
--- the rank is among these
-abbrev pub is_among : ℕ → List ℕ → Bool
-is_among rank ranks = list_any (λ other. other == rank) ranks
-
--- the sum of the rank behind a visit, if it is among these
-abbrev pub behind_ranks : Aim → Visit → Counted → ℕ → List ℕ → Sum → Sum
-behind_ranks aim visit counted rank ranks sum =
-    met counted (is_among rank ranks && goes_on aim rank visit.action) (is_among rank ranks && stops aim rank visit.action) sum
-
 pub among-more : (rank : ℕ) (ranks : List ℕ) (k : ℕ) → k < length ranks → is_among rank (take (k + 1) ranks) ≡ (is_among rank (take k ranks) || (get_or ranks k 0 == rank || false))
 among-more rank ranks k inside = ap (is_among rank) (take_more ranks k 0 inside) ∙ list_any-append (λ other. other == rank) (take k ranks) (get_or ranks k 0 ∷ [])
 
-module _ (aim : Aim) (visit : Visit) (counted : Counted) (ranks : List ℕ) (apart : AllPairs (λ one other. one ≢ other) ranks) (k : ℕ) (inside : k < length ranks) (rank : ℕ) (sum : Sum) where
+-- behind a visit that goes on and ends with none of the ranks
+pub quiet-ranks : (counted : Counted) (rank : ℕ) (ranks : List ℕ) (sum : Sum) → behind_ranks (λ _. false) (λ _. false) counted rank ranks sum ≡ sum
+quiet-ranks counted rank ranks sum = by (is_among rank ranks)
+  where
+    by : (b : Bool) → met counted (b && false) (b && false) sum ≡ sum
+    by true = refl
+    by false = refl
+
+module _ (opening ending : ℕ → Bool) (counted : Counted) (ranks : List ℕ) (apart : AllPairs (λ one other. one ≢ other) ranks) (k : ℕ) (inside : k < length ranks) (rank : ℕ) (sum : Sum) where
   -- one more, which is this rank
   pub this-rank : get_or ranks k 0 ≡ rank
-      → met counted (goes_on aim rank visit.action) (stops aim rank visit.action) (behind_ranks aim visit counted rank (take k ranks) sum) ≡ behind_ranks aim visit counted rank (take (k + 1) ranks) sum
+      → met counted (opening rank) (ending rank) (behind_ranks opening ending counted rank (take k ranks) sum) ≡ behind_ranks opening ending counted rank (take (k + 1) ranks) sum
   this-rank same =
       let none : is_among rank (take k ranks) ≡ false = subst (λ (r : ℕ). is_among r (take k ranks) ≡ false) same (not-before ranks k apart inside) in
       let now : is_among rank (take (k + 1) ranks) ≡ true = among-more rank ranks k inside ∙ (rw (none, eq-eqb (get_or ranks k 0) rank same) refl) in
       rw (none, now) refl
 
+  -- with which it neither goes on nor ends
+  pub quiet-rank : get_or ranks k 0 ≡ rank → opening rank ≡ false → ending rank ≡ false
+      → behind_ranks opening ending counted rank (take k ranks) sum ≡ behind_ranks opening ending counted rank (take (k + 1) ranks) sum
+  quiet-rank same closed stays =
+      let before : Sum = behind_ranks opening ending counted rank (take k ranks) sum in
+      ap (λ (b : Bool). met counted b false before) (sym closed) ∙ ap (λ (b : Bool). met counted (opening rank) b before) (sym stays) ∙ this-rank same
+
   -- or another
-  pub other-rank : (get_or ranks k 0 ≡ rank → ⊥) → behind_ranks aim visit counted rank (take k ranks) sum ≡ behind_ranks aim visit counted rank (take (k + 1) ranks) sum
+  pub other-rank : (get_or ranks k 0 ≡ rank → ⊥) → behind_ranks opening ending counted rank (take k ranks) sum ≡ behind_ranks opening ending counted rank (take (k + 1) ranks) sum
   other-rank other =
       let same : is_among rank (take (k + 1) ranks) ≡ is_among rank (take k ranks) =
       among-more rank ranks k inside ∙ (rw (ne_eqb (get_or ranks k 0) rank other) (or_false (is_among rank (take k ranks)))) in
       rw same refl
+
+-- behind a visit whose ranks are these
+module _ (ranks : Ranks) (aim : Aim) (counted : Counted) (rank : ℕ) (visit : Visit) (list : List ℕ) (is : list ≡ ranks visit.kind visit.action.state) (sum : Sum) where
+  pub each-visit : behind_ranks (λ other. goes_on aim other visit.action) (λ other. stops aim other visit.action) counted rank list sum ≡ behind_visit ranks aim counted rank sum visit
+  each-visit = ap (λ (l : List ℕ). behind_ranks (λ other. goes_on aim other visit.action) (λ other. stops aim other visit.action) counted rank l sum) is
+
+  -- where what is needed is seen with the rank
+  pub alike-visit : sees aim rank ≡ true → behind_ranks (λ _. visit.action.more) (λ _. visit.action.ends) counted rank list sum ≡ behind_visit ranks aim counted rank sum visit
+  alike-visit seen = sym (rw seen refl) ∙ each-visit
 
 -- ---- all sums are cleared
 
@@ -203,29 +219,6 @@ cleared-all sums touched k past rest = all-nothing sums (λ rank sum at. elim (r
 ])
 
 -- ---- the room of a worker
-
-replicate-get : (n k : ℕ) (sum : Sum) → slice_get (replicate n nothing) k ≡ Some sum → sum ≡ nothing
-replicate-get zero k sum at = absurd (cc)
-replicate-get (suc n) zero sum at = same_Some sum nothing (sym at)
-replicate-get (suc n) (suc k) sum at = replicate-get n k sum at
-
-nothing-sum : IsSum 0 nothing
-nothing-sum = record {
-  followed = omega arith;
-  ended = omega arith;
-  opened = omega arith;
-  weight = omega arith;
-  support = omega arith;
-  longer = omega arith;
-}
-
-pub no-sums : (n : ℕ) → AreSums 0 (replicate n nothing) []
-no-sums n = record {
-  right = λ rank sum at. subst (IsSum 0) (sym (replicate-get n rank sum at)) nothing-sum;
-  known = λ rank held. absurd (Contains-none rank held);
-  rest = λ rank sum at. inl (replicate-get n rank sum at);
-  once = λ i j d less inside. absurd (omega arith);
-}
 
 pub no-tallies : (n : ℕ) → map tally_of (replicate n nothing) ≡ replicate n empty_tally
 no-tallies zero = refl

@@ -1,5 +1,6 @@
 -- What the rooms of a worker keep.
 use Rattle.std.specs.Prelude.{◌≡◌, ◌≢◌, ℕ, ◌+◌, ◌*◌, ◌^◌, ◌≤◌, ◌<◌, nat_lt, Bool, false, not, ◌||◌, ◌&&◌, ◌==◌, ◌⊎◌, IsTrue, if◌then◌else◌, Some, List, [], ◌∷◌, ◌++◌, map, fold, length, AllPairs, Contains, slice_get, slice_index, slice_range}
+use Rattle.std.specs.List.{list_any}
 use Rattle.place_walk.specs.declared.visit.Visit.{Visit}
 use Rattle.place_walk.specs.declared.stand.Stand.{Stand}
 use Rattle.stand_sums.specs.declared.aim.Aim.{Aim}
@@ -58,6 +59,15 @@ met counted opening ending sum = record {
   support = once ending counted sum.ended sum.support;
   longer = once opening counted sum.opened sum.longer;
 }
+
+-- the rank is among these
+abbrev pub is_among : ℕ → List ℕ → Bool
+is_among rank ranks = list_any (λ other. other == rank) ranks
+
+-- the sum of the rank behind a visit that writes these ranks, and goes on and ends with those that pass
+abbrev pub behind_ranks : (ℕ → Bool) → (ℕ → Bool) → Counted → ℕ → List ℕ → Sum → Sum
+behind_ranks opening ending counted rank ranks sum =
+    met counted (is_among rank ranks && opening rank) (is_among rank ranks && ending rank) sum
 
 -- the sum of the rank behind a visit of the sequence
 abbrev pub behind_visit : Ranks → Aim → Counted → ℕ → Sum → Visit → Sum
@@ -168,6 +178,10 @@ empty_shelf next =
 -- of which no stand of a sequence of these visits is filed
 abbrev pub older : Shelf → Shelf
 older shelf = record shelf { end = 0 }
+
+-- one place more of it is taken, for the sequence that ends there
+abbrev pub filled : Shelf → ℕ → Shelf
+filled shelf end = record shelf { next = shelf.next + 1; end = end }
 
 -- where it is that of the rank and has places, one is free
 abbrev pub HasRoomFor : ℕ → Shelf → Type 0

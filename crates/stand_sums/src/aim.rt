@@ -1,4 +1,4 @@
-ghost use Rattle.std.specs.Prelude.{◌≡◌};
+ghost use Rattle.std.specs.Prelude.{◌≡◌, ℕ, IsTrue};
 ghost use Rattle.walk_memo.specs.declared.action.Action.{Action as Acts};
 ghost use Rattle.stand_sums.specs.Aims.{sees as sees_with};
 ghost use Rattle.stand_sums.specs.Writings.{goes_on, stops};
@@ -13,6 +13,17 @@ pub struct Aim {
 }
 
 impl Aim {
+    /// Whether what is needed is seen with any rank.
+    #[inline]
+    pub(crate) fn sees_any(self) -> bool
+        ensures { IsTrue result → (rank : ℕ) → IsTrue (sees_with self rank) }
+    {
+        match self.need {
+            Some(_) => self.seen,
+            None => true,
+        }
+    }
+
     /// Whether what is needed is seen with the rank.
     #[inline]
     pub(crate) fn sees(self, rank: u32) -> bool

@@ -1,13 +1,13 @@
 //! Visits are filed as stands, sequence after sequence.
 
-ghost use Rattle.std.specs.Prelude.{◌≡◌, ℕ, ◌<◌, List, [], ◌∷◌, length, map, slice_get, slice_index, All, AllPairs, Some, IfSome, IfNone, IfOk, OnOk, OnErr};
+ghost use Rattle.std.specs.Prelude.{◌≡◌, ℕ, ◌-◌, ◌^◌, ◌<◌, List, [], ◌∷◌, length, map, slice_get, slice_index, All, AllPairs, Some, IfSome, IfNone, IfOk, OnOk, OnErr};
 ghost use Rattle.place_walk.specs.declared.visit.Visit.{Visit as Visited};
 ghost use Rattle.stand_sums.specs.declared.shelf.Shelf.{Shelf as Shelved};
 ghost use Rattle.stand_sums.specs.Writings.{IsReadable};
 ghost use Rattle.stand_sums.specs.Sequences.{AreSequences};
 ghost use Rattle.stand_sums.specs.Sums.{AreLaidOut};
 ghost use Rattle.stand_sums.specs.Files.{with_more, HasRoom};
-ghost use Rattle.stand_sums.specs.Kept.{empty_shelf, older, filed_in, filings_in, filed_for, filed_behind, filed_behind_all, HasRoomFor, ArePlaced, AreFiles};
+ghost use Rattle.stand_sums.specs.Kept.{empty_shelf, older, filled, filed_in, filings_in, filed_for, filed_behind, filed_behind_all, HasRoomFor, ArePlaced, AreFiles};
 
 use super::aim::Aim;
 use super::next_rank::NextRank;
@@ -206,14 +206,18 @@ fn file_rank(
             state: visit.action.state,
             first: shelf.end != end,
         };
-        shelves[place] = Shelf {
-            rank: shelf.rank,
-            first: shelf.first,
-            next: shelf.next + 1,
-            last: shelf.last,
-            end,
-        };
+        fill(&mut shelves[place], end);
     }
+}
+
+/// One place more of the shelf is taken, for the sequence that ends there.
+#[inline(always)]
+fn fill(shelf: &mut Shelf, end: usize)
+    requires { shelf.old.next < 2 ^ 64 - 1 }
+    ensures { shelf.new ≡ filled shelf.old end }
+{
+    shelf.next += 1;
+    shelf.end = end;
 }
 
 /// Where the shelf of the rank is, if it has one with places.

@@ -1,4 +1,4 @@
-ghost use Rattle.std.specs.Prelude.{◌≡◌, ℕ, List, Some, length, replicate, slice_get, All, IfOk, OnOk};
+ghost use Rattle.std.specs.Prelude.{◌≡◌, ◌<◌, ℕ, List, Some, length, replicate, slice_get, All, IfOk, OnOk};
 ghost use Rattle.place_walk.specs.declared.visit.Visit.{Visit as Visited};
 ghost use Rattle.stand_sums.specs.Writings.{IsReadable};
 ghost use Rattle.stand_sums.specs.Sequences.{AreSequences};
@@ -72,7 +72,7 @@ impl Sums {
             weights,
             visits,
             &mut self.number,
-            &mut self.sums,
+            self.sums.as_mut_slice(),
             &mut self.touched,
         )
     }
@@ -95,6 +95,29 @@ impl Sums {
             least,
             longer,
         )
+    }
+
+    /// What was counted of the rank, with places from 0 on for all its stands.
+    pub fn told(&self, rank: u32) -> NextRank
+        requires { rank < length self.now }
+        ensures { (tally : Tally) → slice_get self.now rank ≡ Some tally → result ≡ record {
+          rank = rank;
+          weight = tally.weight;
+          support = tally.support;
+          longer = tally.longer;
+          first = 0;
+          last = tally.stands;
+        } }
+    {
+        let sum = self.sums[rank as usize];
+        NextRank {
+            rank,
+            weight: sum.weight,
+            support: sum.support,
+            longer: sum.longer,
+            first: 0,
+            last: sum.stands as usize,
+        }
     }
 
     /// Forgets what was counted.

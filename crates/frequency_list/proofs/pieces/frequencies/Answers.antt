@@ -13,32 +13,32 @@ if_both (Err e) P Q R p q both = tt
 
 pub total-requires-clause-lengths : goal.total-requires-clause-lengths
 total-requires-clause-lengths g c =
-    let size : ℕ = c.sequences-sequences.result / c.min-pieces-2.result + 1 in
+    let size : ℕ = c.sequences-sequences.result / c.pieces_for-pieces.result + 1 in
     let whole : All (λ part. length part.items ≡ c.args.hierarchy.now.items) c.in_ok-parts.parts.items =
-    AreTallies-whole c.args.hierarchy.now size c.args.db.now c.min-pieces-2.result c.in_ok-parts.parts.items c.in_ok-parts.ensures in
+    AreTallies-whole c.args.hierarchy.now size c.args.db.now c.pieces_for-pieces.result c.in_ok-parts.parts.items c.in_ok-parts.ensures in
     let Whole : ℕ → List (Vec ℕ) → Type 0 = λ items parts. All (λ part. length part.items ≡ items) parts in
     subst (λ items. Whole items c.as_slice.result.now) (sym c.items.ensures.number)
     (subst (Whole c.args.hierarchy.now.items) (sym c.as_slice.ensures.value) whole)
 
 pub total-requires-clause-room : goal.total-requires-clause-room
 total-requires-clause-room g c k =
-    let size : ℕ = c.sequences-sequences.result / c.min-pieces-2.result + 1 in
-    let least : 1 ≤ c.min-pieces-2.result = omega (arith, c.min-pieces.ensures, c.min-pieces-2.ensures, c.current_num_threads.ensures) in
-    let reach : length c.args.db.now ≤ c.min-pieces-2.result * size =
-    omega (arith, pieces-reach c.sequences-sequences.result c.min-pieces-2.result least, c.sequences-sequences.ensures.count) in
+    let size : ℕ = c.sequences-sequences.result / c.pieces_for-pieces.result + 1 in
+    let least : 1 ≤ c.pieces_for-pieces.result = c.pieces_for-pieces.ensures.least in
+    let reach : length c.args.db.now ≤ c.pieces_for-pieces.result * size =
+    omega (arith, pieces-reach c.sequences-sequences.result c.pieces_for-pieces.result least, c.sequences-sequences.ensures.count) in
     let few : length c.args.db.now ≤ most_sequences = omega (arith, c.sequences-sequences.ensures.count, c.sequences-sequences.ensures.most) in
     let most : sum_at c.in_ok-parts.parts.items k ≤ most_sequences * most_weight =
-    AreTallies-room c.args.hierarchy.now size c.args.db.now c.min-pieces-2.result c.in_ok-parts.parts.items reach c.sequences-sequences.ensures.limits few c.in_ok-parts.ensures k in
+    AreTallies-room c.args.hierarchy.now size c.args.db.now c.pieces_for-pieces.result c.in_ok-parts.parts.items reach c.sequences-sequences.ensures.limits few c.in_ok-parts.ensures k in
     let same : sum_at c.as_slice.result.now k ≡ sum_at c.in_ok-parts.parts.items k = ap (λ parts. sum_at parts k) c.as_slice.ensures.value in
     omega (arith, most, same)
 
 pub returns : goal.returns
 returns g c =
-    let size : ℕ = c.sequences-sequences.result / c.min-pieces-2.result + 1 in
-    let least : 1 ≤ c.min-pieces-2.result = omega (arith, c.min-pieces.ensures, c.min-pieces-2.ensures, c.current_num_threads.ensures) in
-    let reach : length c.args.db.now ≤ c.min-pieces-2.result * size =
-    omega (arith, pieces-reach c.sequences-sequences.result c.min-pieces-2.result least, c.sequences-sequences.ensures.count) in
+    let size : ℕ = c.sequences-sequences.result / c.pieces_for-pieces.result + 1 in
+    let least : 1 ≤ c.pieces_for-pieces.result = c.pieces_for-pieces.ensures.least in
+    let reach : length c.args.db.now ≤ c.pieces_for-pieces.result * size =
+    omega (arith, pieces-reach c.sequences-sequences.result c.pieces_for-pieces.result least, c.sequences-sequences.ensures.count) in
     if_both c.total.result (λ sums. length sums.items ≡ c.items.result) (λ sums. (k : ℕ) → slice_index sums.items k ≡ sum_at c.as_slice.result.now k) (λ sums. IsTally c.args.hierarchy.now c.args.db.now sums.items)
     c.total.ensures.length c.total.ensures.sums
-    (λ sums whole same. IsTally-total c.args.hierarchy.now size c.args.db.now c.min-pieces-2.result c.in_ok-parts.parts.items sums.items reach c.in_ok-parts.ensures
+    (λ sums whole same. IsTally-total c.args.hierarchy.now size c.args.db.now c.pieces_for-pieces.result c.in_ok-parts.parts.items sums.items reach c.in_ok-parts.ensures
     (whole ∙ c.items.ensures.number) (λ k. same k ∙ ap (λ parts. sum_at parts k) c.as_slice.ensures.value))

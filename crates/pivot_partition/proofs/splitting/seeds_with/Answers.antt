@@ -28,4 +28,4 @@ returns-clause-alive c =
     let (pairs, are, weights, filed) = c.requires.pairs in
     let none : into_iter_items c.lists.sequences-iterator ≡ [] = nil_from_length (into_iter_items c.lists.sequences-iterator) (omega (arith, is.count, c.in-None.ensures.steps.0)) in
     let whole : c.lists.yielded ≡ c.args.lists.items = sym (append-nil c.lists.yielded) ∙ ap (λ l. c.lists.yielded ++ l) (sym none) ∙ is.seen in
-    seeds-all c.args.job.now pairs are c.support-support.ensures.whole.least c.lists.seeds.items c.lists.place (omega (arith, is.place, ap length whole, c.requires.long, c.requires.ranks)) is.seeds
+    seeds-all c.args.job.now c.support-support.ensures.whole.least c.lists.seeds.items c.lists.place (omega (arith, is.place, ap length whole, c.requires.long, c.requires.ranks)) is.seeds

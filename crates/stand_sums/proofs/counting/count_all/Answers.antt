@@ -13,12 +13,12 @@ sequences-init g c = record {
   room = refl;
   sums = c.requires.sums;
   within = omega arith;
-  counted = λ sequences are. counted-start (g.T.Outputs.ranks c.args.table.now) c.args.aim c.args.weights.now c.args.visits.now sequences c.args.sums.now.items are;
+  counted = λ sequences are. counted-start (g.T.Outputs.ranks c.args.table.now) c.args.aim c.args.weights.now c.args.visits.now sequences c.args.sums.now are;
 }
 
 pub count_sequence-requires-clause-readable : goal.count_sequence-requires-clause-readable
 count_sequence-requires-clause-readable g c =
-    let readable = IsReadable (g.T.Outputs.ranks c.args.table.now) (g.T.Outputs.CanAsk c.args.table.now) (length c.args.sums.now.items) in
+    let readable = IsReadable (g.T.Outputs.ranks c.args.table.now) (g.T.Outputs.CanAsk c.args.table.now) (length c.args.sums.now) in
     let part : All readable (slice_range c.args.visits.now c.sequences.from c.sequence_end-end.result) =
     All-take readable (c.sequence_end-end.result - c.sequences.from) (drop c.sequences.from c.args.visits.now) (All-drop readable c.sequences.from c.args.visits.now c.requires.readable) in
     subst (λ (n : ℕ). All (IsReadable (g.T.Outputs.ranks c.args.table.now) (g.T.Outputs.CanAsk c.args.table.now) n) (slice_range c.args.visits.now c.sequences.from c.sequence_end-end.result)) (sym c.sequences.invariant.room) part
@@ -26,7 +26,7 @@ count_sequence-requires-clause-readable g c =
 pub count_sequence-requires-clause-sums : goal.count_sequence-requires-clause-sums
 count_sequence-requires-clause-sums g c =
     let next : c.in_ok-number.field-0 ≡ c.sequences.number + 1 = c.in_ok-number.ensures in
-    more-sums c.sequences.number c.in_ok-number.field-0 c.sequences.sums.items c.sequences.touched.items (omega arith) c.sequences.invariant.sums
+    more-sums c.sequences.number c.in_ok-number.field-0 c.sequences.sums c.sequences.touched.items (omega arith) c.sequences.invariant.sums
 
 pub sequences-preserved : goal.sequences-preserved
 sequences-preserved g c =
@@ -41,12 +41,12 @@ sequences-preserved g c =
       sums = c.in_ok-count_sequence.ensures.sums;
       within = ends.within;
       counted = λ sequences are.
-          counted-more ranks c.args.aim c.args.weights.now c.args.visits.now c.sequences.from c.sequence_end-end.result sequences c.args.sums.now.items c.sequences.sums.items c.count_sequence.new.sums.items
+          counted-more ranks c.args.aim c.args.weights.now c.args.visits.now c.sequences.from c.sequence_end-end.result sequences c.args.sums.now c.sequences.sums c.count_sequence.new.sums
           c.sequences.number counted (c.sequences.invariant.counted sequences are) ends c.sequences.invariant.room c.sequences.invariant.sums.right (omega arith) weight
           c.in_ok-count_sequence.ensures.counted;
     }
 
 pub returns-clause-counted : goal.returns-clause-counted
 returns-clause-counted g c sequences are rank before after at also =
-    counted-all (g.T.Outputs.ranks c.args.table.now) c.args.aim c.args.weights.now c.args.visits.now c.sequences.from sequences c.args.sums.now.items c.sequences.sums.items
+    counted-all (g.T.Outputs.ranks c.args.table.now) c.args.aim c.args.weights.now c.args.visits.now c.sequences.from sequences c.args.sums.now c.sequences.sums
     (c.sequences.invariant.counted sequences are) c.sequences-test.false rank before after at also

@@ -7,11 +7,11 @@ use Rattle.stand_sums.proofs.counting.count_all.Given as goal
 
 abbrev pub invariant-sequences : goal.invariant-sequences
 invariant-sequences g l = record {
-  room : length l.sums.items ≡ length l.initial.sums.items;
-  sums : AreSums l.number l.sums.items l.touched.items;
+  room : length l.sums ≡ length l.initial.sums;
+  sums : AreSums l.number l.sums l.touched.items;
   within : l.from ≤ length l.visits;
   counted : (sequences : List (List Visit)) → AreSequences l.visits sequences
-      → AreCountedTo (g.T.Outputs.ranks l.table) l.aim l.weights l.visits l.from sequences l.initial.sums.items l.sums.items;
+      → AreCountedTo (g.T.Outputs.ranks l.table) l.aim l.weights l.visits l.from sequences l.initial.sums l.sums;
 }
 
 abbrev pub decreases-sequences : goal.decreases-sequences

@@ -18,7 +18,7 @@ pub count_visit-requires-clause-readable : goal.count_visit-requires-clause-read
 count_visit-requires-clause-readable g c =
     let ranks = g.T.Outputs.ranks c.args.table.now in
     let can = g.T.Outputs.CanAsk c.args.table.now in
-    let one : IsReadable ranks can (length c.args.sums.now.items) (get_or c.args.visits.now c.loop-visit.visit-index blank) =
+    let one : IsReadable ranks can (length c.args.sums.now) (get_or c.args.visits.now c.loop-visit.visit-index blank) =
     c.requires.readable c.loop-visit.visit-index blank c.loop-visit-test.true in
     subst (λ (n : ℕ). IsReadable ranks can n (get_or c.args.visits.now c.loop-visit.visit-index blank)) (sym c.loop-visit.invariant.room) one
 

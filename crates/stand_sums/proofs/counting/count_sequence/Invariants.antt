@@ -6,8 +6,8 @@ use Rattle.stand_sums.proofs.counting.count_sequence.Given as goal
 
 abbrev pub invariant-loop-visit : goal.invariant-loop-visit
 invariant-loop-visit g l = record {
-  room : length l.sums.items ≡ length l.initial.sums.items;
-  sums : AreSums l.counted.number l.sums.items l.touched.items;
-  counted : (rank : ℕ) (before : Sum) → slice_get l.initial.sums.items rank ≡ Some before
-      → slice_get l.sums.items rank ≡ Some (behind_visits (g.T.Outputs.ranks l.table) l.aim l.counted rank before (take l.visit-index l.visits));
+  room : length l.sums ≡ length l.initial.sums;
+  sums : AreSums l.counted.number l.sums l.touched.items;
+  counted : (rank : ℕ) (before : Sum) → slice_get l.initial.sums rank ≡ Some before
+      → slice_get l.sums rank ≡ Some (behind_visits (g.T.Outputs.ranks l.table) l.aim l.counted rank before (take l.visit-index l.visits));
 }

@@ -1,9 +1,10 @@
-use Rattle.std.proofs.Common.{◌≤◌, length, subst}
+use Rattle.std.proofs.Common.{◌≡◌, ◌≤◌, length, ap, subst, arith}
 use Rattle.std.specs.List.{All}
+use Rattle.mine_model.specs.Ranks.{Ranking}
 use Rattle.candidate_gen.specs.Candidates.{AreCandidateRanks, Listing}
 use Rattle.candidate_gen.specs.Paths.{Space}
 use Rattle.candidate_gen.specs.Walk.{AreWritten}
-use Rattle.candidate_gen.proofs.CandidateLemmas.{written-listed, listed-within}
+use Rattle.candidate_gen.proofs.CandidateLemmas.{no-candidates, written-listed, listed-within}
 use Rattle.candidate_gen.proofs.listing.CandidateList.fill.Goals as goal
 
 pub returns-clause-candidates : goal.returns-clause-candidates
@@ -18,3 +19,10 @@ returns-clause-within c =
     subst (λ (l : Listing). All (All (λ rank. (1 ≤ rank) × (rank ≤ length l.problem.ranking.order))) c.list.new.listed) c.self.view_is
     (listed-within c.self.inside.job.now c.args.seq c.new-view.ensures.whole c.list.new.listed
     (written-listed c.self.inside.job.now c.args.seq c.new-view.ensures.whole c.list.new.listed are))
+
+pub returns-then-count-eq0-clause-candidates : goal.returns-then-count-eq0-clause-candidates
+returns-then-count-eq0-clause-candidates c =
+    let none : length c.self.inside.job.now.ranking.order ≡ 0 =
+    omega (arith, c.count.ensures.count, ap (λ (r : Ranking). length r.order) c.ranks.ensures.ranking, c.if-count-eq0.true) in
+    subst (λ (l : Listing). AreCandidateRanks l.problem c.args.seq c.clear.new.self) c.self.view_is
+    (no-candidates c.self.inside.job.now c.args.seq c.ranks.ensures.whole none c.clear.new.self c.clear.ensures)

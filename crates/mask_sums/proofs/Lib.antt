@@ -1,0 +1,4 @@
+pub mod SetLemmas
+pub mod RunLemmas
+pub mod RoomLemmas
+pub mod NextLemmas

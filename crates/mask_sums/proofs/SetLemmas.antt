@@ -1,0 +1,170 @@
+-- Sets of the ranks that visits write.
+use Rattle.std.proofs.Common.{◌≡◌, ℕ, zero, suc, ◌+◌, ◌⊎◌, ◌↔◌, inl, inr, Bool, true, false, cond, true≢false, ◌||◌, ◌&&◌, ◌==◌, IsTrue, List, [], ◌∷◌, ◌++◌, length, get_or, replicate, refl, sym, ap, ◌∙◌, subst, arith}
+use Rattle.std.specs.List.{Contains, list_any}
+use Rattle.std.proofs.lemmas.Bool.{cases_eq, eq-eqb, ne_eqb, false_from_ne_true}
+use Rattle.std.proofs.lemmas.List.Elements.{Contains-push, Contains-push_cases, Contains-append_left}
+use Rattle.mine_model.proofs.ListLemmas.{Contains-cases, Contains-first, Contains-other, Contains-none}
+use Rattle.state_bits.specs.Members.{Has}
+use Rattle.state_bits.proofs.NeighbourLemmas.{Has-none}
+use Rattle.place_walk.specs.declared.visit.Visit.{Visit}
+use Rattle.stand_sums.specs.Writings.{Ranks, opens, ends, follows}
+use Rattle.stand_sums.specs.Sequences.{HasOne}
+use Rattle.stand_sums.specs.Sums.{stands_among}
+use Rattle.mask_sums.specs.Kept.{free, IsSetOf}
+
+-- ---- members
+
+-- a rank is in a set or not
+pub has-or-not : (set rank : ℕ) → Has set rank ⊎ (Has set rank → ⊥)
+unfolding Has
+has-or-not set rank = cases_eq _ 1
+
+-- ---- counts of nothing
+
+pub none-counted : (n rank : ℕ) → ◌≡◌ {A = ℕ} (get_or (replicate n 0) rank 0) 0
+none-counted zero rank = refl
+none-counted (suc n) zero = refl
+none-counted (suc n) (suc rank) = none-counted n rank
+
+-- ---- the ranks of a visit
+
+among-from : (rank : ℕ) (ranks : List ℕ) → list_any (λ other. other == rank) ranks ≡ true → Contains ranks rank
+among-from rank [] is = absurd (cc)
+among-from rank (one ∷ ranks) is = elim (cases_eq one rank) [
+  | inl same ↦ subst (Contains (one ∷ ranks)) same (Contains-first one ranks)
+  | inr other ↦
+      Contains-other one ranks rank
+      (among-from rank ranks (sym (ap (λ (b : Bool). b || list_any (λ other. other == rank) ranks) (ne_eqb one rank other)) ∙ is))
+]
+
+among-to : (rank : ℕ) (ranks : List ℕ) → Contains ranks rank → list_any (λ other. other == rank) ranks ≡ true
+among-to rank [] held = absurd (Contains-none rank held)
+among-to rank (one ∷ ranks) held = elim (cases_eq one rank) [
+  | inl same ↦ rw (eq-eqb one rank same) refl
+  | inr other ↦ elim (Contains-cases one ranks rank held) [
+    | inl same ↦ absurd (other (sym same))
+    | inr there ↦ rw (ne_eqb one rank other) (among-to rank ranks there)
+  ]
+]
+
+module _ (ranks : Ranks) (visit : Visit) (mask : ℕ) (is : (rank : ℕ) → Has mask rank ↔ Contains (ranks visit.kind visit.action.state) rank) (rank : ℕ) where
+  -- the rank is written where it is in the set
+  writes-from : Has mask rank → list_any (λ other. other == rank) (ranks visit.kind visit.action.state) ≡ true
+  writes-from has = among-to rank (ranks visit.kind visit.action.state) ((is rank).0 has)
+
+  writes-to : list_any (λ other. other == rank) (ranks visit.kind visit.action.state) ≡ true → Has mask rank
+  writes-to writes = (is rank).1 (among-from rank (ranks visit.kind visit.action.state) writes)
+
+and-both : (one other : Bool) → one ≡ true → other ≡ true → (one && other) ≡ true
+and-both one other first second = rw first second
+
+and-first : (one other : Bool) → (one && other) ≡ true → one ≡ true
+and-first true other both = refl
+and-first false other both = absurd (true≢false (sym both))
+
+and-second : (one other : Bool) → (one && other) ≡ true → other ≡ true
+and-second true other both = both
+and-second false other both = absurd (true≢false (sym both))
+
+module _ (ranks : Ranks) (visit : Visit) (mask : ℕ) (is : (rank : ℕ) → Has mask rank ↔ Contains (ranks visit.kind visit.action.state) rank) where
+  -- behind a visit that goes on, what it writes opens
+  pub opens-yes : visit.action.more ≡ true → (rank : ℕ) → Has mask rank ↔ IsTrue (opens ranks free rank visit)
+  opens-yes more rank = (
+    (λ has. and-both (list_any (λ other. other == rank) (ranks visit.kind visit.action.state)) visit.action.more (writes-from ranks visit mask is rank has) more),
+    (λ opening. writes-to ranks visit mask is rank (and-first (list_any (λ other. other == rank) (ranks visit.kind visit.action.state)) visit.action.more opening)),
+  )
+
+  pub ends-yes : visit.action.ends ≡ true → (rank : ℕ) → Has mask rank ↔ IsTrue (ends ranks free rank visit)
+  ends-yes stops rank = (
+    (λ has. and-both (list_any (λ other. other == rank) (ranks visit.kind visit.action.state)) visit.action.ends (writes-from ranks visit mask is rank has) stops),
+    (λ ending. writes-to ranks visit mask is rank (and-first (list_any (λ other. other == rank) (ranks visit.kind visit.action.state)) visit.action.ends ending)),
+  )
+
+-- and else nothing does
+pub opens-no : (ranks : Ranks) (visit : Visit) → visit.action.more ≡ false → (rank : ℕ) → IsTrue (opens ranks free rank visit) → ⊥
+opens-no ranks visit stays rank opening =
+    true≢false (sym (and-second (list_any (λ other. other == rank) (ranks visit.kind visit.action.state)) visit.action.more opening) ∙ stays)
+
+pub ends-no : (ranks : Ranks) (visit : Visit) → visit.action.ends ≡ false → (rank : ℕ) → IsTrue (ends ranks free rank visit) → ⊥
+ends-no ranks visit stays rank ending =
+    true≢false (sym (and-second (list_any (λ other. other == rank) (ranks visit.kind visit.action.state)) visit.action.ends ending) ∙ stays)
+
+-- ---- a set with what one visit adds
+
+pub union-with : (before after mask rank : ℕ) (Passes : Type 0) → Has after rank ↔ (Has before rank ⊎ Has mask rank) → Has mask rank ↔ Passes → Has after rank ↔ (Has before rank ⊎ Passes)
+union-with before after mask rank Passes union is = (
+  (λ has. elim (union.0 has) [ inl had ↦ inl had | inr new ↦ inr (is.0 new) ]),
+  (λ either. union.1 (elim either [ inl had ↦ inl had | inr passes ↦ inr (is.1 passes) ])),
+)
+
+pub union-none : (before rank : ℕ) (Passes : Type 0) → (Passes → ⊥) → Has before rank ↔ (Has before rank ⊎ Passes)
+union-none before rank Passes fails = (
+  (λ has. inl has),
+  (λ either. elim either [ inl had ↦ had | inr passes ↦ absurd (fails passes) ]),
+)
+
+-- its stands
+pub stands-one : (ranks : Ranks) (visit : Visit) (mask : ℕ) → ((rank : ℕ) → Has mask rank ↔ Contains (ranks visit.kind visit.action.state) rank) → visit.action.more ≡ true
+    → (rank before after : ℕ) → (Has mask rank → after ≡ before + 1) → ((Has mask rank → ⊥) → after ≡ before) → after ≡ before + stands_among ranks free rank (visit ∷ [])
+stands-one ranks visit mask is more rank before after adds stays = elim (has-or-not mask rank) [
+  | inl has ↦
+      let opening : opens ranks free rank visit ≡ true = (opens-yes ranks visit mask is more rank).0 has in
+      adds has ∙ ap (λ (b : Bool). before + length (cond b (visit ∷ []) [])) (sym opening)
+  | inr lacks ↦
+      let not_opening : opens ranks free rank visit ≡ false = false_from_ne_true (opens ranks free rank visit) (λ opening. lacks ((opens-yes ranks visit mask is more rank).1 opening)) in
+      let same : before ≡ before + 0 = omega arith in
+      stays lacks ∙ same ∙ ap (λ (b : Bool). before + length (cond b (visit ∷ []) [])) (sym not_opening)
+]
+
+-- ---- one visit more
+
+pub set-none : (test : ℕ → Visit → Bool) → IsSetOf test [] 0
+set-none test rank = (λ has. absurd (Has-none rank has), λ (visit, held, passes). absurd (Contains-none visit held))
+
+pub set-more : (test : ℕ → Visit → Bool) (visits : List Visit) (visit : Visit) (before after : ℕ) → IsSetOf test visits before
+    → ((rank : ℕ) → Has after rank ↔ (Has before rank ⊎ IsTrue (test rank visit))) → IsSetOf test (visits ++ visit ∷ []) after
+set-more test visits visit before after is more rank = (
+  (λ has. elim ((more rank).0 has) [
+    | inl had ↦ let (one, held, passes) = (is rank).0 had in (one, Contains-append_left visits (visit ∷ []) one held, passes)
+    | inr passes ↦ (visit, Contains-push visits visit, passes)
+  ]),
+  (λ (one, held, passes). (more rank).1 (elim (Contains-push_cases visits visit one held) [
+    | inl there ↦ inl ((is rank).1 (one, there, passes))
+    | inr same ↦ inr (subst (λ (v : Visit). IsTrue (test rank v)) (sym same) passes)
+  ])),
+)
+
+-- ---- what follows is what goes on or ends
+
+or-cases : (one other : Bool) → (one || other) ≡ true → (one ≡ true) ⊎ (other ≡ true)
+or-cases true other either = inl refl
+or-cases false other either = inr either
+
+or-first : (one other : Bool) → one ≡ true → (one || other) ≡ true
+or-first one other is = rw is refl
+
+or-second : (one other : Bool) → other ≡ true → (one || other) ≡ true
+or-second true other is = refl
+or-second false other is = is
+
+pub follows-sets : (ranks : Ranks) (visits : List Visit) (opened ended : ℕ) → IsSetOf (opens ranks free) visits opened → IsSetOf (ends ranks free) visits ended
+    → (rank : ℕ) → (Has opened rank ⊎ Has ended rank) ↔ HasOne (follows ranks free rank) visits
+follows-sets ranks visits opened ended opening ending rank = (
+  (λ has. elim has [
+    | inl there ↦ let (one, held, passes) = (opening rank).0 there in (one, held, or-first (opens ranks free rank one) (ends ranks free rank one) passes)
+    | inr there ↦ let (one, held, passes) = (ending rank).0 there in (one, held, or-second (opens ranks free rank one) (ends ranks free rank one) passes)
+  ]),
+  (λ (one, held, passes). elim (or-cases (opens ranks free rank one) (ends ranks free rank one) passes) [
+    | inl opens_one ↦ inl ((opening rank).1 (one, held, opens_one))
+    | inr ends_one ↦ inr ((ending rank).1 (one, held, ends_one))
+  ]),
+)
+
+pub either-or-not : (one other rank : ℕ) → (Has one rank ⊎ Has other rank) ⊎ ((Has one rank ⊎ Has other rank) → ⊥)
+either-or-not one other rank = elim (has-or-not one rank) [
+  | inl here ↦ inl (inl here)
+  | inr lacks ↦ elim (has-or-not other rank) [
+    | inl there ↦ inl (inr there)
+    | inr none ↦ inr (λ either. elim either [ inl here ↦ lacks here | inr there ↦ none there ])
+  ]
+]

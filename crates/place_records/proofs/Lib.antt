@@ -1,0 +1,4 @@
+pub mod TwinLemmas
+pub mod NumberLemmas
+pub mod RecordLemmas
+pub mod FillLemmas

@@ -1,0 +1,16 @@
+//! What stands at the places of a part, made of its grids: the records that a walk reads one at a place, the
+//! moves that they name, and what may be written there.
+#![tactic(auto)]
+
+mod filling;
+mod making;
+mod moves;
+mod part_records;
+mod rank_sets;
+mod rank_table;
+mod twin;
+mod twins;
+
+pub use making::records;
+pub use part_records::Records;
+pub use rank_table::RankTable;

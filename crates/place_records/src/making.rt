@@ -1,0 +1,203 @@
+//! The records of a part, made of its grids.
+
+ghost use Rattle.std.specs.Prelude.{◌≡◌, ℕ, ◌+◌, ◌*◌, ◌≤◌, ◌<◌, ◌↔◌, true, false, List, [], ◌∷◌, length, map, slice_get, None, Some, IfOk};
+ghost use Rattle.std.specs.List.{AllByRecursion};
+ghost use Rattle.mining_job.specs.declared.bound.Bound.{Bound as Bounded};
+ghost use Rattle.mining_job.specs.Problems.{Problem};
+ghost use Rattle.sequence_grids.specs.Columns.{AreColumns};
+ghost use Rattle.sequence_grids.specs.Tables.{TableValue};
+ghost use Rattle.walk_memo.specs.Moves.{move_sets};
+ghost use Rattle.place_records.specs.Records.{goes_with as goes_by, AreRecords};
+ghost use Rattle.place_records.specs.Ranks.{CanAskOf, ranks_of};
+ghost use Rattle.place_records.specs.Twins.{dead_twin, move_in};
+ghost use Rattle.place_records.specs.Filled.{AreKept, AreMade};
+
+use super::filling::fill;
+use super::moves::moves_of;
+use super::part_records::Records;
+use super::rank_table::RankTable;
+use super::twins::Twins;
+use mine_model::NoMemory;
+use mining_job::{Bound, Job};
+use sequence_grids::{Grids, Kinds, Place, Tables};
+use std::alloc::Global;
+use walk_memo::Move;
+use walk_places::Places;
+
+/// The records of a part, made of its grids. It also wants memory where the part has more than 2^32 - 1
+/// places, or its places do more than 2^32 - 1 different things.
+pub fn records<const W: usize>(alloc: Global, grids: Grids<'_>) -> Result<Records<W>, NoMemory>
+    requires width { W ≤ 17 }
+    requires room { length grids.problem.machine.labels < 64 * W }
+    requires within { AllByRecursion (λ i. i < length grids.problem.sequences) grids.sequences }
+    ensures { IfOk result (λ found. AreRecords grids.entry found.places found.early found.late
+        (ranks_of found.table) (CanAskOf found.table)) }
+{
+    let parts = grids.into_parts();
+    let kinds = without_numbers(alloc, parts.kinds);
+    let made = make(
+        alloc,
+        parts.job,
+        parts.bound,
+        parts.tables,
+        &kinds,
+        parts.places.as_slice(),
+        parts.ends.as_slice(),
+        parts.sequences.as_slice(),
+    );
+    with_table(alloc, made, kinds, is_plain(parts.bound))
+}
+
+// The records, and the moves that they name.
+#[derive(Drop)]
+struct Made<const W: usize> {
+    places: Places,
+    early: Vec<Move<W>>,
+    late: Vec<Move<W>>,
+}
+
+// The records of the sequences whose places were kept.
+fn make<const W: usize>(
+    alloc: Global,
+    job: &Job,
+    bound: Bound,
+    tables: Tables,
+    kinds: &Kinds,
+    kept: &[Place],
+    ends: &[usize],
+    sequences: &[u32],
+) -> Result<Made<W>, NoMemory>
+    requires width { W ≤ 17 }
+    requires room { length job.now.machine.labels < 64 * W }
+    requires within { AllByRecursion (λ i. i < length job.now.sequences) sequences.now }
+    requires kept { AreKept job.now bound tables kinds.now kept.now ends.now sequences.now }
+    ensures { IfOk result (λ made. AreMade job.now bound tables kinds.now sequences.now
+        made.places (map move_sets made.early.items) (map move_sets made.late.items)) }
+{
+    let mut twins = twins_over(alloc, job, bound, tables)?;
+    make_by(alloc, job, bound, &mut twins, kinds, kept, ends, sequences)
+}
+
+// The same by twins that are over the tables of the places.
+fn make_by<const W: usize>(
+    alloc: Global,
+    job: &Job,
+    bound: Bound,
+    twins: &mut Twins<W>,
+    kinds: &Kinds,
+    kept: &[Place],
+    ends: &[usize],
+    sequences: &[u32],
+) -> Result<Made<W>, NoMemory>
+    requires width { W ≤ 17 }
+    requires needed { twins.old.needed ≡ goes_by bound.need }
+    requires first { slice_get twins.old.twins 0 ≡ Some dead_twin }
+    requires within { AllByRecursion (λ i. i < length job.now.sequences) sequences.now }
+    requires kept { AreKept job.now bound twins.old.table kinds.now kept.now ends.now sequences.now }
+    ensures { IfOk result (λ made. AreMade job.now bound twins.old.table kinds.now sequences.now
+        made.places (map move_sets made.early.items) (map move_sets made.late.items)) }
+{
+    let places = fill(alloc, job, bound, twins, kinds, kept, ends, sequences)?;
+    with_moves(alloc, twins, places)
+}
+
+// The records of a part with its kinds, whose ranks are kept as sets, too, where that is wanted and they are
+// few.
+fn with_table<const W: usize>(
+    alloc: Global,
+    made: Result<Made<W>, NoMemory>,
+    kinds: Kinds,
+    by_sets: bool,
+) -> Result<Records<W>, NoMemory>
+    requires width { W ≤ 17 }
+    ensures { (problem : Problem) (bound : Bounded) (table : TableValue) (sequences : List ℕ)
+        → IfOk made.entry (λ made. AreMade problem bound table kinds sequences
+        made.places (map move_sets made.early.items) (map move_sets made.late.items))
+        → AreColumns problem.machine.labels kinds.columns.numbers.items kinds.columns.heads.items
+        → IfOk result (λ found. AreRecords
+        (record { problem = problem; bound = bound; sequences = sequences })
+        found.places found.early found.late (ranks_of found.table) (CanAskOf found.table)) }
+{
+    match made {
+        Ok(made) => {
+            let table = RankTable::new(alloc, kinds, by_sets)?;
+            Ok(Records {
+                places: made.places,
+                early: made.early,
+                late: made.late,
+                table,
+            })
+        }
+        Err(NoMemory) => Err(NoMemory),
+    }
+}
+
+// No twins but that which does nothing, over these tables.
+fn twins_over<const W: usize>(
+    alloc: Global,
+    job: &Job,
+    bound: Bound,
+    tables: Tables,
+) -> Result<Twins<W>, NoMemory>
+    requires width { W ≤ 17 }
+    requires room { length job.now.machine.labels < 64 * W }
+    requires table { length tables.predecessors ≡ length job.now.machine.labels + 1 }
+    ensures { IfOk result (λ twins. twins
+        ≡ record { table = tables; needed = goes_by bound.need; twins = dead_twin ∷ [] }) }
+{
+    Twins::new(alloc, tables, goes_with(bound.need), job.fst().states())
+}
+
+// The records with the moves that they name.
+fn with_moves<const W: usize>(
+    alloc: Global,
+    twins: &Twins<W>,
+    places: Places,
+) -> Result<Made<W>, NoMemory>
+    requires width { W ≤ 17 }
+    ensures { IfOk result (λ made. (made.places ≡ places)
+        × (map move_sets made.early.items ≡ map (move_in false) twins.now.twins)
+        × (map move_sets made.late.items ≡ map (move_in true) twins.now.twins)) }
+{
+    let early = moves_of(alloc, twins.as_slice(), false)?;
+    let late = moves_of(alloc, twins.as_slice(), true)?;
+    Ok(Made {
+        places,
+        early,
+        late,
+    })
+}
+
+// The kinds without what only serves to find those of more items.
+fn without_numbers(alloc: Global, kinds: Kinds) -> Kinds
+    ensures columns { result.columns ≡ kinds.columns }
+    ensures kinds { result.kinds ≡ kinds.kinds }
+    ensures ends { result.ends ≡ kinds.ends }
+    ensures ranks { result.ranks ≡ kinds.ranks }
+{
+    Kinds {
+        columns: kinds.columns,
+        numbers: Vec::new(alloc),
+        kinds: kinds.kinds,
+        ends: kinds.ends,
+        ranks: kinds.ranks,
+        hints: Vec::new(alloc),
+    }
+}
+
+// Whether nothing is needed and few ranks may be written, so that sums by sets of ranks serve.
+fn is_plain(bound: Bound) -> bool
+    ensures { result ≡ true ↔ ((bound.need ≡ None) × (bound.top ≤ 255)) }
+{
+    bound.need.is_none() && bound.top <= 255
+}
+
+// Whether something is needed, so that a path that has seen it may write nothing more.
+fn goes_with(need: Option<u32>) -> bool
+    ensures { result ≡ goes_by need }
+{
+    match need {
+        None => false,
+        Some(_) => true,
+    }
+}

@@ -1,0 +1,135 @@
+//! What places do, numbered when it is first met.
+
+ghost use Rattle.std.specs.Prelude.{◌≡◌, ◌*◌, ◌≤◌, ◌<◌, [], ◌∷◌, length, map, slice_get, Some, IfOk};
+ghost use Rattle.mine_model.specs.Lists.{AddsTo};
+ghost use Rattle.place_records.specs.Twins.{twin_sets, dead_twin, AreTargets};
+ghost use Rattle.place_records.specs.Numbers.{HasTwin, TwinsGrow};
+
+use super::twin::{Twin, twin_of};
+use indexmap::IndexSet;
+use mine_model::NoMemory;
+use sequence_grids::{Tables, keep_step, known_step};
+use state_bits::StateSet;
+use std::alloc::Global;
+use std::marker::Model;
+
+/// What places do by the classes of their items and the triples behind them, each once, under numbers. The
+/// first one is that of a place where nothing is done.
+#[derive(Drop)]
+pub(crate) struct Twins<const W: usize> {
+    tables: Tables,
+    // Whether something is needed, and the states that edges lead into.
+    needed: bool,
+    targets: StateSet<W>,
+    twins: IndexSet<Twin<W>>,
+    // For a triple and one of the first classes the number of what a place does, or `NONE`.
+    numbers: Vec<u32>,
+}
+
+impl<const W: usize> Model for Twins<W> {
+    ghost use Rattle.std.specs.Prelude.{map};
+    ghost use Rattle.place_records.specs.Twins.{twin_sets};
+    ghost use Rattle.place_records.specs.Numbers.{TwinsValue, AreTwins};
+
+    ghost Value = { TwinsValue };
+
+    ghost view = { λ t. record { table = t.tables; needed = t.needed; twins = map twin_sets t.twins.keys } };
+
+    ghost invariant = { λ t. AreTwins t.tables t.needed t.targets (map twin_sets t.twins.keys)
+        t.numbers.items };
+}
+
+impl<const W: usize> Twins<W> {
+    /// Nothing but what does nothing, over these tables of so many states.
+    pub(crate) fn new(
+        alloc: Global,
+        tables: Tables,
+        needed: bool,
+        states: u32,
+    ) -> Result<Twins<W>, NoMemory>
+        requires width { W ≤ 17 }
+        requires states { states ≡ length tables.predecessors }
+        requires some { 1 ≤ states }
+        requires room { states ≤ 64 * W }
+        ensures { IfOk result (λ twins. twins
+            ≡ record { table = tables; needed = needed; twins = dead_twin ∷ [] }) }
+    {
+        let mut twins = IndexSet::new(alloc);
+        twins.insert(Twin::dead())?;
+        Ok(Twins {
+            tables,
+            needed,
+            targets: targets_below(states),
+            twins,
+            numbers: Vec::new(alloc),
+        })
+    }
+
+    /// The number of what a place does whose item has the class, before places of the triple.
+    #[inline]
+    pub(crate) fn number(&mut self, class: u32, behind: u32) -> Result<u32, NoMemory>
+        requires width { W ≤ 17 }
+        requires class { class < length self.old.table.classes }
+        requires behind { behind < length self.old.table.triples }
+        ensures grows { TwinsGrow self.old self.new }
+        ensures number { IfOk result (HasTwin self.new class behind) }
+    {
+        match known_step(self.numbers.as_slice(), class, behind) {
+            Some(number) => Ok(number),
+            None => self.new_number(class, behind),
+        }
+    }
+
+    /// What places do, by number.
+    pub(crate) fn as_slice(&self) -> &[Twin<W>]
+        requires { W ≤ 17 }
+        ensures { map twin_sets result.now ≡ self.now.twins }
+    {
+        self.twins.as_slice()
+    }
+
+    // The number, found out and kept.
+    #[inline(never)]
+    fn new_number(&mut self, class: u32, behind: u32) -> Result<u32, NoMemory>
+        requires width { W ≤ 17 }
+        requires class { class < length self.old.table.classes }
+        requires behind { behind < length self.old.table.triples }
+        ensures grows { TwinsGrow self.old self.new }
+        ensures number { IfOk result (HasTwin self.new class behind) }
+    {
+        let words = self.tables.words(class, behind);
+        let twin = twin_of(&self.targets, words, self.needed);
+        let number = twin_in(&mut self.twins, &twin)?;
+        keep_step(&mut self.numbers, class, behind, number)?;
+        Ok(number)
+    }
+}
+
+// The number of a twin, which is added if it is new.
+fn twin_in<const W: usize>(twins: &mut IndexSet<Twin<W>>, twin: &Twin<W>) -> Result<u32, NoMemory>
+    requires width { W ≤ 17 }
+    ensures grows { AddsTo (map twin_sets twins.old.keys) (twin_sets twin.now)
+        (map twin_sets twins.new.keys) }
+    ensures there { IfOk result (λ number.
+        slice_get (map twin_sets twins.new.keys) number ≡ Some (twin_sets twin.now)) }
+{
+    let (index, _new) = twins.insert_full(*twin)?;
+    match u32::try_from(index) {
+        Ok(number) => Ok(number),
+        Err(_) => Err(NoMemory),
+    }
+}
+
+// The states below the number that edges lead into: all but the start.
+fn targets_below<const W: usize>(states: u32) -> StateSet<W>
+    requires width { W ≤ 17 }
+    requires some { 1 ≤ states }
+    requires room { states ≤ 64 * W }
+    ensures { AreTargets states result }
+{
+    let mut targets = StateSet::new();
+    for k in 1..states {
+        targets.add(k);
+    }
+    targets
+}

@@ -1,0 +1,13 @@
+-- the words of the promise
+pub mod Runs
+pub mod Aims
+pub mod Snapshots
+pub mod Extensions
+pub mod Stands
+-- what the proofs keep
+pub mod Live
+pub mod Walks
+pub mod Grouped
+pub mod Terrains
+pub mod Founds
+pub mod Longer

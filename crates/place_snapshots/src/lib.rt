@@ -1,0 +1,26 @@
+//! Snapshots of prefixes: where each path of the transducer can stand that has just written one, and what may
+//! follow.
+#![tactic(auto)]
+
+mod beginning;
+mod growing;
+mod laws;
+mod next_rank;
+mod part;
+mod room;
+mod snapshot;
+mod snapshots;
+mod supporting;
+mod terrain;
+
+pub use beginning::begin;
+pub use growing::{Grown, grow};
+pub use laws::{
+    open_snapshots_are_where_longer_patterns_begin, snapshots_that_lack_nothing_are_open,
+};
+pub use next_rank::NextRank;
+pub use part::Part;
+pub use room::Room;
+pub use snapshot::Snapshot;
+pub use snapshots::Snapshots;
+pub use supporting::support;
