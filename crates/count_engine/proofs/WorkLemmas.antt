@@ -18,11 +18,11 @@ use Rattle.turn_lock.specs.Passes.{made, pass_count}
 use Rattle.count_shards.specs.declared.shards.Shards.{Shards}
 use Rattle.count_shards.specs.Blocks.{home_count, sequences_in, block_count, SumsBy}
 use Rattle.count_shards.specs.Shard.{entry_of}
-use Rattle.count_shards.specs.Shards.{Lock, ShardPass, PassLists, ArePassesOf, AreShardsOf, AreAllLists, column, AddedEachOnce}
+use Rattle.count_shards.specs.Shards.{Lock, ShardPass, PassLists, ArePassesOf, AreShardsOf, AreAllLists, AreNewLists, column, AddedEachOnce}
 use Rattle.count_engine.specs.declared.hands.Hand.{Hand}
 use Rattle.count_engine.specs.declared.hands.Done.{Done}
 use Rattle.count_engine.specs.Shares.{share_of, HasBlockPairs}
-use Rattle.count_engine.specs.Hands.{AreHandsOf, IsDone, AreListsOf, pairs_told}
+use Rattle.count_engine.specs.Hands.{IsHandOf, AreHandsOf, IsDone, AreListsOf, pairs_told}
 use Rattle.count_shards.proofs.BlockSums.{sums_more, sums_reordered, sums_laid}
 use Rattle.count_engine.proofs.ShareLemmas.{all_shares_of, shares_are_all, share_with, sums-flat}
 
@@ -30,6 +30,19 @@ use Rattle.count_engine.proofs.ShareLemmas.{all_shares_of, shares_are_all, share
 abbrev pub AreDone : Problem → Shards → ℕ → ℕ → List (Result Done NoMemory) → Type 0
 AreDone problem shards workers from results =
     (k : ℕ) (done : Done) → slice_get results k ≡ Some (Ok done) → IsDone problem shards workers (from + k) done
+
+-- what each worker is given
+pub given_hand : (shards : Shards) (workers : ℕ) (lists : PassLists) (hands : List Hand) → AreHandsOf lists hands → length lists ≡ workers → AreAllLists shards lists → AreNewLists lists
+    → (k : ℕ) (hand : Hand) → slice_get hands k ≡ Some hand → IsHandOf shards workers hand
+given_hand shards workers lists hands are few all new k hand at =
+    let (place, there) = are.each k hand at in
+    let below : k < length lists = slice_get_within lists k hand.passes there in
+    let same : get_or lists k hand.passes ≡ hand.passes = get_or_from_slice_get lists k hand.passes hand.passes there in
+    record {
+      worker = omega (arith, place, below, few);
+      passes = subst (λ (l : Vec ShardPass Global). ArePassesOf shards l.items) same (all.each k hand.passes below);
+      fresh = λ j d within. (new k hand.passes there j d within).1;
+    }
 
 module _ (problem : Problem) (shards : Shards) (workers : ℕ) where
   -- ---- passes

@@ -1,22 +1,23 @@
-ghost use Rattle.std.specs.Prelude.{◌≡◌, ◌≤◌, ◌<◌, ◌^◌, All, IfOk, Contains};
+ghost use Rattle.std.specs.Prelude.{◌≡◌, ◌≤◌, ◌<◌, ◌^◌, length, All, IfOk, Contains};
 ghost use Rattle.std.specs.List.{AllByRecursion};
 ghost use Rattle.mine_model.specs.declared.row.Row.{Row};
 ghost use Rattle.mine_model.specs.Numbered.{AreFrequent};
-ghost use Rattle.mine_model.specs.Counted.{IsCountingWork};
+ghost use Rattle.mine_model.specs.Counted.{HasPairs, IsTold, IsCountingWork};
 ghost use Rattle.mine_model.specs.Limits.{most_workers};
 ghost use Rattle.mining_job.specs.Problems.{data_of};
-ghost use Rattle.count_shards.specs.Shards.{AreShardsOf};
+ghost use Rattle.count_shards.specs.Shards.{AreShardsOf, AreAllLists, AreNewLists, AddedEachOnce};
 ghost use Rattle.count_engine.specs.Hands.{IsHandOf, IsDone};
 
 use super::hands::{Done, Hand, gathered, hands_of};
 use super::working::work;
-use count_shards::Shards;
+use count_shards::{Shard, Shards};
 use mine_model::{Gate, Mined, NoMemory, Work};
 use mining_job::Job;
 use std::alloc::Global;
 use std::sync::Wait;
 use std::thread;
 use std::thread::Threads;
+use turn_lock::Pass;
 
 /// One worker's whole run, with what it was given.
 fn done_by<R: Wait, G: Gate>(
@@ -46,6 +47,42 @@ fn done_by<R: Wait, G: Gate>(
     Ok(Done { passes, pairs })
 }
 
+/// What all workers give back, with these passes: the passes of each, in their order, and all pairs. It
+/// stands apart from `mine` for the proof alone: the one that owns the shards has to show at each of its
+/// exits that they are let go.
+fn done_by_all<R: Threads + Wait + Sync, G: Gate>(
+    rt: &R,
+    alloc: Global,
+    job: &Job,
+    shards: &Shards,
+    lists: Vec<Vec<Pass<Shard>>>,
+    workers: u32,
+    gate: &G,
+) -> Result<(Vec<Vec<Pass<Shard>>>, u64), NoMemory>
+    requires some { 1 ≤ workers }
+    requires few { workers ≤ most_workers }
+    requires shards { AreShardsOf job.now shards.now }
+    requires workers { length lists.items ≡ workers }
+    requires all { AreAllLists shards.now lists.items }
+    requires new { AreNewLists lists.items }
+    ensures all { IfOk result (λ r. AreAllLists shards.now r.0.items) }
+    ensures each_once { IfOk result (λ r. AddedEachOnce job.now r.0.items) }
+    ensures pairs { IfOk result (λ r. IsTold (HasPairs (data_of job.now) job.now.sequences) r.1) }
+{
+    let hands = hands_of(alloc, lists)?;
+    let results = thread::map_vec(
+        rt,
+        hands,
+        &|hand: Hand| -> Result<Done, NoMemory>
+            requires shards { AreShardsOf job.now shards.now }
+            requires hand { IsHandOf shards.now workers hand }
+            ensures { IfOk result (IsDone job.entry.now shards.entry.now workers hand.worker) }
+        { done_by(rt, alloc, job, shards, hand, workers, gate) },
+    )?;
+    let (lists, pairs) = gathered(alloc, results)?;
+    Ok((lists, pairs))
+}
+
 /// The frequent patterns of a job with their supports, each once, in no stated order, and the counted work.
 /// Each worker has a thread of its own, where one can be made.
 pub fn mine<R: Threads + Wait + Sync, G: Gate>(
@@ -63,18 +100,7 @@ pub fn mine<R: Threads + Wait + Sync, G: Gate>(
     ensures work { IfOk result (λ mined. IsCountingWork (data_of job.now) mined.work) }
 {
     let (shards, lists) = Shards::new(alloc, job, workers)?;
-    let hands = hands_of(alloc, lists)?;
-    let sums = &shards;
-    let results = thread::map_vec(
-        rt,
-        hands,
-        &|hand: Hand| -> Result<Done, NoMemory>
-            requires shards { AreShardsOf job.now sums.now }
-            requires hand { IsHandOf sums.now workers hand }
-            ensures { IfOk result (IsDone job.entry.now sums.entry.now workers hand.worker) }
-        { done_by(rt, alloc, job, sums, hand, workers, gate) },
-    )?;
-    let (lists, pairs) = gathered(alloc, results)?;
+    let (lists, pairs) = done_by_all(rt, alloc, job, &shards, lists, workers, gate)?;
     let rows = shards.close(alloc, job, lists)?;
     Ok(Mined {
         rows,

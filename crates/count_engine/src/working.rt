@@ -45,6 +45,32 @@ pub fn work<R: Wait, G: Gate>(
         (IsTold (HasBlockPairs job.now (share_of worker workers (block_count job.now)))) }
 {
     let mut counts = BlockCounts::new(alloc, job)?;
+    work_with(rt, job, shards, &mut counts, passes, worker, workers, gate)
+}
+
+/// The same in this room for the counts of a block.
+// It stands apart from `work` for the proof alone: who owns the room has to show at each exit that it is let
+// go, part by part.
+fn work_with<R: Wait, G: Gate>(
+    rt: &R,
+    job: &Job,
+    shards: &Shards,
+    counts: &mut BlockCounts,
+    passes: &mut [Pass<Shard>],
+    worker: u32,
+    workers: u32,
+    gate: &G,
+) -> Result<u64, NoMemory>
+    requires shards { AreShardsOf job.now shards.now }
+    requires counts { counts.old.problem ≡ job.now }
+    requires passes { ArePassesOf shards.now passes.old }
+    requires worker { worker < workers }
+    ensures passes { ArePassesOf shards.now passes.new }
+    ensures made { OnOk result (map made passes.new
+        ≡ map (λ pass. made pass ++ made_by job.now worker workers) passes.old) }
+    ensures pairs { IfOk result
+        (IsTold (HasBlockPairs job.now (share_of worker workers (block_count job.now)))) }
+{
     let mut pairs: u64 = 0;
     for block in 0..block_count(job) {
         if block % workers != worker {
@@ -52,7 +78,7 @@ pub fn work<R: Wait, G: Gate>(
         }
         gate.pass(worker, u64::from(block / workers));
         counts.fill(block)?;
-        shards.merge(rt, passes, &counts)?;
+        shards.merge(rt, passes, counts)?;
         pairs = pairs.saturating_add(counts.pairs());
     }
     Ok(pairs)

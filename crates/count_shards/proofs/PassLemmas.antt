@@ -1,6 +1,6 @@
 -- The passes of the shards: when they are dealt out, when a block is merged, and when they come back.
 use Rattle.std.proofs.Common.{◌≡◌, ℕ, zero, suc, ◌+◌, ◌<◌, ◌≤◌, inl, inr, List, [], ◌∷◌, ◌++◌, set, sym, refl, ap, subst, ◌∙◌, arith, length, length-append, length-set, map, sum_by, Some, slice_get}
-use Rattle.std.specs.List.{All, range_with_len}
+use Rattle.std.specs.List.{All, flat_map, range_with_len}
 use Rattle.std.specs.declared.alloc.Global.{Global}
 use Rattle.std.specs.declared.vec.Vec.{Vec}
 use Rattle.std.proofs.lemmas.Bool.{cases_eq, cases_lt}
@@ -176,8 +176,8 @@ module _ (shards : Shards) (lists : PassLists) (all : AreAllLists shards lists) 
       }
 
 -- a closed shard has each block once
-pub back_blocks : (problem : Problem) (lists : PassLists) (home : ℕ) (added : List (ℕ × ℕ)) → home < home_count → AddedEachOnce problem lists
-    → ((weight : List ℕ → ℕ) → sum_by (λ (c : Made). weight c.1) (history_of added) ≡ sum_by (λ (pass : ShardPass). sum_by weight (made pass)) (column home lists))
+pub closed_blocks : (problem : Problem) (passes : List ShardPass) (added : List (ℕ × ℕ)) → SameLabels (flat_map made passes) (map entry_of (range_with_len 0 (block_count problem)))
+    → ((weight : List ℕ → ℕ) → sum_by (λ (c : Made). weight c.1) (history_of added) ≡ sum_by (λ (pass : ShardPass). sum_by weight (made pass)) passes)
     → SameLabels (map entry_of (blocks_of added)) (map entry_of (range_with_len 0 (block_count problem)))
-back_blocks problem lists home added within once counts weight =
-    sym (history_weight weight added) ∙ counts weight ∙ sym (sum_by-flat_map weight made (column home lists)) ∙ once home within weight
+closed_blocks problem passes added once counts weight =
+    sym (history_weight weight added) ∙ counts weight ∙ sym (sum_by-flat_map weight made passes) ∙ once weight

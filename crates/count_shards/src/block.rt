@@ -54,8 +54,9 @@ impl<'a> BlockCounts<'a> {
         ensures problem { IfOk result (λ b. b.problem ≡ job.now) }
         ensures nothing { IfOk result (λ b. All (λ tally. tally ≡ no_lists) b.tallies × (b.pairs ≡ 0)) }
     {
-        let candidates = CandidateList::new(alloc, job)?;
         let homes = no_counts(alloc)?;
+        // Last, for the proof alone: so no exit has to let go of its many parts.
+        let candidates = CandidateList::new(alloc, job)?;
         Ok(BlockCounts {
             job,
             candidates,

@@ -1,11 +1,14 @@
-ghost use Rattle.std.specs.Prelude.{◌≡◌, ℕ, ◌<◌, ◌≤◌, List, [], ◌∷◌, ◌++◌, length, map, slice_get, Some, All, IfOk, OnOk, Contains};
-ghost use Rattle.std.specs.List.{AllByRecursion};
+ghost use Rattle.std.specs.Prelude.{◌≡◌, ℕ, ◌<◌, ◌≤◌, List, [], ◌∷◌, ◌++◌, ◌+◌, length, map, slice_get, Some, All, IfOk, OnOk, Contains};
+ghost use Rattle.std.specs.List.{AllByRecursion, flat_map, range_with_len};
 ghost use Rattle.mine_model.specs.declared.row.Row.{Row as TheRow};
 ghost use Rattle.mine_model.specs.Limits.{most_workers};
 ghost use Rattle.mine_model.specs.Numbered.{AreFrequent};
 ghost use Rattle.mining_job.specs.Problems.{data_of};
-ghost use Rattle.turn_lock.specs.Passes.{made};
-ghost use Rattle.count_shards.specs.Blocks.{AreCountsOf};
+ghost use Rattle.mine_model.specs.Labels.{SameLabels};
+ghost use Rattle.turn_lock.specs.Passes.{AreAllPasses, made, opened_with};
+ghost use Rattle.count_shards.specs.Blocks.{block_count, home_count, AreCountsOf};
+ghost use Rattle.count_shards.specs.Merging.{AreOpened};
+ghost use Rattle.count_shards.specs.Rows.{Appends, IsRowOf};
 ghost use Rattle.count_shards.specs.Shard.{entry_of};
 
 use super::block::{BlockCounts, HOMES};
@@ -26,7 +29,7 @@ pub struct Shards {
 impl Shards {
     ghost use Rattle.count_shards.specs.Shards.{AreShardsOf, ArePassesOf, AreAllLists, AreNewLists};
     ghost use Rattle.count_shards.specs.Shards.{AddedEachOnce};
-    ghost use Rattle.count_shards.specs.Merging.{AreOpened, HasMerged};
+    ghost use Rattle.count_shards.specs.Merging.{HasMerged};
 
     /// Shards of nothing, and the passes of so many workers, a list of sixteen for each.
     pub fn new(
@@ -44,9 +47,7 @@ impl Shards {
         let mut locks = Vec::with_capacity(alloc, HOMES as usize)?;
         let mut lists = Vec::with_capacity(alloc, HOMES as usize)?;
         for home in 0..HOMES {
-            let (lock, passes) = TurnLock::new(alloc, Shard::new(alloc, job, home), workers)?;
-            locks.push(lock)?;
-            lists.push(passes)?;
+            open_next(alloc, job, workers, home, &mut locks, &mut lists)?;
         }
         let passes = columns::<Pass<Shard>>(alloc, lists, workers as usize)?;
         Ok((Shards { locks }, passes))
@@ -120,9 +121,48 @@ impl Shards {
         let mut rows = Vec::new(alloc);
         'locks: while let Some(lock) = locks.pop() {
             let passes = lists.pop().unwrap();
-            let shard = lock.close(passes);
-            shard.append_rows(alloc, job, &mut rows)?;
+            append_closed(alloc, job, lock, passes, &mut rows)?;
         }
         Ok(rows)
     }
+}
+
+// Opens the shard of the next home, and appends its lock and its passes. It stands apart from `new` for the
+// proof alone, as does `append_closed` from `close`: so each has few values to let go of at its exits.
+fn open_next(
+    alloc: Global,
+    job: &Job,
+    workers: u32,
+    home: u32,
+    locks: &mut Vec<TurnLock<Shard>>,
+    lists: &mut Vec<Vec<Pass<Shard>>>,
+) -> Result<(), NoMemory>
+    requires workers { 1 ≤ workers }
+    requires home { home < home_count }
+    requires opened { AreOpened job.now workers home locks.old.items lists.old.items }
+    ensures { OnOk result (AreOpened job.now workers (home + 1) locks.new.items lists.new.items) }
+{
+    let (lock, passes) = TurnLock::new(alloc, Shard::new(alloc, job, home), workers)?;
+    locks.push(lock)?;
+    lists.push(passes)?;
+    Ok(())
+}
+
+// Takes the shard out of its lock, which gets all its passes back, and appends its rows.
+fn append_closed(
+    alloc: Global,
+    job: &Job,
+    lock: TurnLock<Shard>,
+    passes: Vec<Pass<Shard>>,
+    rows: &mut Vec<Row>,
+) -> Result<(), NoMemory>
+    requires job { (opened_with lock).problem ≡ job.now }
+    requires passes { AreAllPasses lock passes.items }
+    requires all { SameLabels (flat_map made passes.items)
+        (map entry_of (range_with_len 0 (block_count job.now))) }
+    ensures { OnOk result (Appends (IsRowOf job.now (opened_with lock).home)
+        rows.old.items rows.new.items) }
+{
+    let shard = lock.close(passes);
+    shard.append_rows(alloc, job, rows)
 }

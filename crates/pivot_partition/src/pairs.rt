@@ -23,6 +23,17 @@ pub(crate) fn pairs_of(alloc: Global, job: &Job, from: u32, to: u32) -> Result<V
     ensures { IfOk result (λ pairs. ArePairs job.now from to pairs.items) }
 {
     let mut pivots = Pivots::new(alloc, job)?;
+    let pairs = pairs_with(alloc, &mut pivots, from, to);
+    pivots.let_go();
+    pairs
+}
+
+/// The same, found in this room.
+fn pairs_with(alloc: Global, pivots: &mut Pivots, from: u32, to: u32) -> Result<Vec<Pair>, NoMemory>
+    requires rises { from ≤ to }
+    requires within { to ≤ length pivots.old.sequences }
+    ensures { IfOk result (λ pairs. ArePairs pivots.old from to pairs.items) }
+{
     let mut found = Vec::new(alloc);
     let mut pairs = Vec::new(alloc);
     for sequence in from..to {

@@ -17,12 +17,24 @@ pub fn pivots_of(alloc: Global, job: &Job, sequence: u32) -> Result<Vec<u32>, No
     requires { sequence < length job.now.sequences }
     ensures { IfOk result (λ found. ArePivots job.now (items_of job.now sequence) found.items) }
 {
-    let mut pivots = Pivots::new(alloc, job)?;
     let mut found = Vec::new(alloc);
-    pivots.fill(sequence, &mut found)?;
+    fill_alone(alloc, job, sequence, &mut found)?;
     found.sort_unstable();
     found.dedup();
     Ok(found)
+}
+
+// Lists the pivots of a sequence, each once and in any order, in room of its own.
+fn fill_alone(alloc: Global, job: &Job, sequence: u32, found: &mut Vec<u32>) -> Result<(), NoMemory>
+    requires { sequence < length job.now.sequences }
+    ensures once { OnOk result (AllPairs (λ one other. one ≢ other) found.new.items) }
+    ensures exact { OnOk result ((rank : ℕ) → Contains found.new.items rank
+        ↔ IsPivotOf job.now (items_of job.now sequence) rank) }
+{
+    let mut pivots = Pivots::new(alloc, job)?;
+    let filled = pivots.fill(sequence, found);
+    pivots.let_go();
+    filled
 }
 
 /// Finds the pivots of one sequence of a job after another, each time in the same room.
@@ -116,6 +128,10 @@ impl<'a> Pivots<'a> {
         self.grids.clear();
         found_all
     }
+
+    /// Lets the room go. This is for the proof alone: where room is let go at an exit, the proof goes through
+    /// all its parts, so they are let go here alone, and who makes room does nothing else.
+    pub(crate) fn let_go(self) {}
 }
 
 /// So many zeros.

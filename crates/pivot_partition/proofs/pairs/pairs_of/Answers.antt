@@ -1,22 +1,12 @@
-use Rattle.std.proofs.Common.{◌≡◌, ◌++◌, ◌+◌, ◌∙◌, map, ap, arith, subst, sym}
+use Rattle.std.proofs.Common.{◌≤◌, IfOk, length, sym, subst}
+use Rattle.std.specs.Global.{Vec}
+use Rattle.mining_job.specs.Problems.{Problem}
+use Rattle.pivot_partition.specs.declared.pairs.Pair.{Pair}
 use Rattle.pivot_partition.specs.Pairs.{ArePairs}
-use Rattle.pivot_partition.proofs.PairLemmas.{pair_of, pairs-one, pairs-append}
 use Rattle.pivot_partition.proofs.pairs.pairs_of.Goals as goal
 
-pub loop-sequence-preserved : goal.loop-sequence-preserved
-loop-sequence-preserved c =
-    let is = c.loop-sequence.invariant in
-    let fill = rw is.same at c.in_ok-fill.ensures in
-    record {
-      same = c.fill.ensures.same ∙ is.same;
-      pairs = subst (ArePairs c.args.job.now c.args.from (c.loop-sequence.sequence + 1))
-          (sym (c.in_ok-push_pairs.ensures ∙ ap (λ l. c.loop-sequence.pairs.items ++ map (pair_of c.loop-sequence.sequence) l) c.as_slice.ensures.value))
-          (pairs-append c.args.job.now c.args.from c.loop-sequence.sequence (c.loop-sequence.sequence + 1) c.loop-sequence.pairs.items
-          (map (pair_of c.loop-sequence.sequence) c.fill.new.found.items) c.loop-sequence.auto.sequence (omega arith) is.pairs
-          (pairs-one c.args.job.now c.loop-sequence.sequence c.fill.new.found.items fill.once fill.exact));
-    }
+pub pairs_with-pairs-requires-clause-within : goal.pairs_with-pairs-requires-clause-within
+pairs_with-pairs-requires-clause-within c = subst (λ (p : Problem). c.args.to ≤ length p.sequences) (sym c.in_ok-pivots.ensures) c.requires.within
 
 pub returns : goal.returns
-returns c =
-    let done : c.loop-sequence.sequence ≡ c.args.to = omega (arith, c.loop-sequence-test.false, c.loop-sequence.auto.sequence-end c.requires.rises) in
-    subst (λ n. ArePairs c.args.job.now c.args.from n c.loop-sequence.pairs.items) done c.loop-sequence.invariant.pairs
+returns c = subst (λ (p : Problem). IfOk c.pairs_with-pairs.result (λ (pairs : Vec Pair). ArePairs p c.args.from c.args.to pairs.items)) c.in_ok-pivots.ensures c.pairs_with-pairs.ensures

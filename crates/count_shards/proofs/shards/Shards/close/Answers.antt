@@ -1,18 +1,21 @@
-use Rattle.std.proofs.Common.{◌≡◌, ◌<◌, ◌+◌, ◌∷◌, [], ◌++◌, ℕ, Some, slice_get, get_or, length, length-append, ap, sym, subst, ◌∙◌, arith}
-use Rattle.mining_job.specs.Problems.{Problem}
-use Rattle.count_shards.specs.Blocks.{home_count}
+use Rattle.std.proofs.Common.{◌≡◌, ◌<◌, ◌+◌, ◌∷◌, [], ◌++◌, ℕ, List, map, Some, slice_get, get_or, length, length-append, ap, sym, subst, ◌∙◌, arith}
+use Rattle.std.specs.List.{flat_map, range_with_len}
+use Rattle.mine_model.specs.Labels.{SameLabels}
+use Rattle.turn_lock.specs.Passes.{made}
+use Rattle.count_shards.specs.Blocks.{home_count, block_count}
 use Rattle.count_shards.specs.Rows.{Appends, IsRowOf, AreRowsFrom}
-use Rattle.count_shards.specs.Shards.{column}
+use Rattle.count_shards.specs.Shard.{entry_of}
+use Rattle.count_shards.specs.Shards.{ShardPass, column}
 use Rattle.count_shards.proofs.Lists.{get_popped, get_before}
-use Rattle.count_shards.proofs.PassLemmas.{back_passes, back_blocks, lists_width}
+use Rattle.count_shards.proofs.PassLemmas.{back_passes, lists_width}
 use Rattle.count_shards.proofs.HomeRows.{rows_more, frequent_rows, rows_within}
 use Rattle.count_shards.proofs.shards.Shards.close.Goals as goal
 
 pub columns-requires : goal.columns-requires
 columns-requires c = λ k d below. (get_or c.args.passes.items k d).ok.0 ∙ lists_width c.args.self c.args.passes.items c.requires.all k d below ∙ sym (c.args.self.locks.ok.0) ∙ sym c.len.ensures
 
-pub close-shard-requires-after_bounds : goal.close-shard-requires-after_bounds
-close-shard-requires-after_bounds c =
+pub append_closed-requires-clause-passes : goal.append_closed-requires-clause-passes
+append_closed-requires-clause-passes c =
     let lock = c.in-Some.lock in
     let rest = c.pop.new.self.items in
     let home : ℕ = length rest in
@@ -21,17 +24,17 @@ close-shard-requires-after_bounds c =
     let popped : c.locks.lists.items ≡ c.pop-in-Some.new.self.items ++ passes ∷ [] = rw c.unwrap-passes.ensures at c.pop-in-Some.ensures.items in
     let place : length c.pop-in-Some.new.self.items ≡ home = omega (arith, c.locks.invariant.count, ap length popped, length-append c.pop-in-Some.new.self.items (passes ∷ []), ap length c.in-Some.ensures.items, length-append rest (lock ∷ [])) in
     let is : passes.items ≡ column home c.args.passes.items = c.locks.invariant.columns home passes (subst (λ (k : ℕ). slice_get c.locks.lists.items k ≡ Some passes) place (get_popped c.locks.lists.items c.pop-in-Some.new.self.items passes popped)) in
-    λ _. rw is (back_passes c.args.self c.args.passes.items c.requires.all home lock at)
+    rw is (back_passes c.args.self c.args.passes.items c.requires.all home lock at)
 
-pub append_rows-requires-clause-job : goal.append_rows-requires-clause-job
-append_rows-requires-clause-job c =
+pub append_closed-requires-clause-job : goal.append_closed-requires-clause-job
+append_closed-requires-clause-job c =
     let lock = c.in-Some.lock in
     let rest = c.pop.new.self.items in
     let at = c.locks.invariant.locks (length rest) lock (get_popped c.locks.locks.items rest lock c.in-Some.ensures.items) in
-    ap (λ (g : Problem × ℕ). g.0) c.close-shard.ensures.stays ∙ (c.requires.shards.each (length rest) lock at).0
+    (c.requires.shards.each (length rest) lock at).0
 
-pub append_rows-requires-clause-all : goal.append_rows-requires-clause-all
-append_rows-requires-clause-all c =
+pub append_closed-requires-clause-all : goal.append_closed-requires-clause-all
+append_closed-requires-clause-all c =
     let lock = c.in-Some.lock in
     let rest = c.pop.new.self.items in
     let home : ℕ = length rest in
@@ -40,7 +43,7 @@ append_rows-requires-clause-all c =
     let place : length c.pop-in-Some.new.self.items ≡ home = omega (arith, c.locks.invariant.count, ap length popped, length-append c.pop-in-Some.new.self.items (passes ∷ []), ap length c.in-Some.ensures.items, length-append rest (lock ∷ [])) in
     let is : passes.items ≡ column home c.args.passes.items = c.locks.invariant.columns home passes (subst (λ (k : ℕ). slice_get c.locks.lists.items k ≡ Some passes) place (get_popped c.locks.lists.items c.pop-in-Some.new.self.items passes popped)) in
     let within : home < home_count = omega (arith, c.locks.invariant.few, ap length c.in-Some.ensures.items, length-append rest (lock ∷ [])) in
-    back_blocks c.args.job.now c.args.passes.items home c.close-shard.result.added within c.requires.each_once (rw is at c.close-shard.ensures.counts)
+    subst (λ (ps : List ShardPass). SameLabels (flat_map made ps) (map entry_of (range_with_len 0 (block_count c.args.job.now)))) (sym is) (c.requires.each_once home within)
 
 pub locks-preserved : goal.locks-preserved
 locks-preserved c =
@@ -53,14 +56,13 @@ locks-preserved c =
     let left = c.pop-in-Some.new.self.items in
     let popped : c.locks.lists.items ≡ left ++ passes ∷ [] = rw c.unwrap-passes.ensures at c.pop-in-Some.ensures.items in
     let long : length c.locks.locks.items ≡ home + 1 = ap length c.in-Some.ensures.items ∙ length-append rest (lock ∷ []) in
-    let same : c.close-shard.result.home ≡ home = ap (λ (g : Problem × ℕ). g.1) c.close-shard.ensures.stays ∙ (c.requires.shards.each home lock at).1 in
-    let appends : Appends (IsRowOf problem home) c.locks.rows.items c.append_rows.new.rows.items = subst (λ (h : ℕ). Appends (IsRowOf problem h) c.locks.rows.items c.append_rows.new.rows.items) same c.in_ok-append_rows.ensures in
+    let appends : Appends (IsRowOf problem home) c.locks.rows.items c.append_closed.new.rows.items = subst (λ (h : ℕ). Appends (IsRowOf problem h) c.locks.rows.items c.append_closed.new.rows.items) (c.requires.shards.each home lock at).1 c.in_ok-append_closed.ensures in
     record {
       locks = λ k l there. c.locks.invariant.locks k l (get_before c.locks.locks.items rest lock c.in-Some.ensures.items k l there);
       few = omega (arith, c.locks.invariant.few, long);
       count = omega (arith, c.locks.invariant.count, ap length popped, length-append left (passes ∷ []), long);
       columns = λ k list there. c.locks.invariant.columns k list (get_before c.locks.lists.items left passes popped k list there);
-      rows = rows_more problem c.hierarchy.ensures.whole home (length c.locks.locks.items) c.locks.rows.items c.append_rows.new.rows.items (omega (arith, c.locks.invariant.few, long)) long c.locks.invariant.rows appends;
+      rows = rows_more problem c.hierarchy.ensures.whole home (length c.locks.locks.items) c.locks.rows.items c.append_closed.new.rows.items (omega (arith, c.locks.invariant.few, long)) long c.locks.invariant.rows appends;
     }
 
 pub returns-clause-frequent : goal.returns-clause-frequent

@@ -1,23 +1,6 @@
-use Rattle.std.proofs.Common.{◌≡◌, get_or, length, ap, ◌∙◌, arith}
-use Rattle.count_shards.specs.Shard.{ShardSums}
-use Rattle.count_shards.specs.Merging.{IsOpened}
-use Rattle.count_shards.proofs.PassLemmas.{opened_more, opened_width, opened_shards, opened_lists, opened_new}
+use Rattle.std.proofs.Common.{◌≡◌, get_or, length, ◌∙◌, arith}
+use Rattle.count_shards.proofs.PassLemmas.{opened_width, opened_shards, opened_lists, opened_new}
 use Rattle.count_shards.proofs.shards.Shards.new.Goals as goal
-
-pub loop-home-preserved : goal.loop-home-preserved
-loop-home-preserved c =
-    let problem = c.args.job.now in
-    let home = c.loop-home.home in
-    let lock = c.in_ok-lock.lock in
-    let passes = c.in_ok-lock.passes in
-    let begins = c.in_ok-lock.ensures.lock.0 ∙ c.new.ensures in
-    let one : IsOpened problem c.args.workers home lock passes.items = record {
-      ground = (ap (λ (s : ShardSums). s.problem) begins, ap (λ (s : ShardSums). s.home) begins);
-      count = c.in_ok-lock.ensures.lock.1;
-      all = c.in_ok-lock.ensures.all;
-      fresh = c.in_ok-lock.ensures.fresh;
-    } in
-    rw (c.in_ok-push.ensures.items, c.in_ok-push-2.ensures.items) (opened_more problem c.args.workers home c.loop-home.locks.items c.loop-home.lists.items lock passes c.loop-home.invariant one)
 
 pub columns-requires : goal.columns-requires
 columns-requires c = λ k d below. (get_or c.loop-home.lists.items k d).ok.0 ∙ opened_width c.args.job.now c.args.workers c.loop-home.home (record { locks = c.loop-home.locks }) c.loop-home.lists.items c.loop-home.invariant k d below

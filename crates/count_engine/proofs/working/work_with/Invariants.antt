@@ -4,7 +4,7 @@ use Rattle.count_shards.specs.Shards.{ArePassesOf}
 use Rattle.mine_model.specs.Counted.{IsTold}
 use Rattle.count_engine.specs.Shares.{share_of, HasBlockPairs}
 use Rattle.count_engine.proofs.MadeLemmas.{MadeMore}
-use Rattle.count_engine.proofs.working.work.Given as goal
+use Rattle.count_engine.proofs.working.work_with.Given as goal
 
 abbrev pub invariant-loop-block : goal.invariant-loop-block
 invariant-loop-block g l = record {

@@ -7,7 +7,7 @@ use Rattle.count_engine.specs.Shares.{share_of, HasBlockPairs}
 use Rattle.count_engine.proofs.ShareLemmas.{share_without}
 use Rattle.count_engine.proofs.MadeLemmas.{MadeMore, made_none, made_with}
 use Rattle.count_engine.proofs.WorkLemmas.{pairs_with}
-use Rattle.count_engine.proofs.working.work.Goals as goal
+use Rattle.count_engine.proofs.working.work_with.Goals as goal
 
 pub loop-block-preserved-then-block-workers : goal.loop-block-preserved-then-block-workers
 loop-block-preserved-then-block-workers g c =
@@ -40,7 +40,7 @@ pub loop-block-init : goal.loop-block-init
 loop-block-init g c = record {
   passes = c.requires.passes;
   made = made_none c.args.passes.now;
-  problem = c.in_ok-counts.ensures.problem;
+  problem = c.requires.counts;
   pairs = (0, refl, refl);
 }
 
