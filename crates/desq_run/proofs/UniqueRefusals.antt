@@ -5,7 +5,7 @@ use Rattle.mine_model.specs.declared.fault.Fault.TheVariants.{BadByte, NameTooLo
 use Rattle.mine_model.specs.declared.fault.Which.{Which}
 use Rattle.mine_model.specs.declared.fault.Which.TheVariants.{Hierarchy, Sequences, Merged}
 use Rattle.mine_model.specs.Hierarchy.{PlacedLink, IsCycleLine}
-use Rattle.mine_model.specs.Text.{Field, lines_of, bad_byte, long_name, IsFirstTextFault}
+use Rattle.mine_model.specs.Text.{Field, lines_of, bad_byte, long_name}
 use Rattle.mine_model.specs.First.{FirstAmong}
 use Rattle.mine_model.specs.Refusal.{IsTextRefusal, IsHierarchyLineRefusal, IsHierarchyRefusal, IsBadWeight, IsSequenceLineRefusal, IsSequencesRefusal, placed_links_of}
 use Rattle.mine_model.proofs.TextFaultLemmas.{text-unique, bad≢long}
@@ -17,8 +17,8 @@ use Rattle.mine_model.specs.Tokens.{Each}
 use Rattle.mine_model.proofs.ListLemmas.{AllByRecursion-weaker}
 use Rattle.proof_names.specs.Numberings.{IsFileName}
 use Rattle.command_line.specs.Words.{Source, read, embed, make, merge, Task, mine, prove, check}
-use Rattle.split_merge.specs.declared.faults.MergeFault.TheVariants as merges
-use Rattle.split_merge.specs.Merging.{FileFault, IsMergedLineRefusal, IsMergedFileRefusal, IsMergeRefusal, lines_of_files}
+use Rattle.split_merge.specs.Merging.{FileFault}
+use Rattle.split_merge.proofs.RefusalLemmas.{merge-unique}
 use Rattle.desq_run.specs.Said.{RefusesHierarchy, RefusesSequences}
 use Rattle.desq_run.specs.Merged.{fault_in, RefusesMerged}
 use Rattle.desq_run.specs.Ends.{Input, known_names, data_of, RefusesProof}
@@ -78,33 +78,7 @@ sequences-once (embed rule file) weighted known bytes = sequences-unique weighte
 sequences-once (make count expression) weighted known bytes = λ f g p q. absurd p
 sequences-once (merge files) weighted known bytes = λ f g p q. absurd p
 
--- the text of a line of a merged file
-merged-text-unique : (line : ℕ) (text : List ℕ) → AtMostOne (λ fault. (column : ℕ)
-    × ((IsFirstTextFault text bad_byte column × (fault ≡ merges.BadByte line column))
-    ⊎ (IsFirstTextFault text long_name column × (fault ≡ merges.NameTooLong line column))))
-merged-text-unique line text f g (c, inl p) (d, inl q) = p.1 ∙ ap (merges.BadByte line) (text-unique text bad_byte bad_byte c d p.0 q.0).1 ∙ sym q.1
-merged-text-unique line text f g (c, inl p) (d, inr q) = absurd (bad≢long (text-unique text bad_byte long_name c d p.0 q.0).0)
-merged-text-unique line text f g (c, inr p) (d, inl q) = absurd (bad≢long (text-unique text bad_byte long_name d c q.0 p.0).0)
-merged-text-unique line text f g (c, inr p) (d, inr q) = p.1 ∙ ap (merges.NameTooLong line) (text-unique text long_name long_name c d p.0 q.0).1 ∙ sym q.1
-
-merged-file-unique : (threshold : ℕ) (earlier : List (List ℕ)) (bytes : List ℕ) → AtMostOne (IsMergedFileRefusal threshold earlier bytes)
-merged-file-unique threshold earlier bytes =
-    FirstOf-unique _ _ (λ f g p q. p.1 ∙ sym q.1)
-    (FirstAmong-unique (IsMergedLineRefusal threshold earlier)
-    (λ before text. FirstOf-unique _ _ (merged-text-unique (length before + 1) text)
-    (FirstOf-unique _ _ (λ f g p q. p.1 ∙ sym q.1) (λ f g p q. p.1 ∙ sym q.1))) [] (lines_of bytes))
-
-FileFault-same : (f g : FileFault) → f.file ≡ g.file → f.fault ≡ g.fault → f ≡ g
-FileFault-same f g file fault =
-    ap (λ n. record { file = n; fault = f.fault }) file ∙ ap (λ e. record { file = g.file; fault = e }) fault
-
-merge-unique : (threshold : ℕ) (files : List (List ℕ)) → AtMostOne (IsMergeRefusal threshold files)
-merge-unique threshold files =
-    FirstAmong-unique (λ before bytes (refused : FileFault). (refused.file ≡ length before + 1)
-    × IsMergedFileRefusal threshold (lines_of_files before) bytes refused.fault)
-    (λ before bytes f g p q. FileFault-same f g (p.0 ∙ sym q.0)
-    (merged-file-unique threshold (lines_of_files before) bytes f.fault g.fault p.1 q.1)) [] files
-
+-- so of the files of a merge
 pub merged-once : (source : Source) (threshold : ℕ) (files : List (List ℕ)) → AtMostOne (RefusesMerged source threshold files)
 merged-once (read expression file) threshold files = λ f g p q. absurd p
 merged-once (embed rule file) threshold files = λ f g p q. absurd p
