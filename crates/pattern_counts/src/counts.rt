@@ -1,6 +1,6 @@
 //! Lists of ranks with sums, which are found by their hashes, and the memory that they have.
 
-ghost use Rattle.std.specs.Prelude.{◌≡◌, ℕ, ◌+◌, ◌^◌, ◌<◌, ◌≤◌, ◌↔◌, List, [], length, slice_get, Some, Contains, IsNone, IsTrue, IfSome, OnOk};
+ghost use Rattle.std.specs.Prelude.{◌≡◌, ℕ, ◌+◌, ◌^◌, ◌<◌, ◌≤◌, ◌↔◌, List, [], ◌∷◌, ◌++◌, length, slice_get, Some, Contains, IsNone, IsTrue, IfSome, OnOk};
 ghost use Rattle.pattern_counts.specs.Tally.{no_lists, IsTally, sum_of, Adds};
 ghost use Rattle.pattern_counts.specs.Lists.{ranks_of};
 ghost use Rattle.pattern_counts.specs.Hashes.{hash_of};
@@ -75,6 +75,7 @@ impl Counts {
     pub(crate) fn len(&self) -> usize
         ensures count { result ≡ length self.now.tally.lists }
         ensures tally { IsTally self.now.tally }
+        ensures few { length self.now.tally.lists ≤ 4294967295 }
     {
         self.lists.len()
     }
@@ -153,6 +154,7 @@ impl Counts {
         requires room { HasRoom self.old 1 (length list.now) }
         ensures adds { Adds list.now weight self.old.tally self.new.tally }
         ensures tally { IsTally self.new.tally }
+        ensures lists { self.new.tally.lists ≡ self.old.tally.lists ++ list.now ∷ [] }
         ensures count { length self.new.tally.lists ≡ length self.old.tally.lists + 1 }
         ensures ranks { ranks_of self.new.tally.lists ≡ ranks_of self.old.tally.lists + length list.now }
         ensures most_lists { self.old.most_lists ≤ self.new.most_lists }

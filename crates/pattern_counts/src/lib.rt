@@ -6,7 +6,7 @@ mod hashes;
 mod lists;
 mod table;
 
-ghost use Rattle.std.specs.Prelude.{◌≡◌, ℕ, ◌+◌, ◌^◌, ◌<◌, ◌⊎◌, ◌↔◌, List, length, slice_get, Some, Contains, IsTrue, IsOk, OnOk, OnErr};
+ghost use Rattle.std.specs.Prelude.{◌≡◌, ℕ, ◌+◌, ◌^◌, ◌<◌, ◌⊎◌, ◌↔◌, ◌∷◌, ◌++◌, [], List, length, slice_get, Some, Contains, IsTrue, IfOk, IsOk, OnOk, OnErr};
 ghost use Rattle.pattern_counts.specs.Tally.{no_lists, IsTally, sum_of, Adds, AddsAll};
 
 use counts::Counts;
@@ -99,6 +99,24 @@ impl PatternCounts {
         self.counts.reserve(1, list.len())?;
         self.counts.append(hash, list, weight);
         Ok(())
+    }
+
+    /// The number of the list, which is added with the sum 0 if it is not held.
+    pub fn number(&mut self, list: &[u32]) -> Result<u32, NoMemory>
+        ensures number { IfOk result (λ number. slice_get self.new.lists number ≡ Some list.now) }
+        ensures lists { OnOk result ((self.new.lists ≡ self.old.lists)
+            ⊎ (self.new.lists ≡ self.old.lists ++ list.now ∷ [])) }
+        ensures tally { IsTally self.new }
+        ensures err { OnErr result (self.new ≡ self.old) }
+    {
+        let hash = hash_of(list);
+        let count = self.counts.len();
+        if let Some(number) = self.counts.find(hash, list) {
+            return Ok(number as u32);
+        }
+        self.counts.reserve(1, list.len())?;
+        self.counts.append(hash, list, 0);
+        Ok(count as u32)
     }
 
     /// Adds to the sum of each list the other's sum of it. Takes all memory before the first sum.

@@ -20,7 +20,7 @@ use walk_memo::Memo;
 use walk_places::Places;
 
 // Once so many visits were made no further sequence is begun.
-const MANY_VISITS: usize = 32_768;
+const MANY_VISITS: usize = 524_288;
 
 /// Walks through the sequences of the next stands, from this one on, until there are many visits or no
 /// stands: at least through one, and through each to its end. Fills the room anew, and tells the first stand

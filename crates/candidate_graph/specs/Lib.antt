@@ -1,0 +1,7 @@
+-- the words of the promise
+pub mod Courses
+pub mod Graphs
+pub mod Paths
+-- what the proofs keep
+pub mod Words
+pub mod Kept
