@@ -1,18 +1,15 @@
 -- The kids of a label are the ranks that can follow in sequences that weigh enough.
-use Rattle.std.proofs.Common.{◌≡◌, ◌≢◌, ℕ, ◌≤◌, ◌<◌, List, [], ◌∷◌, ◌++◌, map, get_or, sym, subst, arith}
-use Rattle.std.specs.List.{All, AllPairs, Contains}
+use Rattle.std.proofs.Common.{ℕ, ◌≤◌, ◌<◌, List, [], ◌∷◌, ◌++◌, map, get_or, sym, subst, arith}
+use Rattle.std.specs.List.{AllPairs, Contains}
 use Rattle.std.proofs.lemmas.List.{get_or_default}
-use Rattle.std.proofs.lemmas.List.Elements.{Contains-get_or, Contains-append_left}
 use Rattle.std.proofs.lemmas.List.Kept.{AllPairs-cons}
 use Rattle.std.proofs.lemmas.Simd.{map-map}
 use Rattle.mine_model.specs.declared.item.Item.{Item}
 use Rattle.mine_model.specs.Support.{Counts}
 use Rattle.mine_model.specs.Growth.{WeighAtLeast}
-use Rattle.mine_model.specs.Ranks.{HasRank, AreRanked}
-use Rattle.mine_model.specs.Pivots.{IsRankedUpTo, label_of, IsAliveLabel}
+use Rattle.mine_model.specs.Pivots.{label_of, IsAliveLabel}
 use Rattle.search_tree.specs.SearchTree.{AreKids}
-use Rattle.mine_model.proofs.ListLemmas.{AllByRecursion-contained, Contains-by, Contains-from, Contains-first, Contains-other, AllPairs-head, AllPairs-tail}
-use Rattle.mine_model.proofs.RankedLemmas.{same_ranks}
+use Rattle.mine_model.proofs.ListLemmas.{Contains-by, Contains-from, AllPairs-head, AllPairs-tail}
 use Rattle.mine_model.proofs.FrequencyLemmas.{Counts-by}
 use Rattle.mine_model.proofs.AliveLemmas.{WeighAtLeast-counted, WeighAtLeast-weaker, WeighAtLeast-some}
 use Rattle.mining_job.specs.declared.part_seed.PartSeed.{PartSeed}
@@ -49,35 +46,6 @@ module _ (problem : Problem) (seed : PartSeed) (complete : IsComplete problem se
       let Has : List Item → Type 0 = Behind problem seed complete alive.prefix in
       WeighAtLeast-weaker Has (GrowsBehind part ranks) (λ items. (grows-behind problem seed complete alive.prefix ranks alive.ranked items).1) (sequences_of part) problem.threshold
       (part-weighs problem seed complete Has (behind-any problem seed complete alive.prefix) problem.threshold alive.alive)
-
--- the last rank is that of one of the items
-ranked-last : (order items : List Item) (ranks : List ℕ) (rank : ℕ) → AreRanked order items (ranks ++ rank ∷ []) → (v : Item) × Contains items v × HasRank order v rank
-ranked-last order [] [] rank ranked = absurd ranked
-ranked-last order [] (r ∷ ranks) rank ranked = absurd ranked
-ranked-last order (v ∷ items) [] rank ranked = (v, Contains-first v items, ranked.0)
-ranked-last order (v ∷ items) (r ∷ ranks) rank ranked =
-    let (w, held, has) = ranked-last order items ranks rank ranked.1 in (w, Contains-other v items w held, has)
-
--- a rank that can follow is one that the bound allows
-follows-bounded : (part : GridList) (ranks : List ℕ) (rank : ℕ) (items : List Item) → AllPairs (λ v w. v ≢ w) part.problem.ranking.order
-    → GrowsBehind part (ranks ++ rank ∷ []) items → (1 ≤ rank) × (rank ≤ part.bound.top)
-follows-bounded part ranks rank items once (prefix, ranked, (more, pattern, within)) =
-    let order = part.problem.ranking.order in
-    let (v, held, has) = ranked-last order prefix ranks rank ranked in
-    let (other, also, most) = AllByRecursion-contained (IsRankedUpTo order part.bound.top) (prefix ++ more) v within.ranked (Contains-append_left prefix more v held) in
-    let same : rank ∷ [] ≡ other ∷ [] = same_ranks order once (v ∷ []) (rank ∷ []) (other ∷ []) (has, tt) (also, tt) in
-    let equal : rank ≡ other = cc in
-    (has.least, omega (arith, most, equal))
-
-pub next-bounded : (part : GridList) (ranks : List ℕ) (least : ℕ) (found : List NextRank) → AllPairs (λ v w. v ≢ w) part.problem.ranking.order → 1 ≤ least
-    → AreNextRanks part ranks least found → All (λ (n : NextRank). (1 ≤ n.rank) × (n.rank ≤ part.bound.top)) found
-next-bounded part ranks least found once some next = λ k d below.
-    let n : NextRank = get_or found k d in
-    let right = next.right n (Contains-get_or found k d below) in
-    let Grows : List Item → Type 0 = GrowsBehind part (ranks ++ n.rank ∷ []) in
-    let weigh : WeighAtLeast Grows (sequences_of part) 1 = (WeighAtLeast-counted Grows (sequences_of part) n.weight 1 right.1).1 (omega (arith, right.0, some)) in
-    let (s, held, grows) = WeighAtLeast-some Grows (sequences_of part) 1 (omega arith) weigh in
-    follows-bounded part ranks n.rank s.items once grows
 
 -- pairs of images
 pairs-map : {X Y : Type 0} (f : X → Y) (R : Y → Y → Type 0) (xs : List X) → AllPairs (λ x y. R (f x) (f y)) xs → AllPairs R (map f xs)

@@ -11,7 +11,7 @@ use Rattle.mining_job.specs.declared.part_seed.PartSeed.{PartSeed}
 use Rattle.mining_job.specs.Problems.{Problem}
 use Rattle.sequence_grids.specs.Grids.{GridList}
 use Rattle.snapshot_project.specs.declared.next_rank.NextRank.{NextRank}
-use Rattle.snapshot_project.specs.Snapshots.{SnapshotList, AreSnapshots}
+use Rattle.snapshot_project.specs.Stands.{StandList, IsProjected}
 use Rattle.dfs_growth.specs.Nodes.{Prefix, label_at, prefix_at, longer_by}
 use Rattle.dfs_growth.specs.Projections.{part_of, IsPartBy, IsProjection, IsRootOf}
 
@@ -39,7 +39,7 @@ pub ranks-at : (problem : Problem) (label : List ℕ) → 1 ≤ length label →
 ranks-at problem [] some = absurd (omega (arith, some))
 ranks-at problem (pivot ∷ ranks) some = take_all (length (pivot ∷ ranks) - 1) ranks (omega arith)
 
-module _ (problem : Problem) (label : List ℕ) (part : GridList) (list : SnapshotList) (is : IsProjection (prefix_at problem label) part list) where
+module _ (problem : Problem) (label : List ℕ) (part : GridList) (list : StandList) (is : IsProjection (prefix_at problem label) part list) where
   -- the part of a node is one of its problem
   pub part-at : IsPartBy problem (prefix_at problem label).pivot part
   part-at = subst (λ p. IsPartBy p (prefix_at problem label).pivot part) (problem-at problem label) is.part_by
@@ -47,18 +47,30 @@ module _ (problem : Problem) (label : List ℕ) (part : GridList) (list : Snapsh
   pub part-problem : part.problem ≡ problem
   part-problem = ap (λ (p : GridList). p.problem) part-at.part_is
 
+  -- what is kept is told of its prefix for a search that asks for the problem's threshold
+  pub projected-at : IsProjected part problem.threshold (prefix_at problem label).ranks list
+  projected-at = subst (λ (p : Problem). IsProjected part p.threshold (prefix_at problem label).ranks list) (problem-at problem label) is.projected
+
   -- the ranks of its prefix are ranks of items
   pub ranks-bounded : 1 ≤ length label → All (λ rank. (1 ≤ rank) × (rank ≤ length problem.ranking.order)) (take (length label - 1) (drop 1 label))
   ranks-bounded some = λ k d below.
       let ranks = (prefix_at problem label).ranks in
-      let ranked : AreRanked problem.ranking.order is.snapshots.prefix ranks = subst (λ (p : Problem). AreRanked p.ranking.order is.snapshots.prefix ranks) part-problem is.snapshots.ranked in
+      let ranked : AreRanked problem.ranking.order is.projected.are.prefix ranks = subst (λ (p : Problem). AreRanked p.ranking.order is.projected.are.prefix ranks) part-problem is.projected.are.ranked in
       let held : Contains ranks (get_or (take (length label - 1) (drop 1 label)) k d) =
       subst (λ (l : List ℕ). Contains l (get_or (take (length label - 1) (drop 1 label)) k d)) (ranks-at problem label some) (Contains-get_or (take (length label - 1) (drop 1 label)) k d below) in
-      ranked-bounds problem.ranking.order is.snapshots.prefix ranks ranked (get_or (take (length label - 1) (drop 1 label)) k d) held
+      ranked-bounds problem.ranking.order is.projected.are.prefix ranks ranked (get_or (take (length label - 1) (drop 1 label)) k d) held
 
--- the part of a root's seed, with the snapshots of the empty prefix
-pub root-projection : (problem : Problem) (label : List ℕ) (seed : PartSeed) (part : GridList) (list : SnapshotList) → IsRootOf (prefix_at problem label) seed
-    → part ≡ part_of problem seed → AreSnapshots part [] list → IsProjection (prefix_at problem label) part list
+-- what is told of a longer prefix, for a search that asks for the problem's threshold
+pub longer-projection : (problem : Problem) (label : List ℕ) (rank : ℕ) (part : GridList) (list : StandList) → IsPartBy problem (prefix_at problem label).pivot part
+    → IsProjected part problem.threshold ((prefix_at problem label).ranks ++ rank ∷ []) list → IsProjection (longer_by (prefix_at problem label) rank) part list
+longer-projection problem label rank part list by_seed projected = record {
+  part_by = subst (λ (p : Problem). IsPartBy p (prefix_at problem label).pivot part) (sym (problem-at problem label)) by_seed;
+  projected = subst (λ (p : Problem). IsProjected part p.threshold ((prefix_at problem label).ranks ++ rank ∷ []) list) (sym (problem-at problem label)) projected;
+}
+
+-- the part of a root's seed, with what is told of the empty prefix
+pub root-projection : (problem : Problem) (label : List ℕ) (seed : PartSeed) (part : GridList) (list : StandList) → IsRootOf (prefix_at problem label) seed
+    → part ≡ part_of problem seed → ((least : ℕ) → IsProjected part least [] list) → IsProjection (prefix_at problem label) part list
 root-projection problem label seed part list root is start = record {
   part_by = record {
     seed = seed;
@@ -66,7 +78,7 @@ root-projection problem label seed part list root is start = record {
     pivot_is = root.pivot_is;
     part_is = is ∙ ap (λ (p : Problem). part_of p seed) (sym (problem-at problem label));
   };
-  snapshots = subst (λ ranks. AreSnapshots part ranks list) (sym root.empty) start;
+  projected = subst (λ ranks. IsProjected part (prefix_at problem label).problem.threshold ranks list) (sym root.empty) (start (prefix_at problem label).problem.threshold);
 }
 
 -- the nodes that are longer by these ranks belong to the problem
@@ -78,13 +90,13 @@ longer-problem problem label found = λ k d below.
 
 -- Kids, made one after another
 
-module _ (problem : Problem) (label : List ℕ) (some : 1 ≤ length label) (next : List NextRank) (all : List SnapshotList) (count : length all ≡ length next) where
+module _ (problem : Problem) (label : List ℕ) (some : 1 ≤ length label) (next : List NextRank) (all : List StandList) (count : length all ≡ length next) where
   abbrev kid_of : NextRank → Prefix
   kid_of n = longer_by (prefix_at problem label) n.rank
 
-  module _ (met rest more : List SnapshotList) (list : SnapshotList) (seen : met ++ rest ≡ all) (first : rest ≡ list ∷ more) where
+  module _ (met rest more : List StandList) (list : StandList) (seen : met ++ rest ≡ all) (first : rest ≡ list ∷ more) where
     whole : met ++ (list ∷ more) ≡ all
-    whole = ap (λ (r : List SnapshotList). met ++ r) (sym first) ∙ seen
+    whole = ap (λ (r : List StandList). met ++ r) (sym first) ∙ seen
 
     within : length met < length next
     within =
@@ -97,7 +109,7 @@ module _ (problem : Problem) (label : List ℕ) (some : 1 ≤ length label) (nex
     list-at : slice_get all (length met) ≡ Some list
     list-at =
         let inside : length met < length all = omega (arith, within, count) in
-        slice_get-get_or all (length met) list inside ∙ ap (λ (l : List SnapshotList). Some (get_or l (length met) list)) (sym whole) ∙ ap (λ l. Some l) (get_or_at met list more list (length met) refl)
+        slice_get-get_or all (length met) list inside ∙ ap (λ (l : List StandList). Some (get_or l (length met) list)) (sym whole) ∙ ap (λ l. Some l) (get_or_at met list more list (length met) refl)
 
     module _ (longer : List ℕ) (n : ℕ) (d : NextRank) (number : n ≡ length met) (is : longer ≡ label ++ (get_or next n d).rank ∷ []) where
       node-is : prefix_at problem longer ≡ kid_of (get_or next (length met) d)
@@ -105,7 +117,7 @@ module _ (problem : Problem) (label : List ℕ) (some : 1 ≤ length label) (nex
           ap (prefix_at problem) is ∙ longer-at problem label (get_or next n d).rank some ∙ ap (λ k. kid_of (get_or next k d)) number
 
       -- the kid of the next rank keeps what is its own
-      pub kid-keeps : (part : GridList) → ((i : ℕ) (n : NextRank) (list : SnapshotList) → slice_get next i ≡ Some n → slice_get all i ≡ Some list → IsProjection (kid_of n) part list)
+      pub kid-keeps : (part : GridList) → ((i : ℕ) (n : NextRank) (list : StandList) → slice_get next i ≡ Some n → slice_get all i ≡ Some list → IsProjection (kid_of n) part list)
           → (1 ≤ length longer) × IsProjection (prefix_at problem longer) part list
       kid-keeps part each = (
         omega (arith, ap length is, length_push label (get_or next n d).rank),
@@ -119,7 +131,7 @@ module _ (problem : Problem) (label : List ℕ) (some : 1 ≤ length label) (nex
           rw (length_push met list, take_more next (length met) d within, map-append kid_of (take (length met) next) (get_or next (length met) d ∷ []), are, node-is) refl
 
   -- the kids are as many as the lists that were met
-  pub kids-count : (met rest : List SnapshotList) (kids : List Prefix) → met ++ rest ≡ all → kids ≡ map kid_of (take (length met) next) → length kids ≡ length met
+  pub kids-count : (met rest : List StandList) (kids : List Prefix) → met ++ rest ≡ all → kids ≡ map kid_of (take (length met) next) → length kids ≡ length met
   kids-count met rest kids seen are =
       let parts : length (met ++ rest) ≡ length met + length rest = length-append met rest in
       let few : length met ≤ length next = omega (arith, parts, ap length seen, count) in

@@ -1,5 +1,5 @@
 -- What is counted in the part of a complete seed is what is counted in all sequences.
-use Rattle.std.proofs.Common.{◌≡◌, ◌↔◌, ℕ, zero, suc, ◌≤◌, ◌<◌, Option, Some, None, IfSome, List, [], ◌++◌, length, sym, subst, arith}
+use Rattle.std.proofs.Common.{◌≡◌, ◌↔◌, ℕ, zero, suc, ◌≤◌, ◌<◌, Option, Some, None, IfSome, List, [], ◌++◌, length, refl, sym, ap, ◌∙◌, subst, arith}
 use Rattle.std.specs.List.{Contains}
 use Rattle.mine_model.specs.declared.item.Item.{Item}
 use Rattle.mine_model.specs.Generation.{IsPatternOf}
@@ -8,6 +8,8 @@ use Rattle.mine_model.specs.Ranks.{AreRanked}
 use Rattle.mine_model.specs.Support.{Counts}
 use Rattle.mine_model.specs.Growth.{WeighAtLeast, HasPatternBehind}
 use Rattle.mine_model.specs.Pivots.{IsWithin, IsWithinPivot}
+use Rattle.std.proofs.lemmas.Option.{IfSome_then}
+use Rattle.mine_model.proofs.ListLemmas.{rising_same}
 use Rattle.mine_model.proofs.RankedLemmas.{ranked-same}
 use Rattle.mine_model.proofs.AliveLemmas.{Counts-part, WeighAtLeast-part}
 use Rattle.mining_job.specs.declared.part_seed.PartSeed.{PartSeed}
@@ -16,7 +18,8 @@ use Rattle.sequence_grids.specs.Grids.{GridList}
 use Rattle.mining_job.specs.Parts.{pivot_of, IsComplete}
 use Rattle.snapshot_project.specs.Snapshots.{bound_of}
 use Rattle.snapshot_project.specs.Extensions.{sequences_of, GrowsBehind, GeneratesWithin}
-use Rattle.dfs_growth.specs.Projections.{part_of, IsPartBy}
+use Rattle.snapshot_project.specs.Rooms.{RoomValue}
+use Rattle.dfs_growth.specs.Projections.{part_of, IsPartBy, IsRoomFor}
 
 -- the bound of a pivot's part is that of the pivot
 pub within-pivot : (order : List Item) (pivot : Option ℕ) → IfSome pivot (λ rank. 1 ≤ rank) → (items : List Item)
@@ -77,3 +80,45 @@ module _ (problem : Problem) (seed : PartSeed) (complete : IsComplete problem se
     (λ (other, also, is, bounded). subst (IsPatternOf problem.hierarchy.links (tree_of problem.machine.expression) items) (ranked-same problem.ranking.order other pattern ranks also ranked) is),
     (λ is. (pattern, ranked, is, (within-pivot problem.ranking.order seed.pivot complete.least pattern).1 inside)),
   )
+
+-- ---- the part of a pivot is one
+
+need-of : (ranks : ℕ) (pivot : Option ℕ) → (bound_of ranks pivot).need ≡ pivot
+need-of ranks None = refl
+need-of ranks (Some rank) = refl
+
+module _ (problem : Problem) where
+  same-sequences : (one other : PartSeed) → IsComplete problem one → IsComplete problem other → one.pivot ≡ other.pivot → one.sequences.items ≡ other.sequences.items
+  same-sequences one other here there same =
+      let bound : pivot_of one.pivot ≡ pivot_of other.pivot = ap pivot_of same in
+      rising_same one.sequences.items other.sequences.items here.rising there.rising
+      (λ i held. let (below, has) = (here.exact i).0 held in
+      (there.exact i).1 (below, subst (λ (p : ℕ). HasPatternBehind (data_of problem) (IsWithinPivot problem.ranking.order p) [] (items_of problem i)) bound has))
+      (λ i held. let (below, has) = (there.exact i).0 held in
+      (here.exact i).1 (below, subst (λ (p : ℕ). HasPatternBehind (data_of problem) (IsWithinPivot problem.ranking.order p) [] (items_of problem i)) (sym bound) has))
+
+  same-seeds : (one other : PartSeed) → IsComplete problem one → IsComplete problem other → one.pivot ≡ other.pivot → part_of problem one ≡ part_of problem other
+  same-seeds one other here there same =
+      let sequences = same-sequences one other here there same in
+      λ i. record { problem = problem; bound = bound_of (length problem.ranking.order) (same i); sequences = sequences i }
+
+  -- two parts of one problem that need the same are one
+  pub one-part : (pivot also : ℕ) (part other : GridList) → IsPartBy problem pivot part → IsPartBy problem also other → part.bound.need ≡ other.bound.need → part ≡ other
+  one-part pivot also part other is are same =
+      let ranks = length problem.ranking.order in
+      let here : part.bound.need ≡ is.seed.pivot = ap (λ (g : GridList). g.bound.need) is.part_is ∙ need-of ranks is.seed.pivot in
+      let there : other.bound.need ≡ are.seed.pivot = ap (λ (g : GridList). g.bound.need) are.part_is ∙ need-of ranks are.seed.pivot in
+      is.part_is ∙ same-seeds is.seed are.seed is.complete are.complete (sym here ∙ same ∙ there) ∙ sym are.part_is
+
+  -- so the one that the room knows is the one that needs the same
+  pub known-part : (room : RoomValue) → IsRoomFor problem room → (pivot : ℕ) (part : GridList) → IsPartBy problem pivot part
+      → IfSome room.part (λ known. known.bound.need ≡ part.bound.need → known ≡ part)
+  known-part room is pivot part by_seed = IfSome_then room.part is.known (λ known by_also same. one-part by_also.0 pivot known part by_also.1 by_seed same)
+
+  -- room that knows this part, or none
+  pub room-knows : (old new : RoomValue) → IsRoomFor problem old → new.ranks ≡ old.ranks → (pivot : ℕ) (part : GridList) → IsPartBy problem pivot part
+      → IfSome new.part (λ known. known ≡ part) → IsRoomFor problem new
+  room-knows old new is ranks pivot part by_seed knows = record {
+    most = omega (arith, is.most, ranks);
+    known = IfSome_then new.part knows (λ known same. (pivot, subst (IsPartBy problem pivot) (sym same) by_seed));
+  }

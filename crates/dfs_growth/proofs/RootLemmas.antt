@@ -11,9 +11,9 @@ use Rattle.mine_model.specs.Answer.{Data}
 use Rattle.mine_model.specs.Database.{sequence_at}
 use Rattle.mine_model.specs.Support.{Sequence, Counts}
 use Rattle.mine_model.specs.Growth.{HasPatternBehind, IsAlive}
-use Rattle.mine_model.specs.Pivots.{IsWithinPivot, label_of, IsAliveLabel}
+use Rattle.mine_model.specs.Pivots.{IsRankedUpTo, IsWithinPivot, label_of, IsAliveLabel}
 use Rattle.search_tree.specs.SearchTree.{AreRootsOf}
-use Rattle.mine_model.proofs.ListLemmas.{Contains-first, Contains-other, Contains-none}
+use Rattle.mine_model.proofs.ListLemmas.{AllByRecursion-contained, Contains-first, Contains-other, Contains-none}
 use Rattle.mine_model.proofs.RankedLemmas.{ranked-same}
 use Rattle.mine_model.proofs.AliveLemmas.{IsAlive-counted}
 use Rattle.mining_job.specs.declared.part_seed.PartSeed.{PartSeed}
@@ -170,3 +170,15 @@ module _ (problem : Problem) (whole : IsWhole problem) where
           (λ (below, behind). found.1 (omega (arith, below, all), subst Path (sym order) ((completes-behind (items_of problem i)).1 behind))),
         );
   }
+
+  -- where there is no rank, no sequences are those with such a path
+  pub whole-none : (seed : PartSeed) → length problem.ranking.order ≡ 0 → seed.pivot ≡ None → seed.sequences.items ≡ [] → IsComplete problem seed
+  whole-none seed ranks none empty =
+      whole-complete seed (length problem.sequences) 0 refl (sym ranks) none (rw empty (λ i j d less inside. absurd (omega (arith, inside))))
+      (λ i. rw empty (
+        (λ held. absurd (Contains-none i held)),
+        (λ (below, (output, path, allowed, written)). elim written [
+          | inl seen ↦ absurd (false≢true seen)
+          | inr (v, held, any) ↦ let (rank, has, most) = AllByRecursion-contained (IsRankedUpTo problem.ranking.order 0) output v allowed held in absurd (omega (arith, has.least, most))
+        ]),
+      ))

@@ -1,12 +1,13 @@
--- What a node keeps of its prefix: a part and the snapshots in it, the projected database of the DESQ
--- article.
-use Rattle.std.specs.Prelude.{◌≡◌, ℕ, ◌≤◌, List, [], length}
-use Rattle.std.specs.Arc.{arc_value}
+-- What a node keeps of its prefix: a part and where its snapshots stand in it, the projected database of the
+-- DESQ article.
+use Rattle.std.specs.Prelude.{◌≡◌, ℕ, ◌≤◌, IfSome, List, [], length}
 use Rattle.mining_job.specs.declared.part_seed.PartSeed.{PartSeed}
 use Rattle.mining_job.specs.Problems.{Problem}
 use Rattle.sequence_grids.specs.Grids.{GridList}
 use Rattle.mining_job.specs.Parts.{pivot_of, IsComplete}
-use Rattle.snapshot_project.specs.Snapshots.{SnapshotList, AreSnapshots, bound_of}
+use Rattle.snapshot_project.specs.Snapshots.{bound_of}
+use Rattle.snapshot_project.specs.Rooms.{RoomValue}
+use Rattle.snapshot_project.specs.Stands.{StandList, IsProjected}
 use Rattle.dfs_growth.specs.declared.state.State.{State}
 use Rattle.dfs_growth.specs.declared.state.State.TheVariants.{Root, Projected}
 use Rattle.dfs_growth.specs.Nodes.{Prefix, prefix_at}
@@ -26,10 +27,15 @@ pub record IsPartBy (problem : Problem) (pivot : ℕ) (part : GridList) : Type 0
   pub pivot_is : pivot_of seed.pivot ≡ pivot
   pub part_is : part ≡ part_of problem seed
 
--- the part is that of the pivot, and the snapshots are those of the prefix
-pub record IsProjection (prefix : Prefix) (part : GridList) (list : SnapshotList) : Type 0 where
+-- there is room for all ranks of the problem, and the part that is known is one of it
+pub record IsRoomFor (problem : Problem) (room : RoomValue) : Type 0 where
+  pub most : length problem.ranking.order ≤ room.ranks
+  pub known : IfSome room.part (λ part. (pivot : ℕ) × IsPartBy problem pivot part)
+
+-- the part is that of the pivot, and what is kept is told of the prefix
+pub record IsProjection (prefix : Prefix) (part : GridList) (list : StandList) : Type 0 where
   pub part_by : IsPartBy prefix.problem prefix.pivot part
-  pub snapshots : AreSnapshots part prefix.ranks list
+  pub projected : IsProjected part prefix.problem.threshold prefix.ranks list
 
 -- the seed is that of the pivot, and the prefix is empty
 pub record IsRootOf (prefix : Prefix) (seed : PartSeed) : Type 0 where
@@ -40,7 +46,7 @@ pub record IsRootOf (prefix : Prefix) (seed : PartSeed) : Type 0 where
 -- the state is that of the node
 abbrev pub IsStateOf : Prefix → State → Type 0
 IsStateOf prefix (Root seed) = IsRootOf prefix seed
-IsStateOf prefix (Projected part list) = IsProjection prefix (arc_value part) list
+IsStateOf prefix (Projected part list) = IsProjection prefix part list
 
 -- the label has a pivot, or 0, in front, and the state is that of the node with the label
 abbrev pub IsNode : Problem → List ℕ → State → Type 0

@@ -1,31 +1,29 @@
 //! What a node grows into.
 
 ghost use Rattle.std.specs.Prelude.{◌≡◌, ℕ, ◌≤◌, ◌<◌, Some, [], ◌∷◌, ◌++◌, map, length, slice_get, All, AllPairs, IfOk};
-ghost use Rattle.std.specs.Arc.{arc_value};
 ghost use Rattle.search_tree.specs.SearchTree.{IsRowOf, AreKids};
 ghost use Rattle.mining_job.specs.Problems.{data_of};
 ghost use Rattle.snapshot_project.specs.declared.next_rank.NextRank.{NextRank as Next};
-ghost use Rattle.snapshot_project.specs.Snapshots.{SnapshotList};
+ghost use Rattle.snapshot_project.specs.Stands.{StandList};
 ghost use Rattle.dfs_growth.specs.Nodes.{Prefix, HasRow, HasKids, label_at, prefix_at, longer_by};
-ghost use Rattle.dfs_growth.specs.Projections.{IsProjection};
+ghost use Rattle.dfs_growth.specs.Projections.{IsProjection, IsRoomFor};
 
 use super::node::Node;
 use super::state::State;
 use mine_model::{NoMemory, Row, pattern_of};
 use mining_job::Job;
 use search_tree::{Grown, Label};
-use snapshot_project::{NextRank, Part, Room, Snapshots, advance_all, next_ranks, start, support};
+use snapshot_project::{NextRank, Part, Room, Snapshots, begin, grow, support};
 use std::alloc::Global;
-use std::sync::Arc;
 
 /// What the node grows into: its label, its row where its prefix is frequent, and its kids.
 pub fn expand<'a>(
     alloc: Global,
     node: Node<'a>,
-    room: &mut Room,
+    room: &mut Room<'a>,
 ) -> Result<Grown<Node<'a>>, NoMemory>
-    requires room { length node.problem.ranking.order ≤ room.old }
-    ensures room { room.new ≡ room.old }
+    requires room { IsRoomFor node.problem room.old }
+    ensures room { IsRoomFor node.entry.problem room.new }
     ensures label { IfOk result (λ grown. grown.label ≡ label_at node.entry) }
     ensures row { IfOk result (λ grown. HasRow node.entry grown.row) }
     ensures kids { IfOk result (λ grown. HasKids node.entry (map label_at grown.kids.items)) }
@@ -43,20 +41,19 @@ pub fn expand<'a>(
     })
 }
 
-// The label of the node, its part, and the snapshots of its prefix.
+// The label of the node, its part, and what is kept of its prefix.
 fn projection<'a>(
     alloc: Global,
     node: Node<'a>,
-) -> Result<(Vec<u32>, Arc<Part<'a>>, Snapshots), NoMemory>
+) -> Result<(Vec<u32>, Part<'a>, Snapshots), NoMemory>
     ensures label { IfOk result (λ p. p.0.items ≡ label_at node.entry) }
-    ensures projection { IfOk result (λ p. IsProjection node.entry (arc_value p.1) p.2) }
+    ensures projection { IfOk result (λ p. IsProjection node.entry p.1 p.2) }
 {
     let Node { job, label, state } = node;
     match state {
         State::Root(seed) => {
-            let part = Part::new(alloc, job, seed.pivot, seed.sequences.as_slice())?;
-            let snapshots = start(alloc, &part)?;
-            Ok((label, Arc::new(alloc, part)?, snapshots))
+            let (part, snapshots) = begin(alloc, job, seed.pivot, seed.sequences)?;
+            Ok((label, part, snapshots))
         }
         State::Projected(part, snapshots) => Ok((label, part, snapshots)),
     }
@@ -88,44 +85,44 @@ fn kids_of<'a>(
     alloc: Global,
     job: &'a Job,
     label: &[u32],
-    part: &Arc<Part<'a>>,
+    part: &Part<'a>,
     snapshots: &Snapshots,
-    room: &mut Room,
+    room: &mut Room<'a>,
 ) -> Result<Vec<Node<'a>>, NoMemory>
     requires some { 1 ≤ length label.now }
-    requires projection { IsProjection (prefix_at job.now label.now) (arc_value part.now) snapshots.now }
-    requires room { length job.now.ranking.order ≤ room.old }
-    ensures room { room.new ≡ room.old }
+    requires projection { IsProjection (prefix_at job.now label.now) part.now snapshots.now }
+    requires room { IsRoomFor job.now room.old }
+    ensures room { IsRoomFor job.now room.new }
     ensures problem { IfOk result (λ kids. All (λ (kid : Prefix). kid.problem ≡ job.now) kids.items) }
     ensures kids { IfOk result (λ kids. let prefix = prefix_at job.now label.now in
         AreKids (data_of job.now) job.now.ranking.order prefix.pivot prefix.ranks (map label_at kids.items)) }
 {
-    let next = next_ranks(alloc, part, snapshots, job.support(), room)?;
-    let longer = advance_all(alloc, part, snapshots, next.as_slice(), room)?;
-    nodes(alloc, job, label, part, next.as_slice(), longer)
+    let grown = grow(alloc, part, snapshots, job.support(), room)?;
+    let longer = grown.longer;
+    nodes(alloc, job, label, part, grown.next.as_slice(), longer)
 }
 
-// The nodes whose prefixes are longer by these ranks, with the snapshots of each.
+// The nodes whose prefixes are longer by these ranks, with what is kept of each.
 fn nodes<'a>(
     alloc: Global,
     job: &'a Job,
     label: &[u32],
-    part: &Arc<Part<'a>>,
+    part: &Part<'a>,
     next: &[NextRank],
     longer: Vec<Snapshots>,
 ) -> Result<Vec<Node<'a>>, NoMemory>
     requires some { 1 ≤ length label.now }
     requires count { length longer.items ≡ length next.now }
-    requires each { (i : ℕ) (n : Next) (list : SnapshotList) → slice_get next.now i ≡ Some n
+    requires each { (i : ℕ) (n : Next) (list : StandList) → slice_get next.now i ≡ Some n
         → slice_get longer.items i ≡ Some list
-        → IsProjection (longer_by (prefix_at job.now label.now) n.rank) (arc_value part.now) list }
+        → IsProjection (longer_by (prefix_at job.now label.now) n.rank) part.now list }
     ensures { IfOk result (λ kids. kids.items
         ≡ map (λ (n : Next). longer_by (prefix_at job.now label.now) n.rank) next.now) }
 {
     let mut kids = Vec::with_capacity(alloc, next.len())?;
     'kids: for snapshots in longer {
         let label = longer_label(alloc, label, next[kids.len()].rank)?;
-        let state = State::Projected(part.clone()?, snapshots);
+        let state = State::Projected(part.share()?, snapshots);
         kids.push(Node { job, label, state })?;
     }
     Ok(kids)

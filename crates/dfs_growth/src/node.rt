@@ -3,7 +3,7 @@ use mining_job::Job;
 use node_pool::Task;
 use std::marker::Model;
 
-/// A node of the search tree: a root, which has no grids yet, or a prefix with its snapshots.
+/// A node of the search tree: a root, which has no grids yet, or a prefix with what is kept of it.
 #[derive(Drop)]
 pub struct Node<'a> {
     pub(crate) job: &'a Job,

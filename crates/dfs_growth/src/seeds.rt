@@ -18,12 +18,19 @@ use mining_job::{Bound, Job, PartSeed};
 use sequence_grids::Grids;
 use std::alloc::Global;
 
-/// The sequences that have a pattern of frequent items.
+/// The sequences that have a pattern of frequent items. Where no item has a rank there is none, and no
+/// sequence is looked at.
 pub fn whole(alloc: Global, job: &Job) -> Result<PartSeed, NoMemory>
     ensures pivot { IfOk result (λ seed. seed.pivot ≡ None) }
     ensures complete { IfOk result (IsComplete job.now) }
 {
     let top = job.ranks().count();
+    if top == 0 {
+        return Ok(PartSeed {
+            pivot: None,
+            sequences: Vec::new(alloc),
+        });
+    }
     let mut grids = Grids::new(alloc, job, Bound { top, need: None })?;
     let sequences = with_patterns(alloc, &mut grids, job.db().sequences())?;
     Ok(PartSeed {

@@ -1,6 +1,7 @@
 //! The nodes of the search tree.
-ghost use Rattle.std.specs.Prelude.{◌≡◌, ◌≤◌, length, All, Contains, IfOk, IfSome};
+ghost use Rattle.std.specs.Prelude.{◌≡◌, All, Contains, IfOk, IfSome};
 ghost use Rattle.dfs_growth.specs.Nodes.{Prefix};
+ghost use Rattle.dfs_growth.specs.Projections.{IsRoomFor};
 
 use super::data::{RUNNING, Shape, add_names, add_numbers, job};
 use dfs_growth::{Node, expand, roots, whole};
@@ -15,17 +16,53 @@ use std::test::Fail;
 /// The sequences of the seed without a pivot; then what each of the nodes grows into that have these places
 /// among the roots, among the kids of that, and so on.
 fn told(alloc: Global, job: &Job, path: &[u32]) -> Result<String, NoMemory> {
-    let seed = whole(alloc, job)?;
+    let mut room = Room::new(alloc, job)?;
+    told_in(alloc, job, path, &mut room)
+}
+
+/// The same in this room.
+fn told_in<'a>(
+    alloc: Global,
+    job: &'a Job,
+    path: &[u32],
+    room: &mut Room<'a>,
+) -> Result<String, NoMemory>
+    requires { IsRoomFor job.now room.old }
+{
     let mut text = String::new(alloc);
-    add_numbers(&mut text, seed.sequences.as_slice())?;
+    let nodes = rooted(alloc, job, &mut text)?;
+    follow_all(alloc, job, nodes, path, room, &mut text)?;
+    Ok(text)
+}
+
+/// The roots without a pivot. Tells the sequences of the seed.
+fn rooted<'a>(alloc: Global, job: &'a Job, text: &mut String) -> Result<Vec<Node<'a>>, NoMemory>
+    ensures { IfOk result (λ nodes. All (λ (node : Prefix). node.problem ≡ job.now) nodes.items) }
+{
+    let seed = whole(alloc, job)?;
+    add_numbers(text, seed.sequences.as_slice())?;
     let mut seeds = Vec::new(alloc);
     seeds.push(seed)?;
-    let mut room = Room::new(alloc, job)?;
-    let mut nodes = roots(alloc, job, seeds)?;
+    roots(alloc, job, seeds)
+}
+
+/// Grows the node with the first place among the nodes, that with the next among its kids, and so on.
+fn follow_all<'a>(
+    alloc: Global,
+    job: &'a Job,
+    nodes: Vec<Node<'a>>,
+    path: &[u32],
+    room: &mut Room<'a>,
+    text: &mut String,
+) -> Result<(), NoMemory>
+    requires problem { All (λ (node : Prefix). node.problem ≡ job.now) nodes.items }
+    requires room { IsRoomFor job.now room.old }
+{
+    let mut nodes = nodes;
     for place in path {
-        nodes = follow(alloc, job, nodes, *place, &mut room, &mut text)?;
+        nodes = follow(alloc, job, nodes, *place, room, text)?;
     }
-    Ok(text)
+    Ok(())
 }
 
 /// Grows the node at this place, tells it, and answers its kids.
@@ -34,12 +71,12 @@ fn follow<'a>(
     job: &'a Job,
     nodes: Vec<Node<'a>>,
     place: u32,
-    room: &mut Room,
+    room: &mut Room<'a>,
     text: &mut String,
 ) -> Result<Vec<Node<'a>>, NoMemory>
     requires problem { All (λ (node : Prefix). node.problem ≡ job.now) nodes.items }
-    requires room { length job.now.ranking.order ≤ room.old }
-    ensures room { room.new ≡ room.old }
+    requires room { IsRoomFor job.now room.old }
+    ensures room { IsRoomFor job.now room.new }
     ensures problem { IfOk result (λ kids. All (λ (kid : Prefix). kid.problem ≡ job.now) kids.items) }
 {
     let Some(node) = node_at(nodes, place) else {

@@ -1,13 +1,11 @@
 //! What may follow a prefix.
-ghost use Rattle.std.specs.Prelude.{◌≡◌, ◌≤◌, length, IfSome};
-ghost use Rattle.snapshot_project.specs.Snapshots.{bound_of};
+ghost use Rattle.std.specs.Prelude.{◌≡◌, ◌≤◌, ◌<◌, ℕ, None, List, length, IfOk, IfSome};
+ghost use Rattle.snapshot_project.specs.Stands.{IsProjected};
 
 use super::data::{RUNNING, Shape, job};
 use mine_model::NoMemory;
 use mining_job::Job;
-use snapshot_project::{
-    NextRank, Part, Room, Snapshots, advance, advance_all, next_ranks, start, support,
-};
+use snapshot_project::{Grown, NextRank, Part, Room, Snapshots, begin, grow, support};
 use std::alloc::Global;
 use std::fmt::Write;
 use std::test::Fail;
@@ -23,16 +21,34 @@ struct Asked {
 
 /// The answer as text.
 fn told(alloc: Global, job: &Job, asked: Asked) -> Result<String, NoMemory> {
-    let count = job.ranks().count();
-    let pivot = known(asked.pivot, count);
-    let top = top_of(count, pivot);
-    if job.db().sequences() < 5 || top < 2 {
+    let mut room = Room::new(alloc, job)?;
+    told_in(alloc, job, asked, &mut room)
+}
+
+/// The same in a room that knows no part.
+fn told_in<'a>(
+    alloc: Global,
+    job: &'a Job,
+    asked: Asked,
+    room: &mut Room<'a>,
+) -> Result<String, NoMemory>
+    requires room { length job.now.ranking.order ≤ room.old.ranks }
+    requires none { room.old.part ≡ None }
+{
+    if job.db().sequences() < 5 {
         return Ok(String::new(alloc));
     }
-    let part = Part::new(alloc, job, pivot, &[0, 1, 4])?;
-    let snapshots = follow(alloc, &part, asked.ranks, top)?;
-    let mut room = Room::new(alloc, job)?;
-    text_of(alloc, &part, &snapshots, asked.least.max(1), &mut room)
+    let pivot = known(asked.pivot, job.ranks().count());
+    let sequences = vec![in alloc; 0, 1, 4]?;
+    let (part, snapshots) = begin(alloc, job, pivot, sequences)?;
+    told_of(
+        alloc,
+        &part,
+        snapshots,
+        asked.ranks,
+        asked.least.max(1),
+        room,
+    )
 }
 
 /// The pivot, where it is a rank.
@@ -46,70 +62,137 @@ fn known(pivot: Option<u32>, count: u32) -> Option<u32>
     }
 }
 
-/// The greatest rank of the part of a pivot.
-fn top_of(count: u32, pivot: Option<u32>) -> u32
-    ensures { result ≡ (bound_of count pivot).top }
+/// What is told of the prefix that is longer by these ranks, in a room that knows no other part.
+fn told_of<'a>(
+    alloc: Global,
+    part: &Part<'a>,
+    snapshots: Snapshots,
+    ranks: &[u32],
+    least: u64,
+    room: &mut Room<'a>,
+) -> Result<String, NoMemory>
+    requires least { 1 ≤ least }
+    requires room { length part.now.problem.ranking.order ≤ room.old.ranks }
+    requires known { IfSome room.old.part (λ known. known ≡ part.now) }
+    requires projected { (ranks : List ℕ) × IsProjected part.now least ranks snapshots }
 {
-    match pivot {
-        Some(rank) => rank,
-        None => count,
-    }
+    let Some(snapshots) = follow(alloc, part, snapshots, ranks, least, room)? else {
+        return Ok(String::from_str(alloc, "no such prefix")?);
+    };
+    text_of(alloc, part, &snapshots, least, room)
 }
 
-/// The snapshots of the prefix with these ranks, found rank by rank.
-fn follow(alloc: Global, part: &Part, ranks: &[u32], top: u32) -> Result<Snapshots, NoMemory>
-    requires { top ≡ part.now.bound.top }
+/// What is kept of the prefix that is longer by these ranks, found rank by rank.
+fn follow<'a>(
+    alloc: Global,
+    part: &Part<'a>,
+    snapshots: Snapshots,
+    ranks: &[u32],
+    least: u64,
+    room: &mut Room<'a>,
+) -> Result<Option<Snapshots>, NoMemory>
+    requires least { 1 ≤ least }
+    requires room { length part.now.problem.ranking.order ≤ room.old.ranks }
+    requires known { IfSome room.old.part (λ known. known ≡ part.now) }
+    requires projected { (ranks : List ℕ) × IsProjected part.now least ranks snapshots }
+    ensures room { room.new.ranks ≡ room.old.ranks }
+    ensures known { IfSome room.new.part (λ known. known ≡ part.now) }
+    ensures projected { IfOk result (λ found. IfSome found (λ list.
+        (ranks : List ℕ) × IsProjected part.now least ranks list)) }
 {
-    let mut snapshots = start(alloc, part)?;
+    let mut found = snapshots;
     for rank in ranks {
-        if 1 <= *rank && *rank <= top {
-            snapshots = advance(alloc, part, &snapshots, *rank)?;
+        match longer_by(alloc, part, &found, *rank, least, room)? {
+            Some(longer) => found = longer,
+            None => return Ok(None),
         }
     }
-    Ok(snapshots)
+    Ok(Some(found))
+}
+
+/// What is kept of the prefix that is longer by the rank, where it can follow.
+fn longer_by<'a>(
+    alloc: Global,
+    part: &Part<'a>,
+    snapshots: &Snapshots,
+    rank: u32,
+    least: u64,
+    room: &mut Room<'a>,
+) -> Result<Option<Snapshots>, NoMemory>
+    requires least { 1 ≤ least }
+    requires room { length part.now.problem.ranking.order ≤ room.old.ranks }
+    requires known { IfSome room.old.part (λ known. known ≡ part.now) }
+    requires projected { (ranks : List ℕ) × IsProjected part.now least ranks snapshots.now }
+    ensures room { room.new.ranks ≡ room.old.ranks }
+    ensures known { IfSome room.new.part (λ known. known ≡ part.now) }
+    ensures projected { IfOk result (λ found. IfSome found (λ list.
+        (ranks : List ℕ) × IsProjected part.now least ranks list)) }
+{
+    let Grown { next, mut longer } = grow(alloc, part, snapshots, least, room)?;
+    let Some(place) = place_of(next.as_slice(), rank) else {
+        return Ok(None);
+    };
+    Ok(Some(longer.swap_remove(place)))
+}
+
+/// The place of the rank among these.
+fn place_of(next: &[NextRank], rank: u32) -> Option<usize>
+    ensures { IfSome result (λ place. place < length next.now) }
+{
+    for (place, next) in next.iter().enumerate() {
+        if next.rank == rank {
+            return Some(place);
+        }
+    }
+    None
 }
 
 /// The support of the prefix; each rank that can follow, with its weight and the support of the prefix with
 /// it; how many ranks can follow the prefixes that are longer by the ranks 1 and 2.
-fn text_of(
+fn text_of<'a>(
     alloc: Global,
-    part: &Part,
+    part: &Part<'a>,
     snapshots: &Snapshots,
     least: u64,
-    room: &mut Room,
+    room: &mut Room<'a>,
 ) -> Result<String, NoMemory>
-    requires top { 2 ≤ part.now.bound.top }
     requires least { 1 ≤ least }
-    requires room { length part.now.problem.ranking.order ≤ room.old }
+    requires room { length part.now.problem.ranking.order ≤ room.old.ranks }
+    requires known { IfSome room.old.part (λ known. known ≡ part.now) }
+    requires projected { (ranks : List ℕ) × IsProjected part.now least ranks snapshots.now }
 {
     let mut text = format!(in alloc; "{}:", support(part, snapshots))?;
-    for next in &next_ranks(alloc, part, snapshots, least, room)? {
+    let grown = grow(alloc, part, snapshots, least, room)?;
+    for next in &grown.next {
         write!(text, " {} {} {}", next.rank, next.weight, next.support)?;
     }
-    text.push(',')?;
-    for longer in &advance_all(alloc, part, snapshots, &FIRST, room)? {
-        let next = next_ranks(alloc, part, longer, least, room)?;
-        write!(text, " {}", next.len())?;
-    }
+    let one = count_behind(alloc, part, snapshots, 1, least, room)?;
+    let two = count_behind(alloc, part, snapshots, 2, least, room)?;
+    write!(text, ", {one} {two}")?;
     Ok(text)
 }
 
-const FIRST: [NextRank; 2] = [
-    NextRank {
-        rank: 1,
-        weight: 0,
-        support: 0,
-        snapshots: 0,
-        goes_on: true,
-    },
-    NextRank {
-        rank: 2,
-        weight: 0,
-        support: 0,
-        snapshots: 1,
-        goes_on: true,
-    },
-];
+/// How many ranks can follow the prefix that is longer by the rank: none where the rank cannot.
+fn count_behind<'a>(
+    alloc: Global,
+    part: &Part<'a>,
+    snapshots: &Snapshots,
+    rank: u32,
+    least: u64,
+    room: &mut Room<'a>,
+) -> Result<usize, NoMemory>
+    requires least { 1 ≤ least }
+    requires room { length part.now.problem.ranking.order ≤ room.old.ranks }
+    requires known { IfSome room.old.part (λ known. known ≡ part.now) }
+    requires projected { (ranks : List ℕ) × IsProjected part.now least ranks snapshots.now }
+    ensures room { room.new.ranks ≡ room.old.ranks }
+    ensures known { IfSome room.new.part (λ known. known ≡ part.now) }
+{
+    let Some(longer) = longer_by(alloc, part, snapshots, rank, least, room)? else {
+        return Ok(0);
+    };
+    Ok(grow(alloc, part, &longer, least, room)?.next.len())
+}
 
 const PREFIXES: [(Option<u32>, &[u32], u64, &str); 7] = [
     (None, &[], 1, "0: 3 3 0, 0 0"),

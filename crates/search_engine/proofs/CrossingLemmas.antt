@@ -14,10 +14,10 @@ use Rattle.mining_job.specs.contracts.part_seed.PartSeed as Seed
 use Rattle.snapshot_project.specs.contracts.part.Part as Part
 use Rattle.snapshot_project.specs.contracts.snapshots.Snapshots as Snapshots
 use Rattle.snapshot_project.specs.contracts.part.Part.TheInside as PartInside
-use Rattle.sequence_grids.specs.contracts.grids.Grids as Grids
-use Rattle.sequence_grids.specs.contracts.grids.Grids.TheInside as GridsInside
-use Rattle.sequence_grids.specs.contracts.successors.Successors as Successors
-use Rattle.sequence_grids.specs.contracts.tables.Tables as Tables
+use Rattle.snapshot_project.specs.contracts.part.Ground as Ground
+use Rattle.snapshot_project.specs.contracts.terrain.AnyTerrain as AnyTerrain
+use Rattle.snapshot_project.specs.contracts.room.Room as Room
+use Rattle.snapshot_project.specs.contracts.room.Room.TheInside as RoomInside
 use Rattle.dfs_growth.specs.contracts.node.Node as Node
 
 -- an expression reaches itself, so it is shown layer by layer
@@ -42,29 +42,27 @@ seed-send = search (sendable, crosses) depth 40 fits 20000
 snapshots-send : IsSend Snapshots.the_row
 snapshots-send = search (sendable, crosses) depth 40 fits 20000
 
-successors-sync : IsSync Successors.the_row
-successors-sync = search (sendable, crosses) depth 40 fits 20000
+terrain-send : IsSend AnyTerrain.the_row
+terrain-send = search (sendable, crosses) depth 40 fits 20000
 
-successors-send : IsSend Successors.the_row
-successors-send = search (sendable, crosses) depth 40 fits 20000
+terrain-sync : IsSync AnyTerrain.the_row
+terrain-sync = search (sendable, crosses) depth 40 fits 20000
 
-tables-send : IsSend Tables.the_row
-tables-send = search (sendable, crosses) depth 40 fits 20000
+ground-send : (l : NamedLft) → IsSend (Ground.the_row l)
+ground-send l = let j = job-sync in let t = terrain-send in search (sendable, crosses) depth 40 fits 20000
 
-tables-sync : IsSync Tables.the_row
-tables-sync = search (sendable, crosses) depth 40 fits 20000
-
-grids-send : (l : NamedLft) → IsSend (Grids.the_row l)
-grids-send l = let i : IsSend (GridsInside.the_row l) = declared_send (GridsInside.the_type l) (let j = job-sync in let t = tables-send in search (sendable, crosses) depth 40 fits 20000) in search sendable
-
-grids-sync : (l : NamedLft) → IsSync (Grids.the_row l)
-grids-sync l = let i : IsSync (GridsInside.the_row l) = declared_sync (GridsInside.the_type l) (let j = job-sync in let t = tables-sync in search (sendable, crosses) depth 40 fits 20000) in search sendable
+ground-sync : (l : NamedLft) → IsSync (Ground.the_row l)
+ground-sync l = let j = job-sync in let t = terrain-sync in search (sendable, crosses) depth 40 fits 20000
 
 part-send : (l : NamedLft) → IsSend (Part.the_row l)
-part-send l = let i : IsSend (PartInside.the_row l) = declared_send (PartInside.the_type l) (let j = job-sync in let g = grids-send l in let s = successors-send in search (sendable, crosses) depth 40 fits 20000) in search sendable
+part-send l = let i : IsSend (PartInside.the_row l) = declared_send (PartInside.the_type l) (let g = ground-send l in let h = ground-sync l in search (sendable, crosses) depth 40 fits 20000) in search sendable
 
 part-sync : (l : NamedLft) → IsSync (Part.the_row l)
-part-sync l = let i : IsSync (PartInside.the_row l) = declared_sync (PartInside.the_type l) (let j = job-sync in let g = grids-sync l in let s = successors-sync in search (sendable, crosses) depth 40 fits 20000) in search sendable
+part-sync l = let i : IsSync (PartInside.the_row l) = declared_sync (PartInside.the_type l) (let g = ground-send l in let h = ground-sync l in search (sendable, crosses) depth 40 fits 20000) in search sendable
 
 pub node-send : (l : NamedLft) → IsSend (Node.the_row l)
 node-send l = let j = job-sync in let s = seed-send in let n = snapshots-send in let p = part-send l in let q = part-sync l in search (sendable, crosses) depth 40 fits 20000
+
+-- and so may the room of a worker
+pub room-send : (l : NamedLft) → IsSend (Room.the_row l)
+room-send l = let i : IsSend (RoomInside.the_row l) = declared_send (RoomInside.the_type l) (let g = ground-send l in let h = ground-sync l in search (sendable, crosses) depth 40 fits 20000) in search sendable

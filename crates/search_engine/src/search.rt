@@ -109,10 +109,11 @@ impl<'a> Search<'a> {
 impl<'a> Grow for Search<'a> {
     type Node = Node<'a>;
 
-    type Room = Room;
+    type Room = Room<'a>;
 
     ghost use Rattle.std.specs.Prelude.{◌≡◌, ◌≤◌, length};
     ghost use Rattle.dfs_growth.specs.Nodes.{label_at};
+    ghost use Rattle.dfs_growth.specs.Projections.{IsRoomFor};
     ghost use Rattle.search_engine.specs.Searches.{tree_of};
 
     ghost label_of = { λ _ node. label_at node };
@@ -125,9 +126,9 @@ impl<'a> Grow for Search<'a> {
 
     ghost IsOwn = { λ search node. node.problem ≡ search.problem };
 
-    ghost IsRoomy = { λ search room. length search.problem.ranking.order ≤ room };
+    ghost IsRoomy = { λ search room. IsRoomFor search.problem room };
 
-    fn room(&self, alloc: Global) -> Result<Room, NoMemory> {
+    fn room(&self, alloc: Global) -> Result<Room<'a>, NoMemory> {
         Room::new(alloc, self.job())
     }
 
@@ -141,7 +142,7 @@ impl<'a> Grow for Search<'a> {
         &self,
         alloc: Global,
         node: Node<'a>,
-        room: &mut Room,
+        room: &mut Room<'a>,
     ) -> Result<Grown<Node<'a>>, NoMemory> {
         // The node is grown by its own job, which is that of the search.
         let _job = self.job();

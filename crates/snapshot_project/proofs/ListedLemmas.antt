@@ -1,8 +1,8 @@
 -- Lists of snapshots of a prefix, with all from which more can be written.
-use Rattle.std.proofs.Common.{◌≡◌, ◌↔◌, ℕ, zero, suc, ◌+◌, ◌≤◌, ◌<◌, inl, inr, Bool, IsTrue, false, Option, Some, None, List, [], ◌∷◌, ◌++◌, length, map, drop, refl, sym, ap, ◌∙◌, subst, arith}
+use Rattle.std.proofs.Common.{◌≡◌, ◌↔◌, ℕ, zero, suc, ◌+◌, ◌≤◌, ◌<◌, inl, inr, Bool, false, Option, Some, None, List, [], ◌∷◌, ◌++◌, length, map, drop, refl, sym, ap, ◌∙◌, subst, arith}
 use Rattle.std.specs.List.{AllPairs, AllByRecursion, Contains, slice_get}
 use Rattle.std.proofs.lemmas.Bool.{cases_lt}
-use Rattle.std.proofs.lemmas.Option.{slice_get-get_or, slice_get_within}
+use Rattle.std.proofs.lemmas.Option.{slice_get-get_or}
 use Rattle.mine_model.specs.declared.item.Item.{Item}
 use Rattle.mine_model.specs.Database.{sequence_at}
 use Rattle.mine_model.specs.Support.{Sequence}
@@ -12,23 +12,21 @@ use Rattle.mine_model.proofs.FrequencyLemmas.{Counts-none}
 use Rattle.mine_model.proofs.ListLemmas.{of_both, Contains-none}
 use Rattle.mine_model.proofs.RankedLemmas.{ranked-push}
 use Rattle.mining_job.specs.Problems.{IsWhole, items_of}
-use Rattle.sequence_grids.specs.Grids.{GridList, HoldsNeeded, Completes, Ends}
+use Rattle.sequence_grids.specs.Grids.{GridList, HoldsNeeded, Completes}
 use Rattle.snapshot_project.specs.declared.snapshot.Snapshot.{Snapshot}
-use Rattle.snapshot_project.specs.declared.hit.Hit.{Hit}
 use Rattle.snapshot_project.specs.Aims.{sees, goes}
-use Rattle.snapshot_project.specs.Hits.{AreHits, HasHit, HasEnd}
 use Rattle.snapshot_project.specs.Snapshots.{HasSnapshot, WritesOn, IsSnapshotOf, IsOpen, ComesBefore, SnapshotList, MayGoOn, AreSnapshots}
-use Rattle.snapshot_project.specs.Extensions.{sequences_of, GrowsBehind, GeneratesWithin, IsSupportOf, NothingFollows}
+use Rattle.snapshot_project.specs.Extensions.{sequences_of, GrowsBehind, GeneratesWithin, IsSupportOf}
 use Rattle.snapshot_project.specs.Live.{WritesNext, OpensNext, AreSnapshotsOf, IsGroup}
 use Rattle.snapshot_project.proofs.NeedLemmas.{needed-none, needed-longer}
-use Rattle.snapshot_project.proofs.SnapshotLemmas.{snapshot-start, written-behind}
+use Rattle.snapshot_project.proofs.SnapshotLemmas.{snapshot-start}
 use Rattle.snapshot_project.proofs.LiveLemmas.{longer-first, longer-next}
 use Rattle.snapshot_project.proofs.OpenLemmas.{open-goes, writes-begins}
-use Rattle.snapshot_project.proofs.ExtensionLemmas.{ranked-allowed, grows-shorter, grows-next, generates-next, generates-none}
+use Rattle.snapshot_project.proofs.ExtensionLemmas.{grows-shorter, grows-next, generates-next, generates-none}
 use Rattle.snapshot_project.proofs.WalkLemmas.{sees-tells}
 
 -- where nothing that is needed was seen, a path goes on by what it writes
-goes-unseen : (need : Option ℕ) → goes false need ≡ false
+pub goes-unseen : (need : Option ℕ) → goes false need ≡ false
 goes-unseen None = refl
 goes-unseen (Some need) = refl
 
@@ -105,90 +103,6 @@ module _ (part : GridList) (whole : IsWhole part.problem) where
           let (snapshot, held, same) = writes-listed rank position state writes in
           none snapshot held same
 
-  -- ---- hits
-
-  module _ (ranks : List ℕ) (list : SnapshotList) (are : AreSnapshots part ranks list) (items : List Item) (hits : List Hit)
-      (found : AreHits part.problem part.bound items are.prefix list.seen hits) where
-    -- a sequence grows by a rank exactly where a hit has it
-    pub grows-hit : (rank : ℕ) → GrowsBehind part (ranks ++ rank ∷ []) items ↔ HasHit hits rank
-    grows-hit rank =
-        let law = grows-next part whole are.prefix ranks are.ranked are.top items rank in (
-          (λ grows.
-              let (position, state, writes) = law.0 grows in
-              let (t, from, here, live, leads, written, completes) = writes in
-              let (hit, held, rank_is, position_is, state_is) = found.all rank position state (slice_get_within items position t here) writes in
-              (hit, held, rank_is)),
-          (λ (hit, held, same).
-              let (at, less, (is, writes, marks)) = found.right hit held in
-              law.1 (at, hit.state, subst (λ (r : ℕ). WritesNext part.problem part.bound items are.prefix r at hit.state) same writes)),
-        )
-
-    -- the prefix with a rank is a pattern of the sequence exactly where a hit of the rank ends
-    pub generates-hit : (rank : ℕ) → GeneratesWithin part (ranks ++ rank ∷ []) items ↔ HasEnd hits rank
-    generates-hit rank =
-        let law = generates-next part whole are.prefix ranks are.ranked are.top items rank in
-        let tells = sees-tells (HoldsNeeded part.problem.ranking part.bound.need are.prefix) part.bound.need list.seen rank are.seen in (
-          (λ generates.
-              let (position, state, (writes, holds, ends)) = law.0 generates in
-              let (t, from, here, live, leads, written, completes) = writes in
-              let (hit, held, rank_is, position_is, state_is) = found.all rank position state (slice_get_within items position t here) writes in
-              let (at, less, (is, also, marks)) = found.right hit held in
-              let same : position ≡ at = omega arith in (
-                hit,
-                held,
-                rank_is,
-                marks.ends.1 (
-                  subst (λ (r : ℕ). IsTrue (sees list.seen part.bound.need r)) (sym rank_is) (tells.1 holds),
-                  subst (Ends part.problem (drop (at + 1) items)) (sym state_is) (subst (λ (k : ℕ). Ends part.problem (drop (k + 1) items) state) same ends),
-                ),
-              )),
-          (λ (hit, held, rank_is, mark).
-              let (at, less, (is, writes, marks)) = found.right hit held in
-              let (holds, ends) = marks.ends.0 mark in
-              law.1 (
-                at,
-                hit.state,
-                (
-                  subst (λ (r : ℕ). WritesNext part.problem part.bound items are.prefix r at hit.state) rank_is writes,
-                  tells.0 (subst (λ (r : ℕ). IsTrue (sees list.seen part.bound.need r)) rank_is holds),
-                  ends,
-                ),
-              )),
-        )
-
-    -- the hits of a rank that write on are the snapshots of the prefix with it from which a path goes on as it has to
-    pub opens-hit : (rank position state : ℕ) → OpensNext part.problem part.bound items are.prefix list.seen rank position state
-        ↔ ((hit : Hit) × Contains hits hit × (hit.rank ≡ rank) × IsTrue hit.writes_on × (hit.position ≡ position) × (hit.state ≡ state))
-    opens-hit rank position state = (
-      (λ (before, position_is, writes, completes).
-          let (t, from, here, live, leads, written, enough) = writes in
-          let (hit, held, rank_is, at_is, state_is) = found.all rank before state (slice_get_within items before t here) writes in
-          let (at, less, (is, also, marks)) = found.right hit held in
-          let same : position ≡ at + 1 = omega arith in (
-            hit,
-            held,
-            rank_is,
-            marks.writes_on.1
-                (subst (λ (r : ℕ). Completes part.problem part.bound (drop (at + 1) items) hit.state (goes (sees list.seen part.bound.need r) part.bound.need)) (sym rank_is)
-                (subst (λ (s : ℕ). Completes part.problem part.bound (drop (at + 1) items) s (goes (sees list.seen part.bound.need rank) part.bound.need)) (sym state_is)
-                (subst (λ (k : ℕ). Completes part.problem part.bound (drop k items) state (goes (sees list.seen part.bound.need rank) part.bound.need)) same completes))),
-            at_is ∙ sym position_is,
-            state_is,
-          )),
-      (λ (hit, held, rank_is, mark, position_is, state_is).
-          let (at, less, (is, writes, marks)) = found.right hit held in
-          let same : at + 1 ≡ position = sym is ∙ position_is in (
-            at,
-            sym same,
-            subst (λ (s : ℕ). WritesNext part.problem part.bound items are.prefix rank at s) state_is
-                (subst (λ (r : ℕ). WritesNext part.problem part.bound items are.prefix r at hit.state) rank_is writes),
-            subst (λ (r : ℕ). Completes part.problem part.bound (drop position items) state (goes (sees list.seen part.bound.need r) part.bound.need)) rank_is
-                (subst (λ (s : ℕ). Completes part.problem part.bound (drop position items) s (goes (sees list.seen part.bound.need hit.rank) part.bound.need)) state_is
-                (subst (λ (k : ℕ). Completes part.problem part.bound (drop k items) hit.state (goes (sees list.seen part.bound.need hit.rank) part.bound.need)) same
-                (marks.writes_on.0 mark))),
-          )),
-    )
-
   -- ---- new lists
 
   none-generates : (numbers : List ℕ)
@@ -248,7 +162,8 @@ module _ (part : GridList) (whole : IsWhole part.problem) where
         subst (λ (k : ℕ). HasSnapshot part.problem part.bound (items_of part.problem i) (are.prefix ++ w ∷ []) k state) (sym is)
         ((longer-next part.problem whole part.bound (items_of part.problem i) are.prefix w rank has few before state).1 writes)
 
-    snapshots-by : (longer : SnapshotList) → longer.seen ≡ sees list.seen part.bound.need rank → IsSupportOf part (ranks ++ rank ∷ []) longer.support
+    -- so by what is a snapshot of it
+    pub snapshots-by : (longer : SnapshotList) → longer.seen ≡ sees list.seen part.bound.need rank → IsSupportOf part (ranks ++ rank ∷ []) longer.support
         → AllPairs ComesBefore longer.snapshots
         → ((snapshot : Snapshot) → Contains longer.snapshots snapshot → IsSnapshotOf part (are.prefix ++ w ∷ []) snapshot)
         → ((snapshot : Snapshot) → Contains longer.snapshots snapshot → MayGoOn part (sees list.seen part.bound.need rank) snapshot)
@@ -285,25 +200,6 @@ module _ (part : GridList) (whole : IsWhole part.problem) where
         (λ snapshot (known, at) on.
         (exact snapshot).1 (known, opens-from (items_of part.problem snapshot.sequence) snapshot.position snapshot.state at on))
 
-    -- a longer prefix that nothing follows
-    pub snapshots-last : (longer : SnapshotList) → longer.seen ≡ sees list.seen part.bound.need rank → IsSupportOf part (ranks ++ rank ∷ []) longer.support
-        → longer.snapshots ≡ [] → NothingFollows part (ranks ++ rank ∷ []) → AreSnapshots part (ranks ++ rank ∷ []) longer
-    snapshots-last longer says support none nothing = snapshots-by longer says support
-        (subst (AllPairs ComesBefore) (sym none) (λ i j d less inside. absurd (omega (arith, inside))))
-        (λ snapshot held. absurd (Contains-none snapshot (subst (λ (l : List Snapshot). Contains l snapshot) none held)))
-        (λ snapshot held. absurd (Contains-none snapshot (subst (λ (l : List Snapshot). Contains l snapshot) none held)))
-        (λ snapshot (known, at) on.
-        let ranked = ranked-push part.problem.ranking.order are.prefix ranks w rank are.ranked has in
-        let top = of_both (λ rank. rank ≤ part.bound.top) ranks (rank ∷ []) are.top (few, tt) in
-        let allowed = ranked-allowed part.problem.ranking part.bound (are.prefix ++ w ∷ []) (ranks ++ rank ∷ []) ranked top in
-        let (v, (other, others, within), behind) =
-        written-behind part.problem part.bound whole (items_of part.problem snapshot.sequence) (are.prefix ++ w ∷ []) allowed snapshot.position snapshot.state at on in
-        absurd (nothing snapshot.sequence other known (
-          (are.prefix ++ w ∷ []) ++ v ∷ [],
-          ranked-push part.problem.ranking.order (are.prefix ++ w ∷ []) (ranks ++ rank ∷ []) v other ranked others,
-          behind,
-        )))
-
     -- a longer prefix from all of whose snapshots paths can only end
     pub snapshots-ended : (support : ℕ) → IsSupportOf part (ranks ++ rank ∷ []) support
         → ((i position state : ℕ) → Contains part.sequences i
@@ -317,17 +213,15 @@ module _ (part : GridList) (whole : IsWhole part.problem) where
           (λ (known, opens). absurd (none snapshot.sequence snapshot.position snapshot.state known opens)),
         ))
 
-  -- where more follows a prefix with a rank, a hit of the rank writes on
-  pub follows-hit : (ranks : List ℕ) (list : SnapshotList) (are : AreSnapshots part ranks list) (items : List Item) (hits : List Hit)
-      (found : AreHits part.problem part.bound items are.prefix list.seen hits) (rank other : ℕ)
-      → GrowsBehind part ((ranks ++ rank ∷ []) ++ other ∷ []) items → (hit : Hit) × Contains hits hit × (hit.rank ≡ rank) × IsTrue hit.writes_on
-  follows-hit ranks list are items hits found rank other grows =
+  -- where more follows a prefix with a rank, the prefix with it goes on from somewhere
+  pub follows-opens : (ranks : List ℕ) (list : SnapshotList) (are : AreSnapshots part ranks list) (items : List Item) (rank other : ℕ)
+      → GrowsBehind part ((ranks ++ rank ∷ []) ++ other ∷ []) items
+      → (position : ℕ) × (state : ℕ) × OpensNext part.problem part.bound items are.prefix list.seen rank position state
+  follows-opens ranks list are items rank other grows =
       let (first, from, writes) = (grows-next part whole are.prefix ranks are.ranked are.top items rank).0 (grows-shorter part whole (ranks ++ rank ∷ []) (other ∷ []) items grows) in
       let (t, before, here, live, leads, (w, has, few, reads), completes) = writes in
       let ranked = ranked-push part.problem.ranking.order are.prefix ranks w rank are.ranked has in
       let top = of_both (λ rank. rank ≤ part.bound.top) ranks (rank ∷ []) are.top (few, tt) in
       let (place, next, more) = (grows-next part whole (are.prefix ++ w ∷ []) (ranks ++ rank ∷ []) ranked top items other).0 grows in
       let (start, state, early, snapshot, on) = writes-begins part.problem whole part.bound items (are.prefix ++ w ∷ []) other place next more in
-      let opens = opens-from ranks list are w rank has few items start state snapshot on in
-      let (hit, held, rank_is, mark, position_is, state_is) = (opens-hit ranks list are items hits found rank start state).0 opens in
-      (hit, held, rank_is, mark)
+      (start, state, opens-from ranks list are w rank has few items start state snapshot on)

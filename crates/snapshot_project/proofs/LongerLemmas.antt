@@ -1,167 +1,369 @@
--- The snapshots of a prefix that is longer by one rank, found group by group.
-use Rattle.std.proofs.Common.{false, ◌≡◌, ◌≢◌, ℕ, ◌+◌, ◌-◌, ◌≤◌, ◌<◌, Bool, Option, Some, List, [], ◌∷◌, ◌++◌, map, length, refl, sym, ap, ◌∙◌, subst, arith}
-use Rattle.std.specs.List.{Contains, slice_get, slice_index, slice_range}
-use Rattle.std.proofs.lemmas.Option.{slice_get_within, same_Some}
+-- The stands of a prefix that is longer by one rank, from the visits of each sequence.
+use Rattle.std.proofs.Common.{◌≡◌, ◌↔◌, ℕ, zero, suc, ◌+◌, ◌-◌, ◌≤◌, ◌<◌, inl, inr, Bool, true, false, true≢false, IsTrue, Some, List, [], ◌∷◌, ◌++◌, length, map, get_or, refl, sym, ap, ◌∙◌, subst, arith}
+use Rattle.std.specs.List.{AllPairs, AllZip, Contains, filter, slice_get, slice_index}
+use Rattle.std.proofs.lemmas.List.Elements.{Contains-append_cases, Contains-append_left, Contains-append_right}
+use Rattle.std.proofs.lemmas.List.{get_or_default}
+use Rattle.std.proofs.lemmas.List.Kept.{AllPairs-cons, AllPairs-filter}
+use Rattle.std.proofs.lemmas.Option.{same_Some, slice_get-get_or, slice_get_within, get_or_from_slice_get}
 use Rattle.mine_model.specs.declared.item.Item.{Item}
+use Rattle.mine_model.specs.Ranks.{HasRank}
 use Rattle.mine_model.proofs.ElementLemmas.{get-some, get-held}
+use Rattle.mine_model.proofs.ListLemmas.{Contains-cases, Contains-first, Contains-other, Contains-none, Contains-by, Contains-from, Contains-filter, filter-Contains, AllPairs-head, AllPairs-tail, AllPairs-append}
 use Rattle.mining_job.specs.Problems.{items_of}
 use Rattle.sequence_grids.specs.Grids.{GridList, items_at}
-use Rattle.snapshot_project.specs.declared.hit.Hit.{Hit}
-use Rattle.snapshot_project.specs.declared.next_rank.NextRank.{NextRank}
+use Rattle.place_walk.specs.declared.stand.Stand.{Stand}
+use Rattle.place_walk.specs.declared.visit.Visit.{Visit}
+use Rattle.place_walk.specs.Courses.{Course}
+use Rattle.place_walk.specs.Groups.{IsGroup}
+use Rattle.place_walk.specs.Visits.{IsBefore, AreVisits}
+use Rattle.stand_sums.specs.declared.aim.Aim.{Aim}
+use Rattle.stand_sums.specs.Writings.{Ranks, opens}
+use Rattle.stand_sums.specs.Files.{stand_at, stands_at, stands_in, stands_of}
+use Rattle.place_records.specs.Records.{start_of}
 use Rattle.snapshot_project.specs.declared.snapshot.Snapshot.{Snapshot}
-use Rattle.snapshot_project.specs.declared.grouping.Group.{Group}
-use Rattle.snapshot_project.specs.Snapshots.{IsPart, SnapshotList, AreSnapshots}
-use Rattle.snapshot_project.specs.Live.{WritesNext, OpensNext, AreSnapshotsOf}
-use Rattle.snapshot_project.specs.Extensions.{IsSupportOf, IsTold}
 use Rattle.snapshot_project.specs.Aims.{sees}
-use Rattle.snapshot_project.specs.Hits.{AreInOrder, AreHits}
-use Rattle.snapshot_project.specs.Groups.{IsNextGroup, AreRead}
-use Rattle.snapshot_project.specs.Walks.{AreGroupOf}
-use Rattle.snapshot_project.specs.Files.{empty_for, filed, with_more, AreFiled}
-use Rattle.snapshot_project.proofs.ListedLemmas.{snapshots-of, writes-listed, opens-hit, snapshots-longer, snapshots-last}
-use Rattle.snapshot_project.proofs.ReadLemmas.{read-passed, read-sequence, read-walk, read-all}
-use Rattle.snapshot_project.proofs.FileLemmas.{mapped-from}
-use Rattle.snapshot_project.proofs.FoundLemmas.{AreFoundBefore, found-none, found-more, found-all, filed-rising, filed-held}
+use Rattle.snapshot_project.specs.Snapshots.{IsPart, ComesBefore, SnapshotList, AreSnapshots}
+use Rattle.snapshot_project.specs.Extensions.{IsSupportOf}
+use Rattle.snapshot_project.specs.Live.{OpensNext}
+use Rattle.snapshot_project.specs.Stands.{IsStandOf, IsGroupOf, AreStandsIn, AreStandsOf}
+use Rattle.snapshot_project.specs.Grouped.{IsGroupIn, AreGroupsIn, AreAllGrids}
+use Rattle.snapshot_project.proofs.GroupLemmas.{group-in}
+use Rattle.snapshot_project.proofs.ListedLemmas.{writes-listed, snapshots-longer}
+use Rattle.snapshot_project.proofs.UniqueLemmas.{pairs-map}
 
--- a snapshot of the prefix with the rank appended, from which a path goes on as it has to
-abbrev pub IsLonger : GridList → List Item → Bool → ℕ → Snapshot → Type 0
-IsLonger part prefix seen rank snapshot =
-    OpensNext part.problem part.bound (items_of part.problem snapshot.sequence) prefix seen rank snapshot.position snapshot.state
+-- what a prefix asks of what is written behind it
+abbrev pub aim_of : GridList → Bool → Aim
+aim_of part seen = record { seen = seen; need = part.bound.need }
 
--- the hits are what a walk finds that begins with these snapshots
-abbrev pub AreWalked : GridList → ℕ → Bool → List Snapshot → List Hit → Type 0
-AreWalked part grid seen group hits =
-    (prefix : List Item) → AreGroupOf part.problem part.bound (items_at part grid) prefix seen group
-    → AreHits part.problem part.bound (items_at part grid) prefix seen hits
+-- ---- the visits of one sequence
 
--- what is said of a slice of the snapshots, said of what it shows
-pub walked-shown : (part : GridList) (grid read end : ℕ) (hits : List Hit) (seen told : Bool) (snapshots shown : List Snapshot) → told ≡ seen → shown ≡ snapshots
-    → AreWalked part grid told (slice_range shown read end) hits → AreWalked part grid seen (slice_range snapshots read end) hits
-walked-shown part grid read end hits seen told snapshots shown one two walked =
-    subst (λ (b : Bool). AreWalked part grid b (slice_range snapshots read end) hits) one
-    (subst (λ (l : List Snapshot). AreWalked part grid told (slice_range l read end) hits) two walked)
+-- the visits of the sequence of a grid rise, lie within it, and tell where the prefix with the rank opens there
+pub record AreVisitsIn (part : GridList) (prefix : List Item) (seen : Bool) (ranks : Ranks) (rank grid : ℕ) (visits : List Visit) : Type 0 where
+  pub at : slice_get part.sequences grid ≡ Some (slice_index part.sequences grid)
+  pub rising : AllPairs IsBefore visits
+  pub within : (visit : Visit) → Contains visits visit
+      → (position : ℕ) × (position < length (items_at part grid)) × (visit.place ≡ start_of part grid + (position + 1))
+  pub opening : (position state : ℕ) → OpensNext part.problem part.bound (items_at part grid) prefix seen rank position state
+      ↔ ((visit : Visit) × Contains visits visit × (visit.place ≡ start_of part grid + position) × (visit.action.state ≡ state)
+      × IsTrue (opens ranks (aim_of part seen) rank visit))
 
-module _ (part : GridList) (is : IsPart part) (ranks : List ℕ) (list : SnapshotList) (are : AreSnapshots part ranks list) where
-  -- there is none in a sequence that has no snapshot of the prefix in the list
-  longer-not : (rank i : ℕ) → Contains part.sequences i → ((snapshot : Snapshot) → Contains list.snapshots snapshot → snapshot.sequence ≡ i → ⊥)
-      → (snapshot : Snapshot) → snapshot.sequence ≡ i → IsLonger part are.prefix list.seen rank snapshot → ⊥
-  longer-not rank i inside none snapshot same (before, at, writes, completes) =
-      let (first, held, of) =
-      writes-listed part is.whole ranks list are i inside rank before snapshot.state
-      (subst (λ (k : ℕ). WritesNext part.problem part.bound (items_of part.problem k) are.prefix rank before snapshot.state) same writes) in
-      none first held of
+-- where a path stands behind a visit
+abbrev snapshot_at : GridList → ℕ → Visit → Snapshot
+snapshot_at part grid visit =
+    record { sequence = slice_index part.sequences grid; position = visit.place - start_of part grid; state = visit.action.state }
 
-  module _ (read grid : ℕ) (so_far : AreRead part list.snapshots read grid) (rank : ℕ) where
-    all : AreSnapshotsOf part are.prefix list.snapshots
-    all = snapshots-of part ranks list are
+-- behind each visit that writes the rank and goes on
+abbrev snapshots_in : GridList → Bool → Ranks → ℕ → ℕ → List Visit → List Snapshot
+snapshots_in part seen ranks rank grid visits = map (snapshot_at part grid) (filter (opens ranks (aim_of part seen) rank) visits)
 
-    -- with those of one more group
-    module _ (group : Group) (next : IsNextGroup part.sequences list.snapshots read grid group) (hits : List Hit)
-        (order : AreInOrder (length (items_at part group.grid)) hits)
-        (walked : AreWalked part group.grid list.seen (slice_range list.snapshots read group.end) hits) where
-      abbrev number : ℕ
-      number = slice_index part.sequences group.grid
+-- in one sequence after another
+abbrev pub snapshots_along : GridList → Bool → Ranks → ℕ → List ℕ → List (List Visit) → List Snapshot
+snapshots_along part seen ranks rank [] sequences = []
+snapshots_along part seen ranks rank (grid ∷ grids) [] = []
+snapshots_along part seen ranks rank (grid ∷ grids) (visits ∷ sequences) =
+    snapshots_in part seen ranks rank grid visits ++ snapshots_along part seen ranks rank grids sequences
 
-      -- the hits of the group
-      pub group-hits : AreHits part.problem part.bound (items_at part group.grid) are.prefix list.seen hits
-      group-hits = walked are.prefix (read-walk part is are.prefix list.snapshots all read grid so_far group next list.seen are.seen)
+-- ---- marks of stands
 
-      pub longer-more : (longer : List Snapshot) → AreFoundBefore part (IsLonger part are.prefix list.seen rank) grid longer
-          → AreFoundBefore part (IsLonger part are.prefix list.seen rank) (group.grid + 1) (longer ++ filed (slice_index part.sequences group.grid) rank hits)
-      longer-more longer found =
-          let known : number ≡ next.sequence = read-sequence part is are.prefix list.snapshots all read grid so_far group next in
-          found-more part is (IsLonger part are.prefix list.seen rank) grid longer found group.grid number (filed number rank hits) next.forward (next.at ∙ ap Some (sym known))
-          (λ g snapshot least most at. longer-not rank snapshot.sequence (get-held part.sequences g snapshot.sequence at)
-          (read-passed part is are.prefix list.snapshots all read grid so_far group next g snapshot.sequence least most at) snapshot refl)
-          (filed-rising number rank hits (length (items_at part group.grid)) order)
-          (λ snapshot.
-          let law = opens-hit part is.whole ranks list are (items_at part group.grid) hits group-hits rank snapshot.position snapshot.state in (
-            (λ held.
-                let (same, hit) = (filed-held number rank hits snapshot).0 held in (
-                  same,
-                  subst (λ (k : ℕ). OpensNext part.problem part.bound (items_of part.problem k) are.prefix list.seen rank snapshot.position snapshot.state) (sym same)
-                      (law.1 hit),
-                )),
-            (λ (same, opens).
-                (filed-held number rank hits snapshot).1 (
-                  same,
-                  law.0 (subst (λ (k : ℕ). OpensNext part.problem part.bound (items_of part.problem k) are.prefix list.seen rank snapshot.position snapshot.state) same opens),
-                )),
-          ))
+plain-at : (visits : List Visit) (k : ℕ) (stand : Stand) → slice_get (map (stand_at false) visits) k ≡ Some stand → stand.first ≡ false
+plain-at [] k stand at = absurd (cc)
+plain-at (visit ∷ visits) zero stand at = ap (λ (s : Stand). s.first) (sym (same_Some (stand_at false visit) stand at))
+plain-at (visit ∷ visits) (suc k) stand at = plain-at visits k stand at
 
-    -- all of them, where no group is left
-    pub longer-all : ((snapshot : Snapshot) → slice_get list.snapshots read ≡ Some snapshot → (k : ℕ) → grid ≤ k → k < length part.sequences
-        → slice_index part.sequences k ≢ snapshot.sequence)
-        → 1 ≤ rank → rank ≤ part.bound.top → (longer : SnapshotList) → longer.seen ≡ sees list.seen part.bound.need rank
-        → IsSupportOf part (ranks ++ rank ∷ []) longer.support
-        → AreFoundBefore part (IsLonger part are.prefix list.seen rank) grid longer.snapshots → AreSnapshots part (ranks ++ rank ∷ []) longer
-    longer-all none least most longer seen_is support found =
-        let few : part.bound.top ≤ length part.problem.ranking.order = is.top in
-        let (w, place) = get-some part.problem.ranking.order (rank - 1) (omega arith) in
-        snapshots-longer part is.whole ranks list are w rank (record { least = least; place = place }) most longer seen_is support found.rising
-        (found-all part is (IsLonger part are.prefix list.seen rank) grid longer.snapshots found
-        (λ g snapshot least most at. longer-not rank snapshot.sequence (get-held part.sequences g snapshot.sequence at)
-        (read-all part is are.prefix list.snapshots all read grid so_far none g snapshot.sequence least at) snapshot refl))
+-- some stands, the first marked
+stands-group : (visit : Visit) (visits : List Visit) → IsGroup (stands_at (visit ∷ visits))
+stands-group visit visits = record { some = omega arith; marked = marks }
+  where
+    marks : (k : ℕ) (stand : Stand) → slice_get (stands_at (visit ∷ visits)) k ≡ Some stand → IsTrue stand.first ↔ (k ≡ 0)
+    marks zero stand at = ((λ marked. refl), (λ none. ap (λ (s : Stand). s.first) (sym (same_Some (stand_at true visit) stand at))))
+    marks (suc k) stand at =
+        let plain = plain-at visits k stand at in
+        ((λ marked. absurd (true≢false (sym marked ∙ plain))), (λ none. absurd (let no' : suc k ≡ 0 = none in omega arith)))
 
--- ---- lists for several ranks
+module _ (part : GridList) (prefix : List Item) (seen : Bool) (ranks : Ranks) (rank : ℕ) where
+  -- the prefix with the rank opens there
+  abbrev Opens : ℕ → Snapshot → Type 0
+  Opens sequence snapshot = OpensNext part.problem part.bound (items_of part.problem sequence) prefix seen rank snapshot.position snapshot.state
 
--- each list tells whether what is needed is seen with its rank, and its support
-abbrev pub AreBegun : Bool → Option ℕ → List NextRank → List SnapshotList → Type 0
-AreBegun seen need next lists =
-    (k : ℕ) (n : NextRank) (list : SnapshotList) → slice_get next k ≡ Some n → slice_get lists k ≡ Some list
-    → (list.seen ≡ sees seen need n.rank) × (list.support ≡ n.support)
+  module _ (grid : ℕ) (visits : List Visit) (are : AreVisitsIn part prefix seen ranks rank grid visits) where
+    in-rising : AllPairs ComesBefore (snapshots_in part seen ranks rank grid visits)
+    in-rising =
+        let test : Visit → Bool = opens ranks (aim_of part seen) rank in
+        pairs-map IsBefore ComesBefore (snapshot_at part grid) (filter test visits) (λ one other here there before.
+        let (low, low_within, low_is) = are.within one (Contains-filter test visits one here).0 in
+        let (high, high_within, high_is) = are.within other (Contains-filter test visits other there).0 in
+        inr (
+          refl,
+          elim before [
+            | inl less ↦ inl (omega arith)
+            | inr (same, less) ↦ inr (omega arith, less)
+          ],
+        ))
+        (AllPairs-filter IsBefore test visits are.rising)
 
--- each list has the snapshots with its rank in the first so many sequences
-abbrev pub AreLongerSoFar : GridList → List Item → Bool → ℕ → List NextRank → List SnapshotList → Type 0
-AreLongerSoFar part prefix seen count next lists =
-    (k : ℕ) (n : NextRank) (list : SnapshotList) → slice_get next k ≡ Some n → slice_get lists k ≡ Some list
-    → AreFoundBefore part (IsLonger part prefix seen n.rank) count list.snapshots
+    in-held : (snapshot : Snapshot) → Contains (snapshots_in part seen ranks rank grid visits) snapshot
+        → (snapshot.sequence ≡ slice_index part.sequences grid) × Opens (slice_index part.sequences grid) snapshot
+    in-held snapshot held =
+        let test : Visit → Bool = opens ranks (aim_of part seen) rank in
+        let (visit, kept, is) = Contains-from (snapshot_at part grid) (filter test visits) snapshot held in
+        let (among, passes) = Contains-filter test visits visit kept in
+        let (place, inside, place_is) = are.within visit among in
+        let position_is : snapshot.position ≡ visit.place - start_of part grid = ap (λ (s : Snapshot). s.position) is in (
+          ap (λ (s : Snapshot). s.sequence) is,
+          (are.opening snapshot.position snapshot.state).1 (visit, among, omega arith, sym (ap (λ (s : Snapshot). s.state) is), passes),
+        )
 
-module _ (seen : Bool) (need : Option ℕ) (next : List NextRank) where
-  empty-is : (k : ℕ) (n : NextRank) (list : SnapshotList) → slice_get next k ≡ Some n → slice_get (map (empty_for seen need) next) k ≡ Some list
-      → empty_for seen need n ≡ list
-  empty-is k n list at_n at_list =
-      let (m, at_m, same) = mapped-from (empty_for seen need) next k list at_list in
-      ap (empty_for seen need) (same_Some n m (sym at_n ∙ at_m)) ∙ same
+    in-back : (snapshot : Snapshot) → snapshot.sequence ≡ slice_index part.sequences grid → Opens (slice_index part.sequences grid) snapshot
+        → Contains (snapshots_in part seen ranks rank grid visits) snapshot
+    in-back snapshot same opening =
+        let test : Visit → Bool = opens ranks (aim_of part seen) rank in
+        let (visit, among, place_is, state_is, passes) = (are.opening snapshot.position snapshot.state).0 opening in
+        let position_is : visit.place - start_of part grid ≡ snapshot.position = omega arith in
+        let one : snapshot_at part grid visit ≡ snapshot = λ i. record { sequence = sym same i; position = position_is i; state = state_is i } in
+        subst (Contains (snapshots_in part seen ranks rank grid visits)) one
+        (Contains-by (snapshot_at part grid) (filter test visits) visit (filter-Contains test visits visit among passes))
 
-  pub begun-empty : AreBegun seen need next (map (empty_for seen need) next)
-  begun-empty k n list at_n at_list =
-      let is = empty-is k n list at_n at_list in (ap (λ (l : SnapshotList). l.seen) (sym is), ap (λ (l : SnapshotList). l.support) (sym is))
+    stand-one : (mark : Bool) (visit : Visit) → Contains visits visit → IsStandOf part grid (snapshot_at part grid visit) (stand_at mark visit)
+    stand-one mark visit among =
+        let (place, inside, place_is) = are.within visit among in
+        record { sequence = are.at; place = omega arith; state = refl }
 
-  pub longer-empty : (part : GridList) → IsPart part → (prefix : List Item) → AreLongerSoFar part prefix seen 0 next (map (empty_for seen need) next)
-  longer-empty part is prefix k n list at_n at_list =
-      subst (λ (l : SnapshotList). AreFoundBefore part (IsLonger part prefix seen n.rank) 0 l.snapshots) (empty-is k n list at_n at_list)
-      (found-none part is (IsLonger part prefix seen n.rank))
+    stands-plain : (some : List Visit) → ((visit : Visit) → Contains some visit → Contains visits visit)
+        → AllZip (IsStandOf part grid) (map (snapshot_at part grid) some) (map (stand_at false) some)
+    stands-plain [] all = tt
+    stands-plain (visit ∷ some) all =
+        (stand-one false visit (all visit (Contains-first visit some)), stands-plain some (λ other held. all other (Contains-other visit some other held)))
 
--- lists that were as long as the ranks still have one for each
-before-filed : (next : List NextRank) (before : List SnapshotList) → length before ≡ length next → (k : ℕ) (n : NextRank) → slice_get next k ≡ Some n
-    → (list : SnapshotList) × (slice_get before k ≡ Some list)
-before-filed next before long k n at = let inside : k < length next = slice_get_within next k n at in get-some before k (omega arith)
+    in-group : (visit : Visit) (some : List Visit) → ((one : Visit) → Contains (visit ∷ some) one → Contains visits one)
+        → IsGroupOf part grid (map (snapshot_at part grid) (visit ∷ some)) (stands_at (visit ∷ some))
+    in-group visit some all = record {
+      marked = stands-group visit some;
+      are = (
+        stand-one true visit (all visit (Contains-first visit some)),
+        stands-plain some (λ other held. all other (Contains-other visit some other held)),
+      );
+    }
 
-module _ (number : ℕ) (next : List NextRank) (hits : List Hit) (before after : List SnapshotList) (long : length before ≡ length next)
-    (all : AreFiled number next hits before after) where
-  pub begun-filed : (seen : Bool) (need : Option ℕ) → AreBegun seen need next before → AreBegun seen need next after
-  begun-filed seen need begun k n list at_n at_list =
-      let (old, at_old) = before-filed next before long k n at_n in
-      let same : with_more old (filed number n.rank hits) ≡ list = same_Some (with_more old (filed number n.rank hits)) list (sym (all k n old at_n at_old) ∙ at_list) in
-      let (seen_is, support_is) = begun k n old at_n at_old in
-      (ap (λ (l : SnapshotList). l.seen) (sym same) ∙ seen_is, ap (λ (l : SnapshotList). l.support) (sym same) ∙ support_is)
+  -- ---- all sequences
 
-  pub longer-filed : (part : GridList) (prefix : List Item) (seen : Bool) (count more : ℕ) → AreLongerSoFar part prefix seen count next before
-      → ((rank : ℕ) (longer : List Snapshot) → AreFoundBefore part (IsLonger part prefix seen rank) count longer
-      → AreFoundBefore part (IsLonger part prefix seen rank) more (longer ++ filed number rank hits))
-      → AreLongerSoFar part prefix seen more next after
-  longer-filed part prefix seen count more found step k n list at_n at_list =
-      let (old, at_old) = before-filed next before long k n at_n in
-      let same : with_more old (filed number n.rank hits) ≡ list = same_Some (with_more old (filed number n.rank hits)) list (sym (all k n old at_n at_old) ∙ at_list) in
-      subst (λ (l : SnapshotList). AreFoundBefore part (IsLonger part prefix seen n.rank) more l.snapshots) same (step n.rank old.snapshots (found k n old at_n at_old))
+  along-held : (grids : List ℕ) (sequences : List (List Visit)) → AllZip (AreVisitsIn part prefix seen ranks rank) grids sequences → (snapshot : Snapshot)
+      → Contains (snapshots_along part seen ranks rank grids sequences) snapshot
+      → (grid : ℕ) × Contains grids grid × (slice_get part.sequences grid ≡ Some snapshot.sequence) × Opens snapshot.sequence snapshot
+  along-held [] sequences all snapshot held = absurd (Contains-none snapshot held)
+  along-held (grid ∷ grids) [] all snapshot held = absurd all
+  along-held (grid ∷ grids) (visits ∷ sequences) (are, others) snapshot held =
+      elim (Contains-append_cases (snapshots_in part seen ranks rank grid visits) (snapshots_along part seen ranks rank grids sequences) snapshot held) [
+        | inl here ↦
+            let (same, opening) = in-held grid visits are snapshot here in (
+              grid,
+              Contains-first grid grids,
+              are.at ∙ ap Some (sym same),
+              subst (λ (i : ℕ). Opens i snapshot) (sym same) opening,
+            )
+        | inr there ↦
+            let (other, among, at, opening) = along-held grids sequences others snapshot there in
+            (other, Contains-other grid grids other among, at, opening)
+      ]
 
--- where nothing follows a prefix with a rank, the list that is still empty is whole
-pub longer-last : (part : GridList) → IsPart part → (ranks : List ℕ) (list : SnapshotList) → AreSnapshots part ranks list → (next : List NextRank)
-    → (i : ℕ) (n : NextRank) (longer : SnapshotList) → slice_get next i ≡ Some n → slice_get (map (empty_for list.seen part.bound.need) next) i ≡ Some longer
-    → 1 ≤ n.rank → n.rank ≤ part.bound.top → IsTold part ranks n → n.goes_on ≡ false → AreSnapshots part (ranks ++ n.rank ∷ []) longer
-longer-last part is ranks list are next i n longer at_n at_list least most (support, ends) off =
-    let few : part.bound.top ≤ length part.problem.ranking.order = is.top in
-    let (w, place) = get-some part.problem.ranking.order (n.rank - 1) (omega arith) in
-    subst (AreSnapshots part (ranks ++ n.rank ∷ [])) (empty-is list.seen part.bound.need next i n longer at_n at_list)
-    (snapshots-last part is.whole ranks list are w n.rank (record { least = least; place = place }) most (empty_for list.seen part.bound.need n) refl support refl (ends off))
+  along-back : (grids : List ℕ) (sequences : List (List Visit)) → AllZip (AreVisitsIn part prefix seen ranks rank) grids sequences → (snapshot : Snapshot) (grid : ℕ)
+      → Contains grids grid → slice_get part.sequences grid ≡ Some snapshot.sequence → Opens snapshot.sequence snapshot
+      → Contains (snapshots_along part seen ranks rank grids sequences) snapshot
+  along-back [] sequences all snapshot grid held at opening = absurd (Contains-none grid held)
+  along-back (first ∷ grids) [] all snapshot grid held at opening = absurd all
+  along-back (first ∷ grids) (visits ∷ sequences) (are, others) snapshot grid held at opening = elim (Contains-cases first grids grid held) [
+    | inl here ↦
+        let same : snapshot.sequence ≡ slice_index part.sequences first =
+        same_Some snapshot.sequence (slice_index part.sequences first) (sym at ∙ ap (slice_get part.sequences) here ∙ are.at) in
+        Contains-append_left (snapshots_in part seen ranks rank first visits) (snapshots_along part seen ranks rank grids sequences) snapshot
+        (in-back first visits are snapshot same (subst (λ (i : ℕ). Opens i snapshot) same opening))
+    | inr there ↦
+        Contains-append_right (snapshots_in part seen ranks rank first visits) (snapshots_along part seen ranks rank grids sequences) snapshot
+        (along-back grids sequences others snapshot grid there at opening)
+  ]
+
+  numbers-rise : IsPart part → (low high i later : ℕ) → low < high → slice_get part.sequences low ≡ Some i → slice_get part.sequences high ≡ Some later → i < later
+  numbers-rise is low high i later less at_low at_high =
+      subst (λ (n : ℕ). n < later) (get_or_from_slice_get part.sequences low i later at_low)
+      (subst (λ (n : ℕ). get_or part.sequences low later < n) (get_or_from_slice_get part.sequences high later later at_high)
+      (is.rising low high later less (slice_get_within part.sequences high later at_high)))
+
+  along-rising : IsPart part → (grids : List ℕ) (sequences : List (List Visit)) → AllZip (AreVisitsIn part prefix seen ranks rank) grids sequences
+      → AllPairs (λ low high. low < high) grids → AllPairs ComesBefore (snapshots_along part seen ranks rank grids sequences)
+  along-rising is [] sequences all rising = λ i j d less inside. absurd (omega arith)
+  along-rising is (grid ∷ grids) [] all rising = absurd all
+  along-rising is (grid ∷ grids) (visits ∷ sequences) (are, others) rising =
+      AllPairs-append ComesBefore (snapshots_in part seen ranks rank grid visits) (snapshots_along part seen ranks rank grids sequences) (in-rising grid visits are)
+      (along-rising is grids sequences others (AllPairs-tail (λ low high. low < high) grid grids rising))
+      (λ one other here there.
+      let (same, opening) = in-held grid visits are one here in
+      let (later, among, at, opening') = along-held grids sequences others other there in
+      let less : slice_index part.sequences grid < other.sequence =
+      numbers-rise is grid later (slice_index part.sequences grid) other.sequence (AllPairs-head (λ low high. low < high) grid grids rising later among) are.at at in
+      inl (omega arith))
+
+  -- the grids of sequences in which a visit opens
+  along-stands : (grids : List ℕ) (sequences : List (List Visit)) → AllZip (AreVisitsIn part prefix seen ranks rank) grids sequences
+      → AllPairs (λ low high. low < high) grids
+      → (chosen : List ℕ) × ((grid : ℕ) → Contains chosen grid → Contains grids grid) × AllPairs (λ low high. low < high) chosen
+      × AreStandsIn part chosen (snapshots_along part seen ranks rank grids sequences) (stands_of ranks (aim_of part seen) rank sequences)
+  along-stands [] [] all rising = ([], (λ grid held. held), rising, (refl, refl))
+  along-stands [] (visits ∷ sequences) all rising = absurd all
+  along-stands (grid ∷ grids) [] all rising = absurd all
+  along-stands (grid ∷ grids) (visits ∷ sequences) (are, others) rising =
+      let test : Visit → Bool = opens ranks (aim_of part seen) rank in
+      let (chosen, among, chosen_rise, stands) = along-stands grids sequences others (AllPairs-tail (λ low high. low < high) grid grids rising) in
+      by chosen among chosen_rise stands (filter test visits) (λ visit held. (Contains-filter test visits visit held).0)
+    where
+      by : (chosen : List ℕ) → ((other : ℕ) → Contains chosen other → Contains grids other) → AllPairs (λ low high. low < high) chosen
+          → AreStandsIn part chosen (snapshots_along part seen ranks rank grids sequences) (stands_of ranks (aim_of part seen) rank sequences)
+          → (some : List Visit) → ((visit : Visit) → Contains some visit → Contains visits visit)
+          → (chosen' : List ℕ) × ((other : ℕ) → Contains chosen' other → Contains (grid ∷ grids) other) × AllPairs (λ low high. low < high) chosen'
+          × AreStandsIn part chosen' (map (snapshot_at part grid) some ++ snapshots_along part seen ranks rank grids sequences)
+          (stands_at some ++ stands_of ranks (aim_of part seen) rank sequences)
+      by chosen among chosen_rise stands [] all = (chosen, (λ other held. Contains-other grid grids other (among other held)), chosen_rise, stands)
+      by chosen among chosen_rise stands (visit ∷ some) all = (
+        grid ∷ chosen,
+        (λ other held. elim (Contains-cases grid chosen other held) [
+          | inl same ↦ subst (Contains (grid ∷ grids)) (sym same) (Contains-first grid grids)
+          | inr there ↦ Contains-other grid grids other (among other there)
+        ]),
+        AllPairs-cons (λ low high. low < high) grid chosen
+            (λ k d below. AllPairs-head (λ low high. low < high) grid grids rising (get_or chosen k d) (among (get_or chosen k d) (k, below, get_or_default chosen k (get_or chosen k d) d below)))
+            chosen_rise,
+        (
+          map (snapshot_at part grid) (visit ∷ some),
+          snapshots_along part seen ranks rank grids sequences,
+          refl,
+          stands_at (visit ∷ some),
+          stands_of ranks (aim_of part seen) rank sequences,
+          refl,
+          in-group grid visits are visit some all,
+          stands,
+        ),
+      )
+
+-- ---- the longer prefix
+
+module _ (part : GridList) (is : IsPart part) (prefixes : List ℕ) (list : SnapshotList) (are : AreSnapshots part prefixes list) (ranks : Ranks) (rank : ℕ)
+    (grids : List ℕ) (rising : AllPairs (λ low high. low < high) grids) (all_grids : AreAllGrids part list.snapshots grids) (sequences : List (List Visit))
+    (all : AllZip (AreVisitsIn part are.prefix list.seen ranks rank) grids sequences) where
+  -- exactly the snapshots at which the prefix with the rank opens
+  along-exact : (snapshot : Snapshot) → Contains (snapshots_along part list.seen ranks rank grids sequences) snapshot
+      ↔ (Contains part.sequences snapshot.sequence × Opens part are.prefix list.seen ranks rank snapshot.sequence snapshot)
+  along-exact snapshot = (
+    (λ held.
+        let (grid, among, at, opening) = along-held part are.prefix list.seen ranks rank grids sequences all snapshot held in
+        (get-held part.sequences grid snapshot.sequence at, opening)),
+    (λ (known, opening).
+        let (before, position_is, writes, completes) = opening in
+        let (first, held, same) = writes-listed part is.whole prefixes list are snapshot.sequence known rank before snapshot.state writes in
+        let (grid, inside, sequence_is) = known in
+        let at : slice_get part.sequences grid ≡ Some snapshot.sequence = slice_get-get_or part.sequences grid snapshot.sequence inside ∙ ap Some sequence_is in
+        let among : Contains grids grid = all_grids grid first held (at ∙ ap Some (sym same)) in
+        along-back part are.prefix list.seen ranks rank grids sequences all snapshot grid among at opening),
+  )
+
+  -- its snapshots
+  abbrev pub longer_list : ℕ → SnapshotList
+  longer_list support =
+      record { seen = sees list.seen part.bound.need rank; support = support; snapshots = snapshots_along part list.seen ranks rank grids sequences }
+
+  pub longer-are : (support : ℕ) → 1 ≤ rank → rank ≤ part.bound.top → IsSupportOf part (prefixes ++ rank ∷ []) support
+      → AreSnapshots part (prefixes ++ rank ∷ []) (longer_list support)
+  longer-are support least most is_support =
+      let top : part.bound.top ≤ length part.problem.ranking.order = is.top in
+      let (w, place) = get-some part.problem.ranking.order (rank - 1) (omega arith) in
+      let has : HasRank part.problem.ranking.order w rank = record { least = least; place = place } in
+      snapshots-longer part is.whole prefixes list are w rank has most (longer_list support) refl is_support
+      (along-rising part are.prefix list.seen ranks rank is grids sequences all rising) along-exact
+
+  -- those of one sequence
+  pub longer-group : (support : ℕ) (least : 1 ≤ rank) (most : rank ≤ part.bound.top) (is_support : IsSupportOf part (prefixes ++ rank ∷ []) support)
+      → (grid : ℕ) (visits : List Visit) → AreVisitsIn part are.prefix list.seen ranks rank grid visits
+      → (visit : Visit) → Contains visits visit → IsTrue (opens ranks (aim_of part list.seen) rank visit)
+      → IsGroupIn part (longer-are support least most is_support).prefix (longer_list support).seen grid (stands_in ranks (aim_of part list.seen) rank visits)
+  longer-group support least most is_support grid visits at visit held passes =
+      let test : Visit → Bool = opens ranks (aim_of part list.seen) rank in
+      let kept : Contains (filter test visits) visit = filter-Contains test visits visit held passes in
+      let known : Contains part.sequences (slice_index part.sequences grid) = get-held part.sequences grid (slice_index part.sequences grid) at.at in
+      group-in part is (prefixes ++ rank ∷ []) (longer_list support) (longer-are support least most is_support) grid
+      (snapshots_in part list.seen ranks rank grid visits) (stands_in ranks (aim_of part list.seen) rank visits)
+      (by (filter test visits) (let (k, below, is_it) = kept in omega arith) (λ one there. (Contains-filter test visits one there).0))
+      (in-rising part are.prefix list.seen ranks rank grid visits at)
+      (λ snapshot there.
+      let (same, opening) = in-held part are.prefix list.seen ranks rank grid visits at snapshot there in
+      (along-exact snapshot).1 (
+        subst (Contains part.sequences) (sym same) known,
+        subst (λ (i : ℕ). Opens part are.prefix list.seen ranks rank i snapshot) (sym same) opening,
+      ))
+      (λ snapshot there its.
+      let (sequence, opening) = (along-exact snapshot).0 there in
+      let same : snapshot.sequence ≡ slice_index part.sequences grid = same_Some snapshot.sequence (slice_index part.sequences grid) (sym its ∙ at.at) in
+      in-back part are.prefix list.seen ranks rank grid visits at snapshot same (subst (λ (i : ℕ). Opens part are.prefix list.seen ranks rank i snapshot) same opening))
+    where
+      by : (some : List Visit) → 0 < length some → ((one : Visit) → Contains some one → Contains visits one)
+          → IsGroupOf part grid (map (snapshot_at part grid) some) (stands_at some)
+      by [] none those = absurd (omega (arith, none))
+      by (first ∷ some) any those = in-group part are.prefix list.seen ranks rank grid visits at first some those
+
+  -- and that its stands are filed
+  pub longer-stands : (support : ℕ) → 1 ≤ rank → rank ≤ part.bound.top → IsSupportOf part (prefixes ++ rank ∷ []) support
+      → (snapshots : List Snapshot)
+      × AreSnapshots part (prefixes ++ rank ∷ []) (record { seen = sees list.seen part.bound.need rank; support = support; snapshots = snapshots })
+      × AreStandsOf part snapshots (stands_of ranks (aim_of part list.seen) rank sequences)
+  longer-stands support least most is_support =
+      let (chosen, among, chosen_rise, stands) = along-stands part are.prefix list.seen ranks rank grids sequences all rising in (
+        snapshots_along part list.seen ranks rank grids sequences,
+        longer-are support least most is_support,
+        record { grids = chosen; rising = chosen_rise; are = stands },
+      )
+
+-- ---- from groups
+
+-- the grid of a group is one of the part
+group-at : (part : GridList) (prefix : List Item) (seen : Bool) (grid : ℕ) (group : List Stand) → IsGroupIn part prefix seen grid group
+    → slice_get part.sequences grid ≡ Some (slice_index part.sequences grid)
+group-at part prefix seen grid group (here, is, walk) = by here group is.marked is.are
+  where
+    by : (snapshots : List Snapshot) (stands : List Stand) → IsGroup stands → AllZip (IsStandOf part grid) snapshots stands
+        → slice_get part.sequences grid ≡ Some (slice_index part.sequences grid)
+    by snapshots [] marked zip = absurd (let some = marked.some in omega arith)
+    by [] (stand ∷ stands) marked zip = absurd zip
+    by (snapshot ∷ snapshots) (stand ∷ stands) marked (first, zip) =
+        let same : slice_index part.sequences grid ≡ snapshot.sequence = get_or_from_slice_get part.sequences grid snapshot.sequence 0 first.sequence in
+        first.sequence ∙ ap Some (sym same)
+
+module _ (part : GridList) (is : IsPart part) (prefixes : List ℕ) (list : SnapshotList) (are : AreSnapshots part prefixes list) (ranks : Ranks) (course : Course)
+    (visit-within : (grid : ℕ) (group : List Stand) → IsGroupIn part are.prefix list.seen grid group → (visits : List Visit) → AreVisits course group visits
+    → (visit : Visit) → Contains visits visit → (position : ℕ) × (position < length (items_at part grid)) × (visit.place ≡ start_of part grid + (position + 1)))
+    (opens-visit : (grid : ℕ) (group : List Stand) → IsGroupIn part are.prefix list.seen grid group → (visits : List Visit) → AreVisits course group visits
+    → (rank position state : ℕ) → OpensNext part.problem part.bound (items_at part grid) are.prefix list.seen rank position state
+    ↔ ((visit : Visit) × Contains visits visit × (visit.place ≡ start_of part grid + position) × (visit.action.state ≡ state)
+    × IsTrue (opens ranks (aim_of part list.seen) rank visit))) where
+  pub groups-visits : (rank : ℕ) (grids : List ℕ) (groups : List (List Stand)) (sequences : List (List Visit)) → AreGroupsIn part are.prefix list.seen grids groups
+      → AllZip (AreVisits course) groups sequences → AllZip (AreVisitsIn part are.prefix list.seen ranks rank) grids sequences
+  groups-visits rank [] [] [] groups_are visits_are = tt
+  groups-visits rank [] [] (visits ∷ sequences) groups_are visits_are = absurd visits_are
+  groups-visits rank [] (group ∷ groups) sequences groups_are visits_are = absurd groups_are
+  groups-visits rank (grid ∷ grids) [] sequences groups_are visits_are = absurd groups_are
+  groups-visits rank (grid ∷ grids) (group ∷ groups) [] groups_are visits_are = absurd visits_are
+  groups-visits rank (grid ∷ grids) (group ∷ groups) (visits ∷ sequences) (here, others) (exact, rest) = (
+    record {
+      at = group-at part are.prefix list.seen grid group here;
+      rising = exact.rising;
+      within = visit-within grid group here visits exact;
+      opening = opens-visit grid group here visits exact rank;
+    },
+    groups-visits rank grids groups sequences others rest,
+  )
+
+  -- the snapshots and the stands of a longer prefix, from groups and their visits
+  pub groups-longer : (rank : ℕ) (grids : List ℕ) (groups : List (List Stand)) (sequences : List (List Visit)) → AllPairs (λ low high. low < high) grids
+      → AreAllGrids part list.snapshots grids → AreGroupsIn part are.prefix list.seen grids groups → AllZip (AreVisits course) groups sequences → (support : ℕ)
+      → 1 ≤ rank → rank ≤ part.bound.top → IsSupportOf part (prefixes ++ rank ∷ []) support
+      → (snapshots : List Snapshot)
+      × AreSnapshots part (prefixes ++ rank ∷ []) (record { seen = sees list.seen part.bound.need rank; support = support; snapshots = snapshots })
+      × AreStandsOf part snapshots (stands_of ranks (aim_of part list.seen) rank sequences)
+  groups-longer rank grids groups sequences rising all_grids groups_are visits_are support least most is_support =
+      longer-stands part is prefixes list are ranks rank grids rising all_grids sequences (groups-visits rank grids groups sequences groups_are visits_are)
+      support least most is_support

@@ -1,18 +1,13 @@
 -- What is known of a part by its sequences and its bound.
-use Rattle.std.proofs.Common.{◌≡◌, refl, ℕ, zero, suc, ◌≤◌, ◌<◌, Option, Some, None, List, [], ◌∷◌, length, get_or, sym, subst, arith}
+use Rattle.std.proofs.Common.{◌≡◌, ℕ, zero, suc, ◌≤◌, ◌<◌, Option, Some, None, List, [], ◌∷◌, length, get_or, sym, subst, arith}
 use Rattle.std.specs.Prelude.{IfSome}
 use Rattle.std.specs.List.{AllByRecursion, AllPairs}
 use Rattle.std.proofs.lemmas.Option.{slice_get-get_or}
-use Rattle.mine_model.specs.Limits.{most_sequences}
 use Rattle.mine_model.proofs.ElementLemmas.{get-held}
 use Rattle.mine_model.proofs.ListLemmas.{AllByRecursion-contained}
 use Rattle.mining_job.specs.declared.bound.Bound.{Bound}
-use Rattle.sequence_grids.specs.declared.successors.Successors.{Successors}
 use Rattle.mining_job.specs.Problems.{Problem, IsWhole}
-use Rattle.sequence_grids.specs.Grids.{GridList}
-use Rattle.sequence_grids.specs.Successors.{AreSuccessorsOf}
-use Rattle.snapshot_project.specs.Snapshots.{bound_of}
-use Rattle.snapshot_project.specs.Parts.{IsKept}
+use Rattle.snapshot_project.specs.Snapshots.{bound_of, IsPart}
 
 rising-least : (numbers : List ℕ) → AllPairs (λ low high. low < high) numbers → (i : ℕ) → i < length numbers → i ≤ get_or numbers i 0
 rising-least numbers rising zero inside = omega arith
@@ -36,15 +31,15 @@ pub bound-few : (ranks : ℕ) (pivot : Option ℕ) → IfSome pivot (λ rank. ra
 bound-few ranks None most = omega arith
 bound-few ranks (Some rank) most = most
 
--- what a new part keeps
-pub kept-new : (job : Problem) → IsWhole job → (bound : Bound) → bound.top ≤ length job.ranking.order → (successors : Successors) → AreSuccessorsOf job.machine successors
-    → (numbers : List ℕ) → AllPairs (λ low high. low < high) numbers → AllByRecursion (λ i. i < length job.sequences) numbers → length job.sequences ≤ most_sequences
-    → (grids : GridList) → grids ≡ record { problem = job; bound = bound; sequences = numbers } → IsKept job bound successors grids
-kept-new job whole bound top successors are numbers rising within few grids is =
-    subst (IsKept job bound successors) (sym is) (record {
-      part = record { whole = whole; top = top; rising = rising; within = within };
-      problem = refl;
-      bound_is = refl;
-      few = let count : length numbers ≤ length job.sequences = rising-few numbers (length job.sequences) rising within in omega arith;
-      successors_are = are;
-    })
+-- so such sequences are a part
+pub part-begun : (job : Problem) → IsWhole job → (bound : Bound) (pivot : Option ℕ) → bound ≡ bound_of (length job.ranking.order) pivot
+    → IfSome pivot (λ rank. rank ≤ length job.ranking.order) → (numbers : List ℕ) → AllPairs (λ low high. low < high) numbers
+    → AllByRecursion (λ i. i < length job.sequences) numbers → IsPart (record { problem = job; bound = bound; sequences = numbers })
+part-begun job whole bound pivot same most numbers rising within =
+    let top : (bound_of (length job.ranking.order) pivot).top ≤ length job.ranking.order = bound-few (length job.ranking.order) pivot most in
+    record {
+      whole = whole;
+      top = subst (λ (b : Bound). b.top ≤ length job.ranking.order) (sym same) top;
+      rising = rising;
+      within = within;
+    }

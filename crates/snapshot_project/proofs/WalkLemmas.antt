@@ -1,10 +1,9 @@
 -- A walk over the positions of one sequence, with the live states from which a path goes on as it has to.
-use Rattle.std.proofs.Common.{◌≡◌, ◌↔◌, length, ℕ, zero, suc, ◌+◌, ◌-◌, ◌≤◌, ◌<◌, ◌⊎◌, inl, inr, Bool, true, ◌||◌, ◌==◌, IsTrue, Option, Some, None, List, [], drop, refl, sym, ap, ◌∙◌, subst, arith, rules}
-use Rattle.std.specs.List.{Contains, slice_get}
+use Rattle.std.proofs.Common.{◌≡◌, ◌↔◌, ℕ, zero, suc, ◌+◌, ◌-◌, ◌≤◌, ◌<◌, ◌⊎◌, inl, inr, Bool, true, ◌||◌, ◌==◌, IsTrue, Option, Some, None, List, [], drop, refl, sym, ap, ◌∙◌, subst, arith, rules}
+use Rattle.std.specs.List.{slice_get}
 use Rattle.std.proofs.lemmas.Bool.{cases_Bool, cases_lt, or_cases}
 use Rattle.std.proofs.lemmas.Bool.Decides.{Decides-eqb}
-use Rattle.std.proofs.lemmas.Option.{same_Some, slice_get_within}
-use Rattle.mine_model.proofs.ListLemmas.{Contains-none}
+use Rattle.std.proofs.lemmas.Option.{same_Some}
 use Rattle.state_bits.specs.Members.{Has}
 use Rattle.mine_model.specs.declared.item.Item.{Item}
 use Rattle.mine_model.specs.Ranks.{Ranking}
@@ -14,12 +13,10 @@ use Rattle.sequence_grids.specs.Grids.{HoldsNeeded, Completes, Reads, WritesRank
 use Rattle.sequence_grids.specs.Kinds.{IsNeededRank}
 use Rattle.sequence_grids.specs.Successors.{LeadsFrom}
 use Rattle.snapshot_project.specs.declared.snapshot.Snapshot.{Snapshot}
-use Rattle.snapshot_project.specs.declared.hit.Hit.{Hit}
 use Rattle.snapshot_project.specs.Snapshots.{HasSnapshot, WritesOn}
 use Rattle.snapshot_project.specs.Live.{IsLive, WritesNext}
 use Rattle.snapshot_project.specs.Aims.{sees, goes}
-use Rattle.snapshot_project.specs.Walks.{AreGroupOf, StandsIn, IsUseful, Arrives}
-use Rattle.snapshot_project.specs.Hits.{WritesFrom, IsHitOf, HasHitAt, AreHitsBefore, AreHits}
+use Rattle.snapshot_project.specs.Walks.{AreGroupOf, StandsIn, IsUseful, Arrives, WritesFrom}
 use Rattle.snapshot_project.proofs.NeedLemmas.{completes-behind, completes-with}
 use Rattle.snapshot_project.proofs.LiveLemmas.{live-first, live-next, live-snapshot}
 use Rattle.snapshot_project.proofs.OpenLemmas.{open-goes, open-before, open-writes}
@@ -211,54 +208,3 @@ module _ (problem : Problem) (whole : IsWhole problem) (bound : Bound) (items pr
         → (rank state : ℕ) → WritesNext problem bound items prefix rank position state → ⊥
     writes-none position none rank state (t, from, here, alive, leads, writes, completes) =
         none from (live-useful position from alive (open-writes problem whole bound items prefix rank position from state t here leads writes completes))
-
-  -- ---- what was found
-
-  module _ (seen : Bool) where
-    pub hits-none : AreHitsBefore problem bound items prefix seen 0 []
-    hits-none = record {
-      right = λ hit held. absurd (Contains-none hit held);
-      all = λ rank at state less writes. absurd (omega arith);
-    }
-
-    module _ (end : ℕ) (hits : List Hit) (are : AreHitsBefore problem bound items prefix seen end hits) where
-      -- over places where nothing is written
-      pub hits-pass : (later : ℕ) → end ≤ later → ((at rank state : ℕ) → end ≤ at → at < later → WritesNext problem bound items prefix rank at state → ⊥)
-          → AreHitsBefore problem bound items prefix seen later hits
-      hits-pass later forward none = record {
-        right = λ hit held. let (at, less, is) = are.right hit held in (at, omega arith, is);
-        all = λ rank at state less writes. elim (cases_lt at end) [
-          | inl early ↦ are.all rank at state early writes
-          | inr late ↦ absurd (none at rank state late less writes)
-        ];
-      }
-
-      -- over one place more
-      pub hits-more : (t : Item) (live : ℕ) (after : List Hit)
-          → ((rank state : ℕ) → WritesNext problem bound items prefix rank end state ↔ WritesFrom problem bound live t (drop (end + 1) items) seen rank state)
-          → ((hit : Hit) → Contains after hit ↔ (Contains hits hit ⊎ IsHitOf problem bound live t (drop (end + 1) items) seen (end + 1) hit))
-          → ((rank state : ℕ) → WritesFrom problem bound live t (drop (end + 1) items) seen rank state → HasHitAt after rank (end + 1) state)
-          → AreHitsBefore problem bound items prefix seen (end + 1) after
-      hits-more t live after written exact every = record {
-        right = λ hit held. elim ((exact hit).0 held) [
-          | inl early ↦ let (at, less, is) = are.right hit early in (at, omega arith, is)
-          | inr (is, writes, marks) ↦ (end, omega arith, (is, (written hit.rank hit.state).1 writes, marks))
-        ];
-        all = λ rank at state less writes. elim (cases_lt at end) [
-          | inl early ↦ let (hit, held, rank_is, position_is, state_is) = are.all rank at state early writes in (hit, (exact hit).1 (inl held), rank_is, position_is, state_is)
-          | inr late ↦
-              let same : at ≡ end = omega arith in
-              subst (λ (k : ℕ). HasHitAt after rank (k + 1) state) (sym same)
-              (every rank state ((written rank state).0 (subst (λ (k : ℕ). WritesNext problem bound items prefix rank k state) same writes)))
-        ];
-      }
-
-      -- behind the last place
-      pub hits-all : length items ≤ end → AreHits problem bound items prefix seen hits
-      hits-all whole_length = record {
-        right = λ hit held.
-            let (at, less, (is, writes, marks)) = are.right hit held in
-            let (t, from, here, alive, leads, written, completes) = writes in
-            (at, slice_get_within items at t here, (is, writes, marks));
-        all = λ rank at state less writes. are.all rank at state (omega arith) writes;
-      }

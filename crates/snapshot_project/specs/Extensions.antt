@@ -1,5 +1,5 @@
 -- What may follow a prefix in the sequences of a part.
-use Rattle.std.specs.Prelude.{◌≡◌, ℕ, ◌≤◌, ◌<◌, false, List, [], ◌∷◌, ◌++◌, map, AllPairs, Contains}
+use Rattle.std.specs.Prelude.{◌≡◌, ℕ, ◌≤◌, ◌<◌, List, [], ◌∷◌, ◌++◌, map, AllPairs, Contains}
 use Rattle.mine_model.specs.declared.item.Item.{Item}
 use Rattle.mine_model.specs.Numbered.{tree_of}
 use Rattle.mine_model.specs.Database.{sequence_at}
@@ -8,7 +8,7 @@ use Rattle.mine_model.specs.Support.{Sequence, Counts}
 use Rattle.mine_model.specs.Growth.{WeighAtLeast, HasPatternBehind}
 use Rattle.mine_model.specs.Ranks.{AreRanked}
 use Rattle.mine_model.specs.Pivots.{IsWithin}
-use Rattle.mining_job.specs.Problems.{data_of, items_of}
+use Rattle.mining_job.specs.Problems.{data_of}
 use Rattle.sequence_grids.specs.Grids.{GridList}
 use Rattle.snapshot_project.specs.declared.next_rank.NextRank.{NextRank}
 
@@ -38,24 +38,12 @@ CanFollow part ranks rank weight = Counts (GrowsBehind part (ranks ++ rank ∷ [
 abbrev pub IsSupportOf : GridList → List ℕ → ℕ → Type 0
 IsSupportOf part ranks support = Counts (GeneratesWithin part ranks) (sequences_of part) support
 
--- no sequence of the part has a pattern within its bound that begins with the prefix and is longer
-abbrev pub NothingFollows : GridList → List ℕ → Type 0
-NothingFollows part ranks =
-    (i rank : ℕ) → Contains part.sequences i
-    → GrowsBehind part (ranks ++ rank ∷ []) (items_of part.problem i) → ⊥
-
--- the rank comes with the support of the prefix with it, and where it does not go on nothing follows that
-abbrev pub IsTold : GridList → List ℕ → NextRank → Type 0
-IsTold part ranks next =
-    IsSupportOf part (ranks ++ next.rank ∷ []) next.support
-    × (next.goes_on ≡ false → NothingFollows part (ranks ++ next.rank ∷ []))
-
 -- exactly the ranks that can follow the prefix in sequences that weigh at least so much, rising, each with
--- the weight of these sequences, the support of the prefix with the rank, and where nothing follows that
+-- the weight of these sequences, and the support of the prefix with the rank
 pub record AreNextRanks (part : GridList) (ranks : List ℕ) (least : ℕ) (found : List NextRank) : Type 0 where
   pub rising : AllPairs (λ low high. low.rank < high.rank) found
   pub right : (next : NextRank) → Contains found next
       → (least ≤ next.weight) × CanFollow part ranks next.rank next.weight
-      × IsTold part ranks next
+      × IsSupportOf part (ranks ++ next.rank ∷ []) next.support
   pub all : (rank : ℕ) → WeighAtLeast (GrowsBehind part (ranks ++ rank ∷ [])) (sequences_of part) least
       → (next : NextRank) × Contains found next × (next.rank ≡ rank)

@@ -3,13 +3,13 @@ pub mod Runs
 pub mod Aims
 pub mod Snapshots
 pub mod Extensions
+pub mod Stands
 -- what the proofs keep
 pub mod Live
-pub mod Parts
-pub mod Hits
-pub mod Spans
-pub mod Joins
 pub mod Walks
-pub mod Groups
-pub mod Sums
-pub mod Files
+pub mod Grouped
+pub mod Terrains
+pub mod Rooms
+pub mod Ahead
+pub mod Founds
+pub mod Longer

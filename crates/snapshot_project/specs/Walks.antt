@@ -1,15 +1,14 @@
 -- The way of a prefix through one sequence.
-use Rattle.std.specs.Prelude.{◌≡◌, ℕ, zero, suc, ◌+◌, ◌≤◌, ◌<◌, Bool, ◌⊎◌, ◌↔◌, IsTrue, Some, List, [], drop, slice_get, AllPairs, Contains}
-use Rattle.state_bits.specs.Members.{Has}
+use Rattle.std.specs.Prelude.{◌≡◌, ℕ, zero, suc, ◌+◌, ◌≤◌, Bool, ◌⊎◌, ◌↔◌, IsTrue, Some, List, [], drop, slice_get, AllPairs, Contains}
 use Rattle.mine_model.specs.declared.item.Item.{Item}
 use Rattle.fst_compile.specs.Transducer.{Leads}
 use Rattle.mining_job.specs.declared.bound.Bound.{Bound}
 use Rattle.mining_job.specs.Problems.{Problem}
-use Rattle.sequence_grids.specs.Grids.{HoldsNeeded, Completes, Reads}
+use Rattle.sequence_grids.specs.Grids.{HoldsNeeded, Completes, Reads, WritesRank}
+use Rattle.sequence_grids.specs.Successors.{LeadsFrom}
 use Rattle.snapshot_project.specs.declared.snapshot.Snapshot.{Snapshot}
-use Rattle.snapshot_project.specs.declared.hit.Hit.{Hit}
 use Rattle.snapshot_project.specs.Snapshots.{HasSnapshot, WritesOn}
-use Rattle.snapshot_project.specs.Hits.{AreHitsBefore}
+use Rattle.snapshot_project.specs.Aims.{sees}
 
 -- one of the snapshots stands at the position, in the state
 abbrev pub StandsIn : List Snapshot → ℕ → ℕ → Type 0
@@ -29,13 +28,6 @@ pub record AreGroupOf (problem : Problem) (bound : Bound) (items prefix : List I
   pub all : (position state : ℕ) → HasSnapshot problem bound items prefix position state
       → WritesOn problem bound prefix (drop position items) state → StandsIn group position state
 
--- the position is the next one that matters
-pub record IsNextAt (group : List Snapshot) (taken position end live at : ℕ) : Type 0 where
-  pub within : at < end
-  pub stays : (live ≡ 0) ⊎ (at ≡ position)
-  pub jumps : live ≡ 0 → (snapshot : Snapshot) × (slice_get group taken ≡ Some snapshot)
-      × (snapshot.position ≡ at)
-
 -- An edge that writes nothing leads to the state at the position from one before it, where a snapshot stands
 -- or to which such an edge leads; and a path goes on as it has to.
 abbrev pub Arrives : Problem → Bound → List Item → List Snapshot → Bool → ℕ → ℕ → Type 0
@@ -54,13 +46,8 @@ IsUseful problem bound items group goes position state =
     (Arrives problem bound items group goes position state ⊎ StandsIn group position state)
     × Completes problem bound (drop position items) state goes
 
--- a prefix on its way: what stands before the position was found, and the snapshots before it were taken
-pub record IsOnWay (problem : Problem) (bound : Bound) (items prefix : List Item) (seen goes : Bool)
-    (group : List Snapshot)
-    (taken position live : ℕ) (hits : List Hit) : Type 0 where
-  pub arrived : (state : ℕ) → Has live state ↔ Arrives problem bound items group goes position state
-  pub before : (k : ℕ) (snapshot : Snapshot) → k < taken → slice_get group k ≡ Some snapshot
-      → snapshot.position < position
-  pub behind : (k : ℕ) (snapshot : Snapshot) → taken ≤ k → slice_get group k ≡ Some snapshot
-      → position ≤ snapshot.position
-  pub found : AreHitsBefore problem bound items prefix seen position hits
+-- an edge from a live state writes the rank at t, and a path completes over the rest
+abbrev pub WritesFrom : Problem → Bound → ℕ → Item → List Item → Bool → ℕ → ℕ → Type 0
+WritesFrom problem bound live t rest seen rank state =
+    LeadsFrom problem.machine live state × WritesRank problem bound t state rank
+    × Completes problem bound rest state (sees seen bound.need rank)

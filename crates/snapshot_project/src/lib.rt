@@ -2,28 +2,19 @@
 //! follow.
 #![tactic(auto)]
 
-mod advancing;
-mod aim;
-mod counting;
-mod extending;
-mod filing;
-mod grouping;
-mod hit;
-mod joining;
+mod beginning;
+mod growing;
 mod laws;
 mod next_rank;
 mod part;
 mod room;
 mod snapshot;
 mod snapshots;
-mod span;
-mod starting;
-mod stepping;
 mod supporting;
-mod walking;
+mod terrain;
 
-pub use advancing::{advance, advance_all};
-pub use extending::next_ranks;
+pub use beginning::begin;
+pub use growing::{Grown, grow};
 pub use laws::{
     open_snapshots_are_where_longer_patterns_begin, snapshots_that_lack_nothing_are_open,
 };
@@ -32,5 +23,4 @@ pub use part::Part;
 pub use room::Room;
 pub use snapshot::Snapshot;
 pub use snapshots::Snapshots;
-pub use starting::start;
 pub use supporting::support;

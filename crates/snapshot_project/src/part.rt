@@ -1,26 +1,46 @@
-ghost use Rattle.std.specs.Prelude.{◌≡◌, ◌+◌, ◌≤◌, ◌<◌, length, slice_index, AllPairs, IfOk, IfSome};
-ghost use Rattle.std.specs.List.{AllByRecursion};
-ghost use Rattle.mine_model.specs.Limits.{most_length, most_sequences, most_weight};
-ghost use Rattle.mine_model.specs.Database.{sequence_at};
-ghost use Rattle.sequence_grids.specs.Grids.{items_at};
-ghost use Rattle.sequence_grids.specs.Successors.{AreSuccessorsOf};
-ghost use Rattle.snapshot_project.specs.Snapshots.{IsPart, bound_of};
+ghost use Rattle.std.specs.Prelude.{◌≡◌, IfOk};
+ghost use Rattle.snapshot_project.specs.Snapshots.{bound_of};
+ghost use Rattle.snapshot_project.specs.Terrains.{IsKept};
 
+use super::terrain::AnyTerrain;
 use mine_model::NoMemory;
 use mining_job::{Bound, Job};
-use sequence_grids::{Grids, Successors, successors_of};
 use std::alloc::Global;
 use std::marker::Model;
+use std::sync::Arc;
 
-/// Sequences of a job under one bound, with their grids.
+/// What a part is made of.
+pub(crate) struct Ground<'a> {
+    pub(crate) job: &'a Job,
+    pub(crate) bound: Bound,
+    pub(crate) sequences: Vec<u32>,
+    pub(crate) terrain: AnyTerrain,
+    // What the sequence of each place weighs; none where each weighs 1.
+    pub(crate) weights: Vec<u32>,
+}
+
+// Written out, since the sets in the terrain have one of three widths.
+impl<'a> Drop for Ground<'a> {
+    fn drop(self) {
+        let Ground {
+            job: _,
+            bound: _,
+            sequences: _,
+            terrain: _,
+            weights: _,
+        } = self;
+    }
+}
+
+/// Sequences of a job under one bound, with what stands at their places: made once, and shared by all who
+/// walk over it.
+#[derive(Drop)]
 pub struct Part<'a> {
-    job: &'a Job,
-    bound: Bound,
-    grids: Grids<'a>,
-    successors: Successors,
+    pub(crate) ground: Arc<Ground<'a>>,
 }
 
 impl<'a> Model for Part<'a> {
+    ghost use Rattle.std.specs.Arc.{arc_value};
     ghost use Rattle.sequence_grids.specs.Grids.{GridList};
 
     ghost Value = { GridList };
@@ -30,71 +50,24 @@ impl<'a> Model for Part<'a> {
 
     ghost coded = { Prim.hlevel (codes, e.the_row.coded) };
 
-    ghost view = { λ p. p.grids };
+    ghost use Rattle.snapshot_project.specs.Terrains.{part_on, IsKept};
 
-    ghost use Rattle.snapshot_project.specs.Parts.{IsKept};
+    ghost view = { λ p. part_on (arc_value p.ground) };
 
-    ghost invariant = { λ p. IsKept p.job.now p.bound p.successors p.grids };
-}
-
-// Written out, since the sets in the grids have one of three widths.
-impl<'a> Drop for Part<'a> {
-    fn drop(self) {
-        let Part {
-            job: _,
-            bound: _,
-            grids: _,
-            successors: _,
-        } = self;
-    }
+    ghost invariant = { λ p. IsKept (part_on (arc_value p.ground)) (arc_value p.ground).terrain
+        (arc_value p.ground).weights.items };
 }
 
 impl<'a> Part<'a> {
-    /// The part of these sequences. With a pivot its patterns are those whose greatest rank it is.
-    pub fn new(
-        alloc: Global,
-        job: &'a Job,
-        pivot: Option<u32>,
-        sequences: &[u32],
-    ) -> Result<Part<'a>, NoMemory>
-        requires rising { AllPairs (λ low high. low < high) sequences.now }
-        requires within { AllByRecursion (λ i. i < length job.now.sequences) sequences.now }
-        requires least { IfSome pivot (λ rank. 1 ≤ rank) }
-        requires most { IfSome pivot (λ rank. rank ≤ length job.now.ranking.order) }
-        ensures { IfOk result (λ part. part ≡ record {
-          problem = job.now;
-          bound = bound_of (length job.now.ranking.order) pivot;
-          sequences = sequences.now;
-        }) }
+    ghost use Rattle.snapshot_project.specs.Snapshots.{IsPart};
+
+    /// The same part.
+    pub fn share(&self) -> Result<Part<'a>, NoMemory>
+        ensures { IfOk result (λ part. part ≡ self.now) }
     {
-        // The contract of `sequences` says that there are not too many.
-        let _sequences = job.db().sequences();
-        let bound = bound_by(job.ranks().count(), pivot);
         Ok(Part {
-            job,
-            bound,
-            grids: grids_of(alloc, job, bound, sequences)?,
-            successors: successors_of(alloc, job.fst())?,
+            ground: self.ground.clone()?,
         })
-    }
-
-    /// The grids of the sequences.
-    pub(crate) fn grids(&self) -> &Grids<'a>
-        ensures grids { result.now ≡ self.now }
-        ensures part { IsPart self.now }
-    {
-        let _bound = self.bound;
-        &self.grids
-    }
-
-    /// The numbers of the sequences.
-    pub(crate) fn sequences(&self) -> &[u32]
-        ensures numbers { result.now ≡ self.now.sequences }
-        ensures part { IsPart self.now }
-        ensures few { length self.now.sequences ≤ most_sequences }
-    {
-        let _bound = self.bound;
-        self.grids.sequences()
     }
 
     /// The rank that a pattern has to hold, where there is one.
@@ -102,53 +75,44 @@ impl<'a> Part<'a> {
         ensures need { result ≡ self.now.bound.need }
         ensures part { IsPart self.now }
     {
-        self.bound.need
-    }
-
-    /// The number of states.
-    pub(crate) fn states(&self) -> u32
-        ensures states { result ≡ length self.now.problem.machine.labels + 1 }
-        ensures few { result ≤ 1025 }
-    {
-        let _bound = self.bound;
-        self.job.fst().states()
-    }
-
-    /// The successors of each state.
-    pub(crate) fn successors(&self) -> &Successors
-        ensures { AreSuccessorsOf self.now.problem.machine result.now }
-    {
-        let _bound = self.bound;
-        &self.successors
-    }
-
-    /// How many items the sequence of a grid has.
-    pub(crate) fn length(&self, grid: u32) -> u32
-        requires { grid < length self.now.sequences }
-        ensures length { result ≡ length (items_at self.now grid) }
-        ensures short { result ≤ most_length }
-        ensures states { length self.now.problem.machine.labels ≤ 1024 }
-        ensures part { IsPart self.now }
-    {
-        let _states = self.job.fst().states();
-        let number = self.grids.sequences()[grid as usize];
-        self.job.db().sequence(number).len() as u32
-    }
-
-    /// The weight of the sequence of a grid.
-    pub(crate) fn weight(&self, grid: u32) -> u64
-        requires { grid < length self.now.sequences }
-        ensures weight { result
-            ≡ (sequence_at self.now.problem.sequences (slice_index self.now.sequences grid)).weight }
-        ensures most { result ≤ most_weight }
-    {
-        let number = self.grids.sequences()[grid as usize];
-        self.job.db().weight(number)
+        self.ground.bound.need
     }
 }
 
+// The part that is made of these.
+pub(crate) fn part_of<'a>(
+    alloc: Global,
+    job: &'a Job,
+    bound: Bound,
+    sequences: Vec<u32>,
+    terrain: AnyTerrain,
+    weights: Vec<u32>,
+) -> Result<Part<'a>, NoMemory>
+    requires kept { IsKept (record {
+      problem = job.now;
+      bound = bound;
+      sequences = sequences.items;
+    }) terrain weights.items }
+    ensures { IfOk result (λ part. part ≡ record {
+      problem = job.now;
+      bound = bound;
+      sequences = sequences.items;
+    }) }
+{
+    let made = Ground {
+        job,
+        bound,
+        sequences,
+        terrain,
+        weights,
+    };
+    Ok(Part {
+        ground: Arc::new(alloc, made)?,
+    })
+}
+
 // The bound of a part: with a pivot, the ranks up to the pivot's, which is needed.
-fn bound_by(ranks: u32, pivot: Option<u32>) -> Bound
+pub(crate) fn bound_by(ranks: u32, pivot: Option<u32>) -> Bound
     ensures { result ≡ bound_of ranks pivot }
 {
     match pivot {
@@ -161,22 +125,4 @@ fn bound_by(ranks: u32, pivot: Option<u32>) -> Bound
             need: None,
         },
     }
-}
-
-// The grids of these sequences.
-fn grids_of<'a>(
-    alloc: Global,
-    job: &'a Job,
-    bound: Bound,
-    sequences: &[u32],
-) -> Result<Grids<'a>, NoMemory>
-    requires { AllByRecursion (λ i. i < length job.now.sequences) sequences.now }
-    ensures { IfOk result (λ grids. grids
-        ≡ record { problem = job.now; bound = bound; sequences = sequences.now }) }
-{
-    let mut grids = Grids::new(alloc, job, bound)?;
-    for number in sequences {
-        grids.push(*number)?;
-    }
-    Ok(grids)
 }

@@ -1,58 +1,95 @@
-ghost use Rattle.std.specs.Prelude.{◌≡◌, [], ◌∷◌, ◌++◌, IfOk, OnOk};
+ghost use Rattle.std.specs.Prelude.{◌≡◌, ◌≤◌, None, Some, IfSome, IfNone, length, map, slice_range};
+ghost use Rattle.std.specs.Arc.{arc_value};
+ghost use Rattle.snapshot_project.specs.Ahead.{next_of};
 
-use super::snapshot::Snapshot;
-use mine_model::NoMemory;
-use std::alloc::Global;
+use level_ahead::NextOf;
+use place_walk::Stand;
 use std::marker::Model;
+use std::sync::Arc;
 
-/// Snapshots of one prefix in a part, sequence by sequence, all from which more can be written; whether it
-/// holds what is needed; and what it weighs by itself.
-#[derive(Debug, Drop)]
+/// What is kept of a prefix in a part: whether it holds what is needed, what it weighs by itself, and where
+/// its paths stand from which more can be written; or, in place of these, what follows it. The stands of the
+/// kids of one node are one list, of which each has its own piece.
+#[derive(Drop)]
 pub struct Snapshots {
     seen: bool,
     support: u64,
-    snapshots: Vec<Snapshot>,
+    run: Arc<Vec<Stand>>,
+    first: usize,
+    last: usize,
+    // The ranks that follow, where these are known.
+    next: Option<Vec<NextOf>>,
 }
 
 impl Model for Snapshots {
-    ghost use Rattle.snapshot_project.specs.Snapshots.{SnapshotList};
+    ghost use Rattle.std.specs.Prelude.{◌≤◌, length, map, slice_range};
+    ghost use Rattle.std.specs.Arc.{arc_value};
+    ghost use Rattle.std.specs.Option.{option_map};
+    ghost use Rattle.snapshot_project.specs.Stands.{StandList};
+    ghost use Rattle.snapshot_project.specs.Ahead.{next_of};
 
-    ghost Value = { SnapshotList };
+    ghost Value = { StandList };
 
-    ghost view = { λ s. record { seen = s.seen; support = s.support; snapshots = s.snapshots.items } };
+    ghost view = { λ s. record {
+      seen = s.seen;
+      support = s.support;
+      stands = slice_range (arc_value s.run).items s.first s.last;
+      next = option_map (λ next. map next_of next.items) s.next;
+    } };
+
+    ghost invariant = { λ s. (s.first ≤ s.last) × (s.last ≤ length (arc_value s.run).items) };
 }
 
 impl Snapshots {
-    /// No snapshots yet, with room for so many.
+    /// The stands from one place of the run to before the other.
     pub(crate) fn new(
-        alloc: Global,
         seen: bool,
         support: u64,
-        room: usize,
-    ) -> Result<Snapshots, NoMemory>
-        ensures { IfOk result (λ list. list ≡ record { seen = seen; support = support; snapshots = [] }) }
+        run: Arc<Vec<Stand>>,
+        first: usize,
+        last: usize,
+    ) -> Snapshots
+        requires ordered { first ≤ last }
+        requires within { last ≤ length (arc_value run).items }
+        ensures { result ≡ record {
+          seen = seen;
+          support = support;
+          stands = slice_range (arc_value run).items first last;
+          next = None;
+        } }
     {
-        Ok(Snapshots {
+        Snapshots {
             seen,
             support,
-            snapshots: Vec::with_capacity(alloc, room)?,
-        })
+            run,
+            first,
+            last,
+            next: None,
+        }
     }
 
-    /// Appends a snapshot.
-    pub(crate) fn push(&mut self, snapshot: Snapshot) -> Result<(), NoMemory>
-        ensures { OnOk result (self.new
-            ≡ record self.old { snapshots = self.old.snapshots ++ snapshot ∷ [] }) }
+    /// What follows, and no stands.
+    pub(crate) fn told(
+        seen: bool,
+        support: u64,
+        run: Arc<Vec<Stand>>,
+        next: Vec<NextOf>,
+    ) -> Snapshots
+        ensures { result ≡ record {
+          seen = seen;
+          support = support;
+          stands = slice_range (arc_value run).items 0 0;
+          next = Some (map next_of next.items);
+        } }
     {
-        self.snapshots.push(snapshot)?;
-        Ok(())
-    }
-
-    /// Sets what the prefix weighs by itself.
-    pub(crate) fn set_support(&mut self, support: u64)
-        ensures { self.new ≡ record self.old { support = support } }
-    {
-        self.support = support;
+        Snapshots {
+            seen,
+            support,
+            run,
+            first: 0,
+            last: 0,
+            next: Some(next),
+        }
     }
 
     /// What the prefix weighs by itself.
@@ -69,10 +106,21 @@ impl Snapshots {
         self.seen
     }
 
-    /// The snapshots.
-    pub(crate) fn as_slice(&self) -> &[Snapshot]
-        ensures { result.now ≡ self.now.snapshots }
+    /// The stands.
+    pub(crate) fn stands(&self) -> &[Stand]
+        ensures { result.now ≡ self.now.stands }
     {
-        self.snapshots.as_slice()
+        &self.run[self.first..self.last]
+    }
+
+    /// What follows the prefix, where it is known.
+    pub(crate) fn next(&self) -> Option<&[NextOf]>
+        ensures some { IfSome result (λ next. self.now.next ≡ Some (map next_of next.now)) }
+        ensures none { IfNone result (self.now.next ≡ None) }
+    {
+        match &self.next {
+            Some(next) => Some(next.as_slice()),
+            None => None,
+        }
     }
 }

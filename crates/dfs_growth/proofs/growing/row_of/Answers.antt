@@ -13,7 +13,7 @@ returns-then-support c =
     let is = c.requires.projection in
     let few : c.support-support.result < job.threshold = omega (arith, c.if-support.true, c.support.ensures.threshold) in
     row-few job prefix.pivot c.args.part.now (part-at job label c.args.part.now c.args.snapshots.now is) prefix.ranks c.support-support.result
-    (c.support-support.ensures prefix.ranks is.snapshots) few
+    (c.support-support.ensures prefix.problem.threshold prefix.ranks is.projected) few
 
 pub pattern_of-requires : goal.pattern_of-requires
 pattern_of-requires c =
@@ -30,4 +30,4 @@ returns c =
     let listed = rw c.ranks.ensures.ranking at c.in_ok-pattern.ensures in
     let ranked : AreRanked job.ranking.order c.in_ok-pattern.pattern prefix.ranks = subst (AreRanked job.ranking.order c.in_ok-pattern.pattern) (ranks-at job label c.requires.some) listed in
     row-enough job prefix.pivot c.args.part.now (part-at job label c.args.part.now c.args.snapshots.now is) c.support.ensures.whole.least prefix.ranks c.in_ok-pattern.pattern c.support-support.result
-    ranked (c.support-support.ensures prefix.ranks is.snapshots) enough
+    ranked (c.support-support.ensures prefix.problem.threshold prefix.ranks is.projected) enough

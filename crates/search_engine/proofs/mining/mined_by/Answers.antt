@@ -9,12 +9,15 @@ use Rattle.mining_job.specs.Problems.{Problem, data_of}
 use Rattle.dfs_growth.specs.Nodes.{label_at}
 use Rattle.result_board.specs.Board.{labels_of}
 use Rattle.search_engine.specs.Searches.{tree_of}
-use Rattle.search_engine.proofs.CrossingLemmas.{node-send}
+use Rattle.search_engine.proofs.CrossingLemmas.{node-send, room-send}
 use Rattle.search_engine.proofs.SearchLemmas.{walks-rows, walks-tree}
 use Rattle.search_engine.proofs.mining.mined_by.Goals as goal
 
 pub posted-requires-send-T : goal.posted-requires-send-T
 posted-requires-send-T g c κs within = search (sendable, node-send) depth 10
+
+pub posted-requires-send-S-Room : goal.posted-requires-send-S-Room
+posted-requires-send-S-Room g c κs within = search (sendable, room-send) depth 10
 
 pub posted-requires-clause-rows : goal.posted-requires-clause-rows
 posted-requires-clause-rows g c κs within = walks-rows c.args.job.now c.support-support.ensures.whole c.args.search.now c.requires.problem

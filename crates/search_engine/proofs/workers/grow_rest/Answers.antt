@@ -1,4 +1,4 @@
-use Rattle.std.proofs.Common.{◌≡◌, List, [], ◌∷◌, ◌++◌, map, Some, append_assoc, ap, subst, ◌∙◌}
+use Rattle.std.proofs.Common.{◌≡◌, [], ◌∷◌, ◌++◌, map, Some, append_assoc, ap, subst, ◌∙◌}
 use Rattle.std.proofs.lemmas.List.Elements.{All-append, All-pop}
 use Rattle.search_engine.specs.Shifts.{PostedFrom}
 use Rattle.search_engine.proofs.BalanceLemmas.{rest-step}

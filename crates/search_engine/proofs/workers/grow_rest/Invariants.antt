@@ -1,4 +1,4 @@
-use Rattle.std.proofs.Common.{◌≡◌, ℕ, List, [], ◌++◌, map}
+use Rattle.std.proofs.Common.{◌≡◌, ℕ, List, ◌++◌, map}
 use Rattle.turn_lock.specs.Passes.{IsPassOf, number, made}
 use Rattle.search_engine.specs.Seats.{AreTasksOf}
 use Rattle.search_engine.specs.Shifts.{PostedFrom}

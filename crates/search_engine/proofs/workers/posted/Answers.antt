@@ -1,4 +1,4 @@
-use Rattle.std.proofs.Common.{◌≡◌, ◌≤◌, [], ◌∷◌, ◌++◌, List, length, map, subst, sym, ap, ◌∙◌, All, sum_by, arith}
+use Rattle.std.proofs.Common.{◌≡◌, ◌≤◌, [], ◌∷◌, ◌++◌, List, length, map, subst, ap, ◌∙◌, sum_by, arith}
 use Rattle.std.proofs.lemmas.List.Elements.{All-append}
 use Rattle.turn_lock.specs.Passes.{made}
 use Rattle.result_board.specs.Board.{labels_of}

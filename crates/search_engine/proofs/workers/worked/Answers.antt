@@ -1,7 +1,5 @@
-use Rattle.std.proofs.Common.{◌≡◌, ◌≤◌, ◌∷◌, List, length, subst, sym, All, arith}
-use Rattle.std.specs.List.{remove}
-use Rattle.search_engine.specs.declared.hand.Hand.{Hand}
-use Rattle.search_engine.specs.Hands.{IsMannedHand, AreTried}
+use Rattle.std.proofs.Common.{◌≤◌, ◌∷◌, length, subst, arith}
+use Rattle.search_engine.specs.Hands.{AreTried}
 use Rattle.search_engine.proofs.RunLemmas.{given-manned, first-manned, runs-made}
 use Rattle.search_engine.proofs.workers.worked.Goals as goal
 

@@ -1,8 +1,0 @@
-use Rattle.std.proofs.Common.{◌≡◌, map, take}
-use Rattle.std.specs.Arc.{arc_value}
-use Rattle.place_snapshots.specs.Longer.{kept_of}
-use Rattle.place_snapshots.proofs.growing.longer.Given as goal
-
--- the prefixes so far are kept
-abbrev pub invariant-loop-next : goal.invariant-loop-next
-invariant-loop-next l = l.longer.items ≡ map (kept_of l.aim (arc_value l.shared).items) (take l.next-index l.found)
