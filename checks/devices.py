@@ -109,7 +109,8 @@ EXPRESSION = ".*(A)[(.^)|.]*(b).*"
 ANSWER = b"3\ta1 b\n2\ta1 A b\n2\ta1 a1 b\n"
 WORKS = {"count": b"desq: nodes 0 parts 0 candidates 13\n",
          "dfs": b"desq: nodes 7 parts 1 candidates 0\n",
-         "pivot": b"desq: nodes 7 parts 1 candidates 0\n"}
+         "pivot": b"desq: nodes 7 parts 1 candidates 0\n",
+         "cand": b"desq: nodes 0 parts 2 candidates 0\n"}
 DONE = (0, ANSWER, b"")
 FILES = ("hierarchy", "sequences")
 READ_FAULT = {file: (5, b"", f"desq: {file}: read fault\n".encode()) for file in FILES}

@@ -8,7 +8,7 @@ sys.dont_write_bytecode = True
 from rows import Rows, run, write
 
 USAGE = b"desq: usage: desq --support N [options] EXPR [FILE]\n"
-ENGINES = ("count", "dfs", "pivot")
+ENGINES = ("count", "dfs", "pivot", "cand")
 
 
 def above(links, item):
@@ -84,7 +84,7 @@ for number in range(120):
     most = rng.randint(least, 4)
     wanted = answer(links, sequences, support, gap, least, most, generalize)
     patterns += wanted.count(b"\n")
-    words = ["--support", str(support), "--hierarchy", hierarchy, "--weighted", "--engine", ENGINES[number % 3]]
+    words = ["--support", str(support), "--hierarchy", hierarchy, "--weighted", "--engine", ENGINES[number % len(ENGINES)]]
     rows.ends(f"small sequences {number}, with a gap of {gap} and lengths of {least} to {most}",
               run(*words, "--max-gap", str(gap), "--min-length", str(least), "--max-length", str(most),
                   *["--generalize"] * generalize, lines), (0, wanted, b""))

@@ -91,6 +91,9 @@ for search, by in (*searches((*ENGINES, *simulated)), ([], "by no engine that is
 rows.hold("a hundred thousand sequences have patterns", b" patterns 0 " not in many[1])
 rows.ends("the work of counting", run("--support", "7", "--generated", "7", ".*(top^=).*", "--engine", "count", "--stats"),
           (0, b"generated 7 patterns 1 support 7 longest 1\n", b"desq: nodes 0 parts 0 candidates 7\n"))
+rows.ends("the work of counting sets",
+          run("--support", "7", "--generated", "7", ".*(top^=).*", "--engine", "cand", "--stats"),
+          (0, b"generated 7 patterns 1 support 7 longest 1\n", b"desq: nodes 0 parts 1 candidates 0\n"))
 rows.ends("the work of a search", run("--support", "7", "--generated", "7", ".*(top^=).*", "--stats"),
           (0, b"generated 7 patterns 1 support 7 longest 1\n", b"desq: nodes 2 parts 1 candidates 0\n"))
 
@@ -115,7 +118,7 @@ for words in ("--generated 0 (.)", "--generated 1000001 (.)", "--generated -1 (.
               f"--generated 3 (.) {lines}", f"--generated 3 --hierarchy {lines} (.)", "--generated 3 --weighted (.)",
               "--generated 3 --max-gap 1 (.)", "--generated 3 --max-gap 1", "--generated 3 --min-length 1 (.)",
               "--generated 3 --max-length 5 (.)", "--generated 3 --generalize (.)",
-              "--generated 3 --engine count --simulate 7 (.)"):
+              "--generated 3 --engine count --simulate 7 (.)", "--generated 3 --engine cand --simulate 7 (.)"):
     rows.ends(f"no command: {words}", run("--support", "1", *words.split()), (2, b"", USAGE))
 rows.ends("zeros in front of a number", run("--support", "007", "--generated", "0007", ".*(top^=).*"),
           (0, b"generated 7 patterns 1 support 7 longest 1\n", b""))

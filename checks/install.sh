@@ -199,7 +199,7 @@ runs() {
     inside "${@:4}" > "$WORK/out" 2> "$WORK/err" < "$root/lines" || status=$?
     [ $status = "$1" ] && diff "$WORK/want_out" "$WORK/out" && diff "$WORK/want_err" "$WORK/err"
 }
-for engine in dfs pivot count; do
+for engine in dfs pivot count cand; do
     hold "in an empty root, by $engine" runs 0 '2\ta b\n' '' --support 2 --engine $engine --workers 8 \
         '.*(a)(b).*' lines
 done

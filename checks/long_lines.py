@@ -45,5 +45,5 @@ for search, by in searches((*MODES[1:], "dfs --simulate 0", "pivot --simulate 0"
               run(*words, ".*(a).*", longest), (0, b"1\ta\n", b""))
     rows.ends(f"a chain of 65,536 prefixes, within 4 GB, {by}", run_within(*words, "(a)*", longest), once(65_535))
     rows.ends(f"places that many silent paths reach, {by}", run(*words, "--stats", "[.*]{8}(a)", behind),
-              (0, b"1\ta\n", b"desq: nodes 2 parts 1 candidates 0\n"))
+              (0, b"1\ta\n", b"desq: nodes %d parts 1 candidates 0\n" % (0 if search[1] == "cand" else 2)))
 rows.finish()

@@ -173,8 +173,9 @@ def check_uses():
             hold(f"{name} by an equals sign", runs([*words[:at], "=".join(given), *words[at + 2:]])[0], 0)
         hold(f"{name} at the end", runs([*words[:at], *words[at + len(given):], *given])[0], 0)
     hold("no support", runs(["(a).*", LINES])[0], 2)
-    hold("a seed with count",
-         runs(["--support", "1", "--engine", "count", "--simulate", "1", "(a)", LINES])[0], 2)
+    for engine in ("count", "cand"):
+        hold(f"a seed with {engine}",
+             runs(["--support", "1", "--engine", engine, "--simulate", "1", "(a)", LINES])[0], 2)
     hold("an expression behind dashes", runs(["--support", "1", "--", "-", LINES])[2],
          "desq: expression: column 1: unknown name\n")
     hold("standard input", runs(["--support", "2", ".*(a)(b).*", "-"], b"a b\na b\n")[:2], (0, b"2\ta b\n"))
@@ -247,7 +248,7 @@ def check_defaults():
     default = re.search(r'codes "engine"\) found\) \(codes "(\w+)"\)', WORDS).group(1)
     hold("the default engine", told("engine", "the default engine", r"default \.Cm (\w+)"), (default,))
     by = {engine: runs(["--support", "1", "--stats", *engine, ".*(.)(.).*", LINES])[2]
-          for engine in [(), ("--engine", "dfs"), ("--engine", "pivot"), ("--engine", "count")]}
+          for engine in [(), ("--engine", "dfs"), ("--engine", "pivot"), ("--engine", "count"), ("--engine", "cand")]}
     hold("the engine of a run that names none", [e for e in by if e and by[e] == by[()]],
          [("--engine", default)])
     least = told("min-length", "the default of the least length", r"default (\d+)")

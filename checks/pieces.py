@@ -91,6 +91,19 @@ accepts("empty lines behind all others", whole + "\n" * LEAST_BYTES, wanted)
 accepts("one line of two million blanks", " " * 2_000_000 + "\n" + whole, wanted)
 accepts("weights", "\n".join(heavy) + "\n", answer(heavy, True), "--weighted")
 
+# Names that the hierarchy has are known before the first piece, and the others are new in some of them.
+for name, first, step in (("each second name", 0, 2), ("all names of one form", 0, 1), ("one name alone", 976, 1)):
+    kinds = write("kinds", "".join(f"w{number} kind\n" for number in range(first, 977, step)))
+    held = {f"w{number}" for number in range(first, 977, step)}
+    general = sum(not held.isdisjoint(text.split(" ")) for text in lines)
+    accepts(f"the hierarchy has {name}", whole, wanted, "--hierarchy", kinds)
+    path = write("text", whole)
+    for workers in WORKERS:
+        status, out, told = run("--support", "3", "--workers", workers, "--hierarchy", kinds, ".*(.^).*", path)
+        rows.hold(f"the hierarchy has {name}, kinds, {workers} workers",
+                  (status, sorted(out.splitlines()), told) == (0, sorted([*wanted, f"{general}\tkind".encode()]), b""),
+                  f"status {status}, {len(out.splitlines())} rows, {told!r}")
+
 # Limits that only the pieces together meet.
 names = [f"n{number:x}" for number in range(MOST_NAMES + 1)]
 accepts("as many names as may be", "\n".join(names[:-1]) + "\n", [])

@@ -15,7 +15,7 @@ import time
 
 DESQ = os.environ["DESQ"]
 WORK = os.environ["WORK"]
-LINE = re.compile(rb"\rdesq: (\d+) (nodes grown|blocks counted)\x1b\[K")
+LINE = re.compile(rb"\rdesq: (\d+) (nodes grown|blocks counted|parts counted)\x1b\[K")
 
 held = rows = 0
 
@@ -78,7 +78,7 @@ def write_lines(count):
 
 
 def words_of(engine, path):
-    gaps = ".*(.)[.{0,2}(.)]{1,3}.*" if engine == "count" else ".*(.)[.{0,3}(.)]{1,4}.*"
+    gaps = ".*(.)[.{0,2}(.)]{1,3}.*" if engine in ("count", "cand") else ".*(.)[.{0,3}(.)]{1,4}.*"
     return ["--support", "12", "--workers", "2", "--engine", engine, gaps, path]
 
 
@@ -125,14 +125,16 @@ def check_engine(engine, what, least=0):
     hold(f"{engine} leaves the line of its work alone", screen(text) == [told.stderr.decode().strip(), ""],
          screen(text))
     if engine != "count":
-        nodes = int(told.stderr.split()[2])
-        hold(f"{engine} tells no more than there are", max(counts, default=0) <= nodes, (counts, nodes))
+        # A part of `cand` is worked once, and has a set of candidates or more.
+        most = int(told.stderr.split()[4 if engine == "cand" else 2])
+        hold(f"{engine} tells no more than there are", max(counts, default=0) <= most, (counts, most))
     return words, told
 
 
 def main():
     check_engine("count", "blocks counted")
     check_engine("pivot", "nodes grown")
+    check_engine("cand", "parts counted")
     # So long that on two processors, and on faster ones than now, it takes more than a second each time.
     words, told = check_engine("dfs", "nodes grown", least=3)
 

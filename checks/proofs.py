@@ -276,7 +276,7 @@ for question in (smalls[1], smalls[4]):
         work = run(*question.words, "--stats", "--engine", engine)[2]
         rows.hold(f"work is told: {question.name}, {engine}", work.startswith(b"desq: nodes "))
         proves(f"with the work of {engine}", question, question.proved("--stats", "--engine", engine), work)
-        for seed in ("0", "7", "18446744073709551615") if engine != "count" else ():
+        for seed in ("0", "7", "18446744073709551615") if engine in ("dfs", "pivot") else ():
             proves(f"by {engine} simulated with {seed}", question,
                    question.proved("--engine", engine, "--simulate", seed))
 
@@ -519,7 +519,8 @@ for words in ("--proof --check good", "--check good --proof", "--proof --proof",
               "--proof=1", "--proof=", "--check", "--prove", "--check good --none", "--check good --stats",
               "--check good --simulate 7", "--check good --engine pivot --simulate 7",
               "--check good --engine pivot --split 1/1", "--proof --engine pivot --split 1/1",
-              "--proof --engine count --simulate 7", "--check good --engine none", "--check good --workers 0",
+              "--proof --engine count --simulate 7", "--proof --engine cand --simulate 7",
+              "--check good --engine none", "--check good --workers 0",
               "--check good --workers 65", "--check good --support 2", "--proof --generalize",
               "--check good --min-length 1"):
     rows.ends(f"no command: {words}", run(*pairs.words, *words.split(), cwd=WORK), USAGE)

@@ -102,10 +102,11 @@ def stats(nodes, parts, candidates):
     return f"desq: nodes {nodes} parts {parts} candidates {candidates}\n".encode()
 
 
-def works(dfs, pivot, count):
-    """What is told of the work by each way to mine: the nodes and parts of the searches, and the candidates."""
+def works(dfs, pivot, count, sets):
+    """What is told of the work by each way to mine: the nodes and parts of the searches, the candidates, and the
+    sets of them."""
     searched = {"dfs": stats(*dfs, 0), "pivot": stats(*pivot, 0)}
-    return {"count": stats(0, 0, count), **searched,
+    return {"count": stats(0, 0, count), "cand": stats(0, sets, 0), **searched,
             **{f"{engine} --simulate 7": told for engine, told in searched.items()}}
 
 
@@ -119,7 +120,7 @@ def modes():
     One more is a line here. Runs that differ from others only before there are workers are not made with 64."""
     kinds, running = running_example()
     expression, answer = ".*(A)[(.^)|.]*(b).*", b"3\ta1 b\n2\ta1 A b\n2\ta1 a1 b\n"
-    of_all = works((7, 1), (7, 1), 13)
+    of_all = works((7, 1), (7, 1), 13, 2)
     yield ("a hierarchy", WORKERS, ["--stats", "--support", "2", "--hierarchy", kinds, expression, running], answer, of_all)
     yield ("a hierarchy, and no work is told", WORKERS[:2], ["--support", "2", "--hierarchy", kinds, expression, running],
            answer, {"dfs": b""})
@@ -127,31 +128,31 @@ def modes():
     yield ("weights", WORKERS, ["--stats", "--support", "4", "--hierarchy", kinds, "--weighted", expression, twice],
            b"6\ta1 b\n4\ta1 A b\n4\ta1 a1 b\n", {**of_all, "pivot --split 1/1": of_all["pivot"]})
     # Frequent are A and b, and each line has A, b and `A b`. The pivot A has the prefixes of no item and of
-    # A; b has those of no item, b, A and `A b`.
+    # A; b has those of no item, b, A and `A b`. Both lines have the same candidates.
     near = write("near", "a1 b\na2 b\n")
     yield ("a gap", WORKERS[:2], ["--stats", "--support", "2", "--hierarchy", kinds, "--max-gap", "0", "--max-length", "2",
-                                  "--generalize", near], b"2\tA\n2\tA b\n2\tb\n", works((4, 1), (6, 2), 6))
+                                  "--generalize", near], b"2\tA\n2\tA b\n2\tb\n", works((4, 1), (6, 2), 6, 2))
     # Each made sequence has a word, and `top` stands above all words.
     yield ("made input", WORKERS, ["--stats", "--support", "7", "--generated", "7", ".*(top^=).*"],
-           b"generated 7 patterns 1 support 7 longest 1\n", works((2, 1), (2, 1), 7))
+           b"generated 7 patterns 1 support 7 longest 1\n", works((2, 1), (2, 1), 7, 1))
     # Files that are read by several calls, and so many sequences that several threads count frequencies, and
-    # each worker of `pivot` looks for pivots. All lines have a name of each kind.
+    # each worker of `pivot` and of `cand` looks for pivots. All lines have a name of each kind.
     above = write("above", "".join(f"n{number % 40} N\nm{number % 39} M\n" for number in range(500)))
     many = write("many", "".join(f"n{number % 40} m{number % 39}\n" for number in range(1_100)))
-    told = works((3, 1), (3, 1), 1_100)
-    for workers, by in ((WORKERS[:2], told), (WORKERS[2:], {"pivot": told["pivot"]})):
+    told = works((3, 1), (3, 1), 1_100, 1)
+    for workers, by in ((WORKERS[:2], told), (WORKERS[2:], {way: told[way] for way in ("pivot", "cand")})):
         yield ("files of many pieces", workers, ["--stats", "--support", "1100", "--hierarchy", above, "(N^)(M^)", many],
                b"1100\tN M\n", by)
     # A file that several workers read in pieces. With 64 of them a name that is looked up behind it is unknown:
     # so each piece is read, and no engine begins.
     yield ("a file that is read in pieces", WORKERS[:2], ["--stats", "--support", "66", "(a)(b)", pieced()], b"66\ta b\n",
-           works((3, 1), (3, 1), 66))
+           works((3, 1), (3, 1), 66, 1))
     # A root with 12 kids, each with a kid of its own, and a part for each name: while one worker finds no
     # memory, others hold nodes.
     pairs = write("pairs", "".join(f"x{number} y{number}\n" * 2 for number in range(12)))
     answer = "".join(f"2\tx{number}\n2\tx{number} y{number}\n" for number in sorted(map(str, range(12))))
     yield ("12 kids of one node", WORKERS, ["--stats", "--support", "2", "(.)[(.)|.]", pairs], answer.encode(),
-           works((25, 1), (60, 24), 48))
+           works((25, 1), (60, 24), 48, 24))
     # The ranks are b 1, a 2, c 3: the share has b and c.
     three = write("three", "a b\nb\nb c\n")
     yield ("a share of the pivots", WORKERS, ["--stats", "--support", "1", ".*(.)[.*(.)]?.*", three],
@@ -178,7 +179,7 @@ def merges():
 def refusals():
     """Runs that are refused, and what each leaves."""
     kinds, running = running_example()
-    for search, by in searches(works((0, 0), (0, 0), 0), WORKERS[2:]):
+    for search, by in searches(works((0, 0), (0, 0), 0, 0), WORKERS[2:]):
         yield (f"an unknown name behind a file that is read in pieces, {by}", [*search, "--support", "66", "(z)", pieced()],
                (3, b"", b"desq: expression: column 2: unknown name\n"))
     above, expression, absent = ["--hierarchy", kinds], "(A)", f"{WORK}/absent"

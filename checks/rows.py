@@ -7,7 +7,7 @@ PROGRAM = os.environ["DESQ"]
 WORK = os.environ["WORK"]
 SECONDS = 120
 MOST_TOLD = 4_000
-ENGINES = ("count", "dfs", "pivot")
+ENGINES = ("count", "dfs", "pivot", "cand")
 # The ways to mine, each by an engine and more words; one more is a word here. The first share of one has all pivots, so it
 # leaves the whole answer, with its work.
 MODES = (*ENGINES, "pivot --split 1/1")

@@ -84,6 +84,19 @@ by_each("65,535 different items in a line, of which 256 are frequent", 2,
         [".*(.)[(.)]?.*", write("longest_of_two", lines_of([line, line[::256]]))],
         answer(([item], 2) for item in line[::256]))
 
+# A part for each of many items of one line. What it costs is the square of their number: for `pivot` a look at each place,
+# and for `cand` at each edge of one graph.
+by_each("2,000 different items in a line", 1, [".*(.).*", write("many_parts", lines_of([line[:2_000]]))],
+        answer(([item], 1) for item in line[:2_000]))
+many_sets, wanted = write("many_sets", lines_of([line[:30_000]])), answer(([item], 1) for item in line[:30_000])
+by_each("30,000 different items in a line, within 512 MB", 1, [".*(.).*", many_sets], wanted, ("cand",), space=SPACE)
+rows.ends("30,000 different items in a line, within 200 MB",
+          run("--support", "1", "--engine", "cand", "--workers", "1", ".*(.).*", many_sets, **within(200_000_000)), (0, wanted, b""))
+
+# A candidate for each number of items of a line.
+alike = write("alike", lines_of([["a"] * 2_000]))
+by_each("2,000 candidates of one item", 1, ["[(a)|.]*", alike], answer((["a"] * length, 1) for length in range(1, 2_001)))
+
 # A million names. `desq-rival`, the same search without proofs, needs 504 to 522 MB of addresses with one worker and 848 to
 # 950 MB with four for `.*(fffff).*`: the least N with which `(ulimit -v N; desq-rival --support 1 --engine dfs --workers 4
 # '.*(fffff).*' FILE)` has status 0. So a run that needs twice as much as it breaks here, and one that needs as much.
@@ -141,7 +154,8 @@ by_each("a gap of 509, lengths of 2 to 3, and 3,000 items", 1,
 # Every option at once. x is not frequent, and b ranks before A, and A before a.
 kinds = write("kinds", "a A\n")
 weighted = write("weighted", "2 a b\n3 a x b\n1 b\n")
-for mode, told in (("count", b"nodes 0 parts 0 candidates 4"), ("dfs --simulate 7", b"nodes 5 parts 1 candidates 0"),
+for mode, told in (("count", b"nodes 0 parts 0 candidates 4"), ("cand", b"nodes 0 parts 2 candidates 0"),
+                   ("dfs --simulate 7", b"nodes 5 parts 1 candidates 0"),
                    ("pivot --simulate 7", b"nodes 6 parts 2 candidates 0"), ("pivot --split 1/1", b"nodes 6 parts 2 candidates 0")):
     for search, by in searches([mode]):
         words = ["--stats", "--support=5", *search, "--weighted", f"--hierarchy={kinds}"]

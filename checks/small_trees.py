@@ -6,7 +6,7 @@ with four each leaf captured and each other node under `*`, or, over `(a)` and `
 of up to two of the five items of a hierarchy of two levels, in which b has two parents, and all trees of one captured leaf
 under any sign, or of two of which one or both are captured: their leaves are all item expressions, `w`, `w=`, `w^`, `w^=`,
 `!w`, `!w=`, `.` and `.^`, over each item. Trees stand side by side in an expression, each behind an item of its own. Each expression is mined by `count`, by `dfs` with workers and
-simulated, and by `pivot` in one of these two ways, since it has a part for each tree."""
+simulated, and by `pivot` in one of these two ways, since it has a part for each tree, and by `cand`."""
 import functools
 import itertools
 import multiprocessing
@@ -193,7 +193,7 @@ def compared(task):
     above = ["--hierarchy", LINKS_FILE] if has_hierarchy else []
     seed = ["--simulate", str(len(part))]
     differing = []
-    for engine in (["count"], ["dfs"], ["dfs", *seed], ["pivot", *seed] if len(part) % 2 else ["pivot"]):
+    for engine in (["count"], ["dfs"], ["dfs", *seed], ["pivot", *seed] if len(part) % 2 else ["pivot"], ["cand"]):
         status, output, message = run("--support", "1", "--engine", *engine, *above, expression, file)
         if (status, output, message) != (0, wanted, b""):
             differing.append(f"{' '.join(engine)}: status {status} {message} {expression}")

@@ -102,7 +102,7 @@ rows.hold("seven shares together take less than three times the processor time o
 # What is no command.
 for split in ("0/2", "3/2", "1/65", "1", "1/2/3", "/2", "1/", "/", "", "-1/2", "1 /2", "1/0", "a/2", "1:2"):
     rows.ends(f"no share: {split!r}", run(*pairs, "--engine", "pivot", f"--split={split}"), (2, b"", USAGE))
-for words in ("--engine dfs", "--engine count", "", "--engine pivot --simulate 7", "--engine pivot --split 1/2"):
+for words in ("--engine dfs", "--engine count", "--engine cand", "", "--engine pivot --simulate 7", "--engine pivot --split 1/2"):
     rows.ends(f"no share beside: {words}", run(*pairs, "--split", "1/2", *words.split()), (2, b"", USAGE))
 rows.ends("no share of made input", run("--support", "1", "--generated", "3", "(.)", "--engine", "pivot", "--split", "1/2"),
           (2, b"", USAGE))

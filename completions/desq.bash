@@ -36,7 +36,7 @@ _desq() {
         word=${word#*=}
     fi
     case $value_of in
-        --engine) mapfile -t COMPREPLY < <(compgen -W "dfs pivot count" -- "$word") ;;
+        --engine) mapfile -t COMPREPLY < <(compgen -W "dfs pivot count cand" -- "$word") ;;
         --hierarchy | --check) _desq_files "$word" ;;
         "")
             if [[ $named == 0 && $word == -* ]]; then

@@ -52,7 +52,7 @@ complete -c desq -n 'not __desq_has --support' -l support -x -d 'least support o
 complete -c desq -n 'not __desq_has --hierarchy' -l hierarchy -r -F -d 'hierarchy of the items'
 complete -c desq -n 'not __desq_has --weighted' -l weighted -d 'the first field of a line is its weight'
 complete -c desq -n 'not __desq_has --engine' -l engine -x -d 'how patterns are found' \
-    -a "dfs\t'grow prefixes' pivot\t'grow prefixes in parts' count\t'count all candidates'"
+    -a "dfs\t'grow prefixes' pivot\t'grow prefixes in parts' count\t'count all candidates' cand\t'count sets of candidates'"
 complete -c desq -n 'not __desq_has --workers' -l workers -x -d 'how many workers share the work, 1 to 64'
 complete -c desq -n 'not __desq_has --simulate' -l simulate -x \
     -d 'search on one thread, in the order of a seed'

@@ -32,7 +32,7 @@ REAL_QUESTIONS = [
     ("follows", "packages", ".*@section/games [.{0,3}(.^)]{1,3}.*", 300),
 ]
 THRESHOLDS = ("gap", [3000, 1000, 300, 100, 30])
-ENGINES, WORKERS = ["dfs", "pivot", "count"], [1, 4]
+ENGINES, WORKERS = ["dfs", "pivot", "count", "cand"], [1, 4]
 
 
 def make_data():
@@ -94,7 +94,9 @@ def files_of(options, data):
 def work_of(told):
     """From `desq: nodes X parts Y candidates Z`."""
     nodes, parts, candidates = (f"{int(number):,}" for number in told[2::2])
-    return f"candidates {candidates}" if nodes == parts == "0" else f"nodes {nodes}, parts {parts}"
+    if nodes == "0":
+        return f"candidates {candidates}" if parts == "0" else f"parts {parts}"
+    return f"nodes {nodes}, parts {parts}"
 
 
 def peak_of(found):

@@ -15,3 +15,5 @@ pub mod ExistenceLemmas
 pub mod WorkedRows
 pub mod CodedLemmas
 pub mod WorkLemmas
+pub mod ClassLemmas
+pub mod NamedWorkLemmas

@@ -4,6 +4,7 @@ pub mod Codes
 pub mod Members
 pub mod Groups
 pub mod Work
+pub mod NamedWork
 pub mod Merges
 -- what the proofs keep
 pub mod Registry

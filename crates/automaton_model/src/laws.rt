@@ -4,7 +4,9 @@ ghost use Rattle.std.specs.Prelude.{◌≡◌, ◌≢◌, ℕ, ◌+◌, ◌^◌,
 ghost use Rattle.std.specs.List.{AllZip, flat_map};
 ghost use Rattle.mine_model.specs.declared.item.Item.{Item};
 ghost use Rattle.mine_model.specs.declared.row.Row.{Row as FoundRow};
+ghost use Rattle.mine_model.specs.declared.mined.Work.{Work as TheWork};
 ghost use Rattle.mine_model.specs.Support.{Sequence, Counts, HasFrequency};
+ghost use Rattle.mine_model.specs.PartitionWork.{IsBytewiseBefore};
 ghost use Rattle.mine_model.specs.Answer.{Data, IsFrequent};
 ghost use Rattle.mine_model.specs.Ranks.{Ranking, AreRanks};
 ghost use Rattle.mine_model.specs.Pivots.{IsWithinPivot, IsAliveLabel};
@@ -16,6 +18,7 @@ ghost use Rattle.automaton_model.specs.Members.{IsPivotMember, IsPivotCode};
 ghost use Rattle.automaton_model.specs.Groups.{AreGroups, LieIn, grouped, IsGroupRow, AreGroupRows, AreOfPivot, part_of, AreRowsOfPivot, AreGroupsOfPivot};
 ghost use Rattle.automaton_model.specs.Merges.{IsCodedBy, AreMerged};
 ghost use Rattle.automaton_model.specs.Work.{IsAutomatonWork, pairs_of};
+ghost use Rattle.automaton_model.specs.NamedWork.{IsCandidateSetWork};
 ghost use Rattle.automaton_model.specs.Languages.{IsRightLanguageOf, IsStateOf};
 ghost use Rattle.automaton_model.specs.Searches.{BeginIn, Load, Weigh, AreMoved};
 ghost use Rattle.automaton_model.specs.Registry.{AcceptTheSame, IsRegistry};
@@ -144,6 +147,13 @@ pub fn groups_are_the_work()
         → (lists : List (List SetGroup)) → AllZip (AreGroupsOfPivot d order) pivots lists
         → IsAutomatonWork d order
         (record { nodes = 0; parts = length (pairs_of pivots lists); candidates = 0 }) }
+{}
+
+/// At most one work is that of the engine over candidate automata on the data of a run.
+pub fn at_most_one_candidate_set_work()
+    ensures { (data_of_run : Data (List ℕ)) (first second : TheWork)
+        → IsCandidateSetWork IsBytewiseBefore data_of_run first
+        → IsCandidateSetWork IsBytewiseBefore data_of_run second → first ≡ second }
 {}
 
 /// The codes of no list, of one list, and of three lists of which two rests are one state.

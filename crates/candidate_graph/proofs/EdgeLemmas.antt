@@ -28,12 +28,6 @@ use Rattle.candidate_graph.proofs.PointLemmas.{at-marked, next-on}
 
 -- ---- one edge more
 
-pub made-none : (points : List Standpoint) (aim : Aim) (run : List Stand) (found : List NextRank) (edges : List Edge) → AreMade points aim run found 0 (length edges) edges
-made-none points aim run found edges = record {
-  long = omega arith;
-  each = λ k next less at. absurd (omega (arith, less));
-}
-
 -- a list that was given an element or not
 abbrev pub GrowsBy : {X : Type 0} → List X → X → List X → Type 0
 GrowsBy before x now = (now ≡ before) ⊎ (now ≡ before ++ x ∷ [])

@@ -246,3 +246,27 @@ module _ (courses : Courses) (ranks : Ranks) (need : Option ℕ) (nodes : List N
                 let places : first.place ≡ from.place = ap (λ (s : Stand). s.place) same in
                 omega (arith, places)
           ]
+
+  -- an edge leaves a node that has stands
+  pub edge-leaves : (number rank : ℕ) (edge : Edge) → HasEdge nodes number rank edge → (at : Standpoint) → slice_get (points_of nodes) number ≡ Some at
+      → (first : Stand) × (slice_get at.stands 0 ≡ Some first)
+  edge-leaves number rank edge (node, edges, there, known, held, is) at at_is =
+      let (node', there', same) = get-from (λ (n : Node). n.at) nodes number at at_is in
+      let same_node : node' ≡ node = same_Some node' node (sym there' ∙ there) in
+      let at_node : node.at ≡ at = ap (λ (n : Node). n.at) (sym same_node) ∙ sym same in
+      let are : AreEdges (course_in courses at.seen) (points_of nodes) ranks (aim_at at need) at.stands edges =
+      subst (λ (a : Standpoint). AreEdges (course_in courses a.seen) (points_of nodes) ranks (aim_at a need) a.stands edges) at_node (graph.edges number node edges there known) in
+      let (visit, there_is, passes) = (are.right edge held).follows in
+      let (from, from_in, less) = visit-behind (course_in courses at.seen) at.stands visit.place visit.kind visit.action
+      (visit-is (course_in courses at.seen) at.stands are.visits are.exact visit there_is) in
+      some at.stands from from_in
+    where
+      some : (stands : List Stand) (from : Stand) → Contains stands from → (first : Stand) × (slice_get stands 0 ≡ Some first)
+      some [] from held = absurd (Contains-none from held)
+      some (first ∷ stands) from held = (first, refl)
+
+  -- an edge leads to a node
+  pub edge-leads : (number rank : ℕ) (edge : Edge) → HasEdge nodes number rank edge → (next : Standpoint) × (slice_get (points_of nodes) edge.next ≡ Some next)
+  edge-leads number rank edge (node, edges, there, known, held, is) =
+      let are = graph.edges number node edges there known in
+      (point_behind ranks (aim_at node.at need) edge.rank are.visits, (are.right edge held).next)

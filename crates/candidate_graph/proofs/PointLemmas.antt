@@ -129,12 +129,6 @@ on-rising course stands on i j d less inside = elim (on.rising i j d less inside
 pub one-group : (stands : List Stand) → 0 < length stands → IsMarked stands → AreGroups stands (stands ∷ [])
 one-group stands some marked = ([], sym (append-nil stands), record { some = some; marked = marked }, refl)
 
-dropped-less : (stands : List Stand) (next : ℕ) → 0 < next → 0 < length stands → drop next stands ≡ stands → ⊥
-dropped-less stands next forward some same =
-    let long : length (drop next stands) ≡ length stands - next = length-drop next stands in
-    let equal : length (drop next stands) ≡ length stands = ap length same in
-    omega (arith, long, equal, forward, some)
-
 pub walked-one : (course : Course) (stands : List Stand) (next : ℕ) (visits : List Visit) → 0 < next → 0 < length stands
     → AreWalked course (stands ∷ []) (drop next stands) visits → AreVisits course stands visits
 walked-one course stands next visits forward some walked =

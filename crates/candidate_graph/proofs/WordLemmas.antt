@@ -1,5 +1,6 @@
 -- Standpoints and their words.
-use Rattle.std.proofs.Common.{◌≡◌, ℕ, zero, suc, ◌+◌, ◌≤◌, ◌<◌, ◌%◌, ◌⊎◌, take, drop, get_or, append_assoc, inl, inr, Bool, true, false, if◌then◌else◌, ◌==◌, Some, List, [], ◌∷◌, ◌++◌, length, refl, sym, ap, ◌∙◌, subst, arith}
+use Rattle.std.proofs.Common.{◌≡◌, ℕ, zero, suc, ◌+◌, ◌≤◌, ◌<◌, ◌%◌, ◌⊎◌, take, drop, get_or, append_assoc, inl, inr, Bool, true, false, if◌then◌else◌, ◌==◌, Some, None, List, [], ◌∷◌, ◌++◌, length, refl, sym, ap, ◌∙◌, subst, arith}
+use Rattle.std.specs.Prelude.{option_map}
 use Rattle.std.specs.List.{Contains, slice_get}
 use Rattle.std.proofs.lemmas.Grind.{flat_map-append}
 use Rattle.std.proofs.lemmas.List.{map_push, take_more, drop_more}
@@ -141,3 +142,18 @@ points-more lists now words at is grown = elim grown [
   | inl same ↦ inl (ap points_in same)
   | inr more ↦ inr (ap points_in more ∙ map_push point_of lists words ∙ ap (λ (a : Standpoint). points_in lists ++ a ∷ []) is)
 ]
+
+-- ---- the first stand
+
+-- it takes the second word and the third
+pub first-none : (words : List ℕ) → length words < 3 → None ≡ option_map (λ (stand : Stand). stand.place) (slice_get (point_of words).stands 0)
+first-none [] few = refl
+first-none (flag ∷ []) few = refl
+first-none (flag ∷ place ∷ []) few = refl
+first-none (flag ∷ place ∷ state ∷ words) few = absurd (omega (arith, few))
+
+pub first-some : (words : List ℕ) → 3 ≤ length words → Some (get_or words 1 0) ≡ option_map (λ (stand : Stand). stand.place) (slice_get (point_of words).stands 0)
+first-some [] many = absurd (omega (arith, many))
+first-some (flag ∷ []) many = absurd (omega (arith, many))
+first-some (flag ∷ place ∷ []) many = absurd (omega (arith, many))
+first-some (flag ∷ place ∷ state ∷ words) many = refl

@@ -1,4 +1,4 @@
-ghost use Rattle.std.specs.Prelude.{◌≡◌, ℕ, ◌≤◌, ◌<◌, [], ◌∷◌, List, Option, Some, None, length, slice_get, IfOk, OnOk, OnErr};
+ghost use Rattle.std.specs.Prelude.{◌≡◌, ℕ, ◌≤◌, ◌<◌, [], ◌∷◌, List, Option, Some, None, length, slice_get, option_map, IfOk, OnOk, OnErr};
 ghost use Rattle.place_walk.specs.Courses.{course_of};
 ghost use Rattle.stand_sums.specs.Writings.{Ranks};
 ghost use Rattle.candidate_graph.specs.declared.edge.Edge.{Edge as Edged};
@@ -96,6 +96,16 @@ impl Graph {
         ensures { (n : Node) → slice_get self.now.nodes node ≡ Some n → result ≡ n.at.seen }
     {
         self.nodes.seen(node)
+    }
+
+    /// The place of the first stand of a node, if it has one: edges lead to greater places, or to the node
+    /// with no stands.
+    pub fn first_place(&self, node: u32) -> Option<u32>
+        requires { node < length self.now.nodes }
+        ensures { (n : Node) → slice_get self.now.nodes node ≡ Some n
+            → result ≡ option_map (λ stand. stand.place) (slice_get n.at.stands 0) }
+    {
+        self.nodes.first_place(node)
     }
 
     /// Finds the edges of a node, where they are not known yet. Nodes to which they lead are added. The memo

@@ -1,10 +1,10 @@
 //! Standpoints by number.
 
-ghost use Rattle.std.specs.Prelude.{◌≡◌, ℕ, ◌<◌, ◌⊎◌, [], ◌∷◌, ◌++◌, Some, length, slice_get, IfOk, OnOk, OnErr};
+ghost use Rattle.std.specs.Prelude.{◌≡◌, ℕ, ◌<◌, ◌⊎◌, [], ◌∷◌, ◌++◌, Some, length, slice_get, option_map, IfOk, OnOk, OnErr};
 ghost use Rattle.candidate_graph.specs.Courses.{IsMarked};
 ghost use Rattle.candidate_graph.specs.Graphs.{Standpoint};
 
-use super::words::{is_seen, read_stands, write_key};
+use super::words::{first_place, is_seen, read_stands, write_key};
 use mine_model::NoMemory;
 use pattern_counts::PatternCounts;
 use place_walk::Stand;
@@ -80,6 +80,15 @@ impl Nodes {
         ensures { (at : Standpoint) → slice_get self.now number ≡ Some at → result ≡ at.seen }
     {
         is_seen(self.keys.list(number as usize))
+    }
+
+    /// The place of the first of the stands there, if there is one.
+    pub(crate) fn first_place(&self, number: u32) -> Option<u32>
+        requires { number < length self.now }
+        ensures { (at : Standpoint) → slice_get self.now number ≡ Some at
+            → result ≡ option_map (λ stand. stand.place) (slice_get at.stands 0) }
+    {
+        first_place(self.keys.list(number as usize))
     }
 
     /// The stands there, in place of those before.

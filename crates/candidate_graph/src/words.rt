@@ -1,6 +1,6 @@
 //! Standpoints as lists of numbers.
 
-ghost use Rattle.std.specs.Prelude.{◌≡◌, ◌<◌, [], length, All, OnOk};
+ghost use Rattle.std.specs.Prelude.{◌≡◌, ◌<◌, [], length, All, OnOk, slice_get, option_map};
 ghost use Rattle.candidate_graph.specs.Words.{key_of, point_of};
 
 use mine_model::NoMemory;
@@ -44,5 +44,16 @@ pub(crate) fn is_seen(words: &[u32]) -> bool
     match words.first() {
         Some(flag) => *flag == 1,
         None => false,
+    }
+}
+
+/// The place of the first of the stands there, if there is one.
+pub(crate) fn first_place(words: &[u32]) -> Option<u32>
+    ensures { result ≡ option_map (λ stand. stand.place) (slice_get (point_of words.now).stands 0) }
+{
+    if words.len() < 3 {
+        None
+    } else {
+        Some(words[1])
     }
 }

@@ -8,7 +8,7 @@ use Rattle.gap_front.specs.Embedding.{most_gap, most_rule_length}
 use Rattle.made_input.specs.Made.{most_made}
 use Rattle.command_line.specs.Options.{faults, rows}
 use Rattle.command_line.specs.declared.words.Engine.{Engine}
-use Rattle.command_line.specs.declared.words.Engine.TheVariants.{Count, Dfs, Pivot}
+use Rattle.command_line.specs.declared.words.Engine.TheVariants.{Count, Dfs, Pivot, Cand}
 use Rattle.command_line.specs.declared.share.Share.{Share}
 
 -- where the rows of a run come from: they are the patterns of an expression in the sequences of a file, or
@@ -58,6 +58,7 @@ abbrev pub engine_name : Engine → Text
 engine_name Count = codes "count"
 engine_name Dfs = codes "dfs"
 engine_name Pivot = codes "pivot"
+engine_name Cand = codes "cand"
 
 -- this engine was named, or none was and it is that of a run that names none
 abbrev pub GivesEngine : List Row → Engine → Type 0
@@ -99,11 +100,13 @@ GivesShare found (Some share) =
     (text : Text) × (first_of (codes "split") found ≡ Some text) × IsShareText text share
 
 -- the engine runs with this seed, or with none, and for this share, or for all: a search by prefixes may be
--- simulated, counting may not; a share is for a search by pivots that is not simulated
+-- simulated, counting of candidates or of sets of them may not; a share is for a search by prefixes and
+-- pivots that is not simulated
 abbrev pub Suits : Engine → Option ℕ → Option Share → Type 0
 Suits Count seed share = (seed ≡ None) × (share ≡ None)
 Suits Dfs seed share = share ≡ None
 Suits Pivot seed share = (seed ≡ None) ⊎ (share ≡ None)
+Suits Cand seed share = (seed ≡ None) × (share ≡ None)
 
 -- this engine is that of the run, with this seed or none and this share or none, and they suit each other
 pub record GivesMode (found : List Row) (engine : Engine) (seed : Option ℕ) (share : Option Share)

@@ -46,6 +46,8 @@ pub enum Engine {
     Dfs,
     /// It searches by prefixes in a part for each pivot, the greatest rank of a pattern.
     Pivot,
+    /// It counts sets of candidates in a part for each pivot, equal sets together.
+    Cand,
 }
 
 /// Where the rows of a run come from.
@@ -109,11 +111,11 @@ pub struct Command {
     pub engine: Engine,
     /// How many threads work at the search, 1 to 64; 4 where no number is given.
     pub workers: u32,
-    /// The seed of a run that simulates its workers in one thread, 0 to 18,446,744,073,709,551,615. A run
-    /// that counts has none.
+    /// The seed of a run that simulates its workers in one thread, 0 to 18,446,744,073,709,551,615. Only a
+    /// run that searches by prefixes has one.
     pub seed: Option<u64>,
-    /// The share of the pivots whose patterns are mined, of all of them where there is none. Only a run by
-    /// pivots that is not simulated has one.
+    /// The share of the pivots whose patterns are mined, of all of them where there is none. Only a search
+    /// by prefixes and pivots that is not simulated has one.
     pub share: Option<Share>,
     /// Whether the counted work of the run is told on the error output.
     pub stats: bool,
@@ -181,6 +183,7 @@ fn given_engine(matches: &ArgMatches<'_>) -> Option<Engine>
         "count" => Some(Engine::Count),
         "dfs" => Some(Engine::Dfs),
         "pivot" => Some(Engine::Pivot),
+        "cand" => Some(Engine::Cand),
         _ => None,
     }
 }
@@ -230,7 +233,7 @@ fn suits(engine: Engine, seed: Option<u64>, share: Option<Share>) -> bool
     ensures { IsTrue result ↔ Suits engine seed share }
 {
     match engine {
-        Engine::Count => seed.is_none() && share.is_none(),
+        Engine::Count | Engine::Cand => seed.is_none() && share.is_none(),
         Engine::Dfs => share.is_none(),
         Engine::Pivot => seed.is_none() || share.is_none(),
     }

@@ -44,6 +44,7 @@ fn what_is_done(rt: &HostRuntime, words: &[String]) -> &'static str {
         Ok(Some(command)) => match command.engine {
             Engine::Count => "blocks counted",
             Engine::Dfs | Engine::Pivot => "nodes grown",
+            Engine::Cand => "parts counted",
         },
         _ => "steps done",
     }

@@ -17,7 +17,7 @@ use Rattle.mine_model.proofs.CountedLemmas.{pairs-forth, search-forth}
 use Rattle.mine_model.proofs.NamedAnswer.{named_data, answer-named}
 use Rattle.command_line.specs.declared.words.Engine.{Engine}
 use Rattle.command_line.specs.declared.share.Share.{Share}
-use Rattle.command_line.specs.declared.words.Engine.TheVariants.{Count, Dfs, Pivot}
+use Rattle.command_line.specs.declared.words.Engine.TheVariants.{Count, Dfs, Pivot, Cand}
 use Rattle.mine_model.specs.PartitionWork.{IsPartitionWork, IsBytewiseBefore, IsNamedBefore}
 use Rattle.desq_run.specs.Said.{links_said}
 use Rattle.desq_run.specs.Ends.{Input, data_of, IsWorkOf}
@@ -27,6 +27,8 @@ use Rattle.desq_run.proofs.LinkLemmas.{names-rename}
 use Rattle.desq_run.proofs.ShareNameLemmas.{share-names}
 use Rattle.desq_run.proofs.PartLemmas.{part-named}
 use Rattle.mine_model.proofs.PartitionWorkLemmas.{partition-names}
+use Rattle.automaton_model.specs.NamedWork.{IsCandidateSetWork}
+use Rattle.automaton_model.proofs.NamedWorkLemmas.{set-work-names}
 
 -- the rows found by numbers, in order, are the answer by names
 pub rows-answer : (input : Input) (tree : Tree (List ℕ)) (known added : List (List ℕ)) (h : Ancestry) (db : List (Sequence Item)) (e : Tree Item) (rows : List Row)
@@ -95,6 +97,13 @@ work-answer input tree known added h db e None Pivot work distinct read within i
     named numbered IsBytewiseBefore some work is in
     subst (λ (s : List (Sequence (List ℕ))). IsPartitionWork IsBytewiseBefore (record { links = links_said input.command.source input.hierarchy; sequences = s; expression = tree; threshold = input.command.threshold }) work) is_db.same
     (subst (λ (t : Tree (List ℕ)). IsPartitionWork IsBytewiseBefore (record { links = links_said input.command.source input.hierarchy; sequences = map (sequence_by (name_of names)) db; expression = t; threshold = input.command.threshold }) work) same_tree partition)
+work-answer input tree known added h db e None Cand work distinct read within is_db numbered same_tree named some is =
+    let names : List (List ℕ) = known ++ added in
+    let d : Data Item = record { links = h.links; sequences = db; expression = e; threshold = input.command.threshold } in
+    let sets = set-work-names (name_of names) (links_said input.command.source input.hierarchy) d (HasName names) (names-rename input.command.source input.hierarchy known added h distinct read within)
+    named numbered IsBytewiseBefore some work is in
+    subst (λ (s : List (Sequence (List ℕ))). IsCandidateSetWork IsBytewiseBefore (record { links = links_said input.command.source input.hierarchy; sequences = s; expression = tree; threshold = input.command.threshold }) work) is_db.same
+    (subst (λ (t : Tree (List ℕ)). IsCandidateSetWork IsBytewiseBefore (record { links = links_said input.command.source input.hierarchy; sequences = map (sequence_by (name_of names)) db; expression = t; threshold = input.command.threshold }) work) same_tree sets)
 work-answer input tree known added h db e (Some share) engine work distinct read within is_db numbered same_tree named some is =
     let names : List (List ℕ) = known ++ added in
     let d : Data Item = record { links = h.links; sequences = db; expression = e; threshold = input.command.threshold } in

@@ -2,6 +2,8 @@ pub mod Told
 pub mod LinkLemmas
 pub mod HierarchyLemmas
 pub mod PartitionRankLemmas
+pub mod PivotCodeLemmas
+pub mod SetRankLemmas
 pub mod SeedLemmas
 pub mod ShareRankLemmas
 pub mod ShareNameLemmas

@@ -120,7 +120,7 @@ module _ (names : List (List ℕ)) (d : Data Item) (ranking : Ranking) (ranks : 
     all_from (v ∷ items) frequent last = (up_from v frequent.0 last.0, all_from items frequent.1 last.1)
 
     -- its bound by ranks is that by items
-    bound-same : (items : List Item) → IsWithin ranking.order top (Some top) items ↔ Bound pivot items
+    pub bound-same : (items : List Item) → IsWithin ranking.order top (Some top) items ↔ Bound pivot items
     bound-same items = (
       (λ is.
           let (v, held, at) = is.needed in
@@ -139,7 +139,7 @@ module _ (names : List (List ℕ)) (d : Data Item) (ranking : Ranking) (ranks : 
     by_top (suc rank) some items = ((λ is. is), (λ is. is))
 
     -- and so are its alive labels
-    label-same : (prefix : List Item) (list : List ℕ) → AreRanked ranking.order prefix list
+    pub label-same : (prefix : List Item) (list : List ℕ) → AreRanked ranking.order prefix list
         → IsAliveLabel d ranking.order top list ↔ IsAlive d (Bound pivot) prefix
     label-same prefix list ranked = (
       (λ is. subst (IsAlive d (Bound pivot)) (ranked-same ranking.order is.prefix prefix list is.ranked ranked)

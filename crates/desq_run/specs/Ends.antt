@@ -18,13 +18,14 @@ use Rattle.mine_model.specs.Refusal.{links_of, items_of, sequences_of}
 use Rattle.gap_front.specs.Answers.{IsFrequentlyEmbedded, IsEmbeddedAnswer}
 use Rattle.gap_front.specs.Embedding.{tree_of_rule}
 use Rattle.command_line.specs.declared.words.Engine.{Engine}
-use Rattle.command_line.specs.declared.words.Engine.TheVariants.{Count, Dfs, Pivot}
+use Rattle.command_line.specs.declared.words.Engine.TheVariants.{Count, Dfs, Pivot, Cand}
 use Rattle.command_line.specs.declared.share.Share.{Share}
 use Rattle.command_line.specs.Words.{Source, read, embed, make, merge, Task, mine, prove, check, Command, IsCommand, IsUsage, file_of, merged_in}
 use Rattle.split_merge.specs.Merging.{IsMerge}
 use Rattle.proof_names.specs.NamedProofs.{IsGoodProof, IsProofText}
 use Rattle.proof_names.specs.NamedRefusals.{IsProofFileRefusal}
 use Rattle.mine_model.specs.PartitionWork.{IsBytewiseBefore, IsPartitionWork}
+use Rattle.automaton_model.specs.NamedWork.{IsCandidateSetWork}
 use Rattle.desq_run.specs.Sources.{IsSourceRefusal, HasUse, IsUnknownIn, SaysTree}
 use Rattle.desq_run.specs.Said.{names_said, links_said, sequences_said, RefusesHierarchy, RefusesSequences, output_of, checked_text}
 use Rattle.desq_run.specs.Parts.{IsPartBy, IsShareWork}
@@ -173,6 +174,7 @@ IsWorkOf Ties (Some share) engine d work = IsShareWork Ties d share work
 IsWorkOf Ties None Count d work = IsCountingWork d work
 IsWorkOf Ties None Dfs d work = IsSearchWork d work
 IsWorkOf Ties None Pivot d work = IsPartitionWork Ties d work
+IsWorkOf Ties None Cand d work = IsCandidateSetWork Ties d work
 
 -- the work is that of the command on its input, where items of one frequency rank by their names
 abbrev pub IsWork : Input → Work → Type 0

@@ -70,6 +70,7 @@ fn mined_by<R: Threads + Wait + Sync, G: Gate>(
         Engine::Count => count_engine::mine(rt, alloc, job, command.workers, gate),
         Engine::Dfs => searched(rt, alloc, job, false, command, gate),
         Engine::Pivot => searched(rt, alloc, job, true, command, gate),
+        Engine::Cand => cand_automaton::mine(rt, alloc, job, command.workers, gate),
     }
 }
 

@@ -1,10 +1,10 @@
--- The roots of seeds, and the seed without a pivot.
-use Rattle.std.proofs.Common.{◌≡◌, ◌≢◌, ◌↔◌, ℕ, ◌+◌, ◌≤◌, ◌<◌, inl, inr, false, Option, None, IfSome, List, [], ◌∷◌, ◌++◌, map, length, get_or, refl, sym, ap, ◌∙◌, subst, arith, sum_by}
-use Rattle.std.specs.List.{All, AllByRecursion, AllPairs, Contains}
-use Rattle.std.proofs.lemmas.Bool.{false≢true, cases_eq}
+-- The roots of seeds, and the root without a pivot.
+use Rattle.std.proofs.Common.{◌≡◌, ◌≢◌, ◌↔◌, ℕ, ◌+◌, ◌^◌, ◌≤◌, ◌<◌, inl, inr, false, Option, None, IfSome, List, [], ◌∷◌, ◌++◌, map, length, get_or, refl, sym, ap, ◌∙◌, subst, arith, sum_by}
+use Rattle.std.specs.Global.{Vec}
+use Rattle.std.specs.List.{All, AllByRecursion, Contains}
+use Rattle.std.proofs.lemmas.Bool.{false≢true}
 use Rattle.std.proofs.lemmas.List.{map-append}
-use Rattle.std.proofs.lemmas.List.Elements.{All-contains, Contains-get_or, Contains-append_left, Contains-append_right, Contains-push, Contains-push_cases, recursion_from_All}
-use Rattle.std.proofs.lemmas.List.Quantifiers.{all_pairs_push}
+use Rattle.std.proofs.lemmas.List.Elements.{All-contains, Contains-get_or, Contains-append_right, recursion_from_All}
 use Rattle.std.proofs.lemmas.List.Sums.{sum_by-cons}
 use Rattle.mine_model.specs.declared.item.Item.{Item}
 use Rattle.mine_model.specs.Answer.{Data}
@@ -16,13 +16,16 @@ use Rattle.search_tree.specs.SearchTree.{AreRootsOf}
 use Rattle.mine_model.proofs.ListLemmas.{AllByRecursion-contained, Contains-first, Contains-other, Contains-none}
 use Rattle.mine_model.proofs.RankedLemmas.{ranked-same}
 use Rattle.mine_model.proofs.AliveLemmas.{IsAlive-counted}
+use Rattle.mining_job.specs.declared.bound.Bound.{Bound}
 use Rattle.mining_job.specs.declared.part_seed.PartSeed.{PartSeed}
 use Rattle.mining_job.specs.Problems.{Problem, IsWhole, data_of, items_of}
-use Rattle.sequence_grids.specs.Grids.{Completes}
+use Rattle.sequence_grids.specs.Grids.{GridList, Completes}
 use Rattle.mining_job.specs.Parts.{pivot_of, IsComplete}
 use Rattle.snapshot_project.specs.Extensions.{sequences_of}
+use Rattle.snapshot_project.specs.Snapshots.{bound_of}
+use Rattle.snapshot_project.specs.Terrains.{AreAll, IsWholePart}
 use Rattle.dfs_growth.specs.Nodes.{Prefix, label_at, prefix_at}
-use Rattle.dfs_growth.specs.Projections.{part_of}
+use Rattle.dfs_growth.specs.Projections.{part_of, IsPartBy}
 use Rattle.dfs_growth.proofs.PartLemmas.{Behind, part-counts}
 
 -- Roots
@@ -104,34 +107,6 @@ seed-within problem seed complete =
     recursion_from_All (λ i. i < length problem.sequences) seed.sequences.items
     (λ k d below. ((complete.exact (get_or seed.sequences.items k d)).0 (Contains-get_or seed.sequences.items k d below)).0)
 
-module _ (Has : ℕ → Type 0) (numbers : List ℕ) (count : ℕ) (exact : (i : ℕ) → Contains numbers i ↔ ((i < count) × Has i)) where
-  -- the numbers below one more that have the property
-  pub exact-push : Has count → (i : ℕ) → Contains (numbers ++ count ∷ []) i ↔ ((i < count + 1) × Has i)
-  exact-push has i = (
-    (λ held. elim (Contains-push_cases numbers count i held) [
-      | inl before ↦ let (below, is) = (exact i).0 before in (omega (arith, below), is)
-      | inr same ↦ (omega (arith, same), subst Has same has)
-    ]),
-    (λ (below, is). elim (cases_eq i count) [
-      | inl same ↦ subst (Contains (numbers ++ count ∷ [])) (sym same) (Contains-push numbers count)
-      | inr other ↦ Contains-append_left numbers (count ∷ []) i ((exact i).1 (omega (arith, below, other), is))
-    ]),
-  )
-
-  pub exact-pass : (Has count → ⊥) → (i : ℕ) → Contains numbers i ↔ ((i < count + 1) × Has i)
-  exact-pass hasnt i = (
-    (λ held. let (below, is) = (exact i).0 held in (omega (arith, below), is)),
-    (λ (below, is). elim (cases_eq i count) [
-      | inl same ↦ absurd (hasnt (subst Has same is))
-      | inr other ↦ (exact i).1 (omega (arith, below, other), is)
-    ]),
-  )
-
-  pub rising-push : AllPairs (λ low high. low < high) numbers → AllPairs (λ low high. low < high) (numbers ++ count ∷ [])
-  rising-push rising =
-      all_pairs_push (λ low high. low < high) numbers count rising
-      (λ k d below. ((exact (get_or numbers k d)).0 (Contains-get_or numbers k d below)).0)
-
 -- Seeds
 
 module _ (problem : Problem) (whole : IsWhole problem) where
@@ -153,32 +128,77 @@ module _ (problem : Problem) (whole : IsWhole problem) where
       first (v ∷ output) some = (v, Contains-first v output, tt)
 
   -- the seed of all sequences with such a path
-  pub whole-complete : (seed : PartSeed) (count top : ℕ) → count ≡ length problem.sequences → top ≡ length problem.ranking.order
-      → seed.pivot ≡ None → AllPairs (λ low high. low < high) seed.sequences.items
-      → ((i : ℕ) → Contains seed.sequences.items i ↔ ((i < count) × Completes problem (record { top = top; need = None }) (items_of problem i) 0 false))
+  pub whole-complete : (seed : PartSeed) → seed.pivot ≡ None → AreAll problem (bound_of (length problem.ranking.order) None) seed.sequences.items
       → IsComplete problem seed
-  whole-complete seed count top all order none rising exact = record {
+  whole-complete seed none all = record {
     least = subst (λ p. IfSome p (λ rank. 1 ≤ rank)) (sym none) tt;
     most = subst (λ p. IfSome p (λ rank. rank ≤ length problem.ranking.order)) (sym none) tt;
-    rising = rising;
+    rising = all.rising;
     exact = λ i.
-        let found = exact i in
-        let Path : ℕ → Type 0 = λ n. Completes problem (record { top = n; need = None }) (items_of problem i) 0 false in
+        let found = all.exact i in
         subst (λ (p : Option ℕ). Contains seed.sequences.items i ↔ ((i < length problem.sequences)
         × HasPatternBehind (data_of problem) (IsWithinPivot problem.ranking.order (pivot_of p)) [] (items_of problem i))) (sym none) (
-          (λ held. let (below, path) = found.0 held in (omega (arith, below, all), (completes-behind (items_of problem i)).0 (subst Path order path))),
-          (λ (below, behind). found.1 (omega (arith, below, all), subst Path (sym order) ((completes-behind (items_of problem i)).1 behind))),
+          (λ held. let (below, path) = found.0 held in (below, (completes-behind (items_of problem i)).0 path)),
+          (λ (below, behind). found.1 (below, (completes-behind (items_of problem i)).1 behind)),
         );
   }
 
   -- where there is no rank, no sequences are those with such a path
-  pub whole-none : (seed : PartSeed) → length problem.ranking.order ≡ 0 → seed.pivot ≡ None → seed.sequences.items ≡ [] → IsComplete problem seed
-  whole-none seed ranks none empty =
-      whole-complete seed (length problem.sequences) 0 refl (sym ranks) none (rw empty (λ i j d less inside. absurd (omega (arith, inside))))
-      (λ i. rw empty (
-        (λ held. absurd (Contains-none i held)),
-        (λ (below, (output, path, allowed, written)). elim written [
-          | inl seen ↦ absurd (false≢true seen)
-          | inr (v, held, any) ↦ let (rank, has, most) = AllByRecursion-contained (IsRankedUpTo problem.ranking.order 0) output v allowed held in absurd (omega (arith, has.least, most))
-        ]),
-      ))
+  all-none : length problem.ranking.order ≡ 0 → AreAll problem (bound_of (length problem.ranking.order) None) []
+  all-none ranks = record {
+    rising = λ i j d less inside. absurd (omega (arith, inside));
+    exact = λ i. (
+      (λ held. absurd (Contains-none i held)),
+      (λ (below, (output, path, allowed, written)). elim written [
+        | inl seen ↦ absurd (false≢true seen)
+        | inr (v, held, any) ↦ let (rank, has, most) = AllByRecursion-contained (IsRankedUpTo problem.ranking.order (length problem.ranking.order)) output v allowed held in absurd (omega (arith, has.least, most, ranks))
+      ]),
+    );
+  }
+
+-- a seed of these numbers without a pivot, in the room of any list
+abbrev seed_of : {X : Type 0} → Vec X → (numbers : List ℕ) → length numbers < 2 ^ 63 → PartSeed
+seed_of list numbers few = record {
+  pivot = None;
+  sequences = record {
+    ptr = list.ptr;
+    len = length numbers;
+    cap = length numbers;
+    alloc = list.alloc;
+    items = numbers;
+    ok = (refl, omega arith);
+    small = few;
+  };
+}
+
+module _ (problem : Problem) (whole : IsWhole problem) {X : Type 0} (list : Vec X) where
+  -- the search without pivots has no root where there is no rank
+  pub none-without : length problem.ranking.order ≡ 0 → AreRootsOf (data_of problem) problem.ranking.order (0 ∷ []) []
+  none-without ranks =
+      let few : 0 < 9223372036854775808 = omega arith in
+      let seed : PartSeed = seed_of list [] few in
+      roots-pass problem [] [] seed (whole-complete problem whole seed refl (all-none problem whole ranks)) (omega (arith, whole.least)) refl
+
+  module _ (part : GridList) (is : IsWholePart problem part) (few : length part.sequences < 2 ^ 63) where
+    complete : IsComplete problem (seed_of list part.sequences few)
+    complete =
+        whole-complete problem whole (seed_of list part.sequences few) refl
+        (subst (λ (b : Bound). AreAll problem b part.sequences) is.bound_is is.sequences_are)
+
+    -- the part of all sequences is that without a pivot
+    pub whole-by : IsPartBy problem 0 part
+    whole-by = record {
+      seed = seed_of list part.sequences few;
+      complete = complete;
+      pivot_is = refl;
+      part_is = λ i. record { problem = is.problem_is i; bound = is.bound_is i; sequences = part.sequences };
+    }
+
+    -- its root
+    pub whole-root : (node : Prefix) → node ≡ prefix_at problem (0 ∷ []) → problem.threshold ≤ sum_by (λ i. (sequence_at problem.sequences i).weight) part.sequences
+        → AreRootsOf (data_of problem) problem.ranking.order (0 ∷ []) (map label_at (node ∷ []))
+    whole-root node same enough = roots-push problem [] [] (seed_of list part.sequences few) node complete enough same refl
+
+    pub whole-without : sum_by (λ i. (sequence_at problem.sequences i).weight) part.sequences < problem.threshold
+        → AreRootsOf (data_of problem) problem.ranking.order (0 ∷ []) []
+    whole-without light = roots-pass problem [] [] (seed_of list part.sequences few) complete light refl

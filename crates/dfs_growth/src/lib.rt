@@ -8,4 +8,4 @@ mod state;
 
 pub use growing::expand;
 pub use node::Node;
-pub use seeds::{roots, whole};
+pub use seeds::{roots, whole_roots, whole_roots_alone};

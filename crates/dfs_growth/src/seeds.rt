@@ -1,75 +1,23 @@
 //! The roots of the search tree.
 
-ghost use Rattle.std.specs.Prelude.{◌≡◌, ℕ, ◌≤◌, ◌<◌, ◌↔◌, false, None, [], ◌∷◌, map, length, sum_by, All, AllPairs, Contains, IsTrue, IfOk};
+ghost use Rattle.std.specs.Prelude.{◌≡◌, ℕ, ◌≤◌, ◌<◌, [], ◌∷◌, map, length, sum_by, All, AllPairs, IfOk};
 ghost use Rattle.std.specs.List.{AllByRecursion};
 ghost use Rattle.mine_model.specs.Database.{sequence_at};
 ghost use Rattle.search_tree.specs.SearchTree.{AreRootsOf};
 ghost use Rattle.mining_job.specs.declared.part_seed.PartSeed.{PartSeed as Seed};
-ghost use Rattle.mining_job.specs.Problems.{data_of, items_of};
-ghost use Rattle.sequence_grids.specs.Grids.{Completes};
+ghost use Rattle.mining_job.specs.Problems.{data_of};
 ghost use Rattle.mining_job.specs.Parts.{pivot_of, IsComplete};
+ghost use Rattle.snapshot_project.specs.Stands.{IsProjected};
+ghost use Rattle.snapshot_project.specs.Terrains.{IsWholePart};
 ghost use Rattle.dfs_growth.specs.Nodes.{Prefix, label_at, prefix_at};
 
 use super::node::Node;
 use super::state::State;
-use fst_compile::State as Place;
 use mine_model::NoMemory;
-use mining_job::{Bound, Job, PartSeed};
-use sequence_grids::Grids;
+use mining_job::{Job, PartSeed};
+use snapshot_project::{Part, Snapshots, begin_whole, begin_whole_alone};
 use std::alloc::Global;
-
-/// The sequences that have a pattern of frequent items. Where no item has a rank there is none, and no
-/// sequence is looked at.
-pub fn whole(alloc: Global, job: &Job) -> Result<PartSeed, NoMemory>
-    ensures pivot { IfOk result (λ seed. seed.pivot ≡ None) }
-    ensures complete { IfOk result (IsComplete job.now) }
-{
-    let top = job.ranks().count();
-    if top == 0 {
-        return Ok(PartSeed {
-            pivot: None,
-            sequences: Vec::new(alloc),
-        });
-    }
-    let mut grids = Grids::new(alloc, job, Bound { top, need: None })?;
-    let sequences = with_patterns(alloc, &mut grids, job.db().sequences())?;
-    Ok(PartSeed {
-        pivot: None,
-        sequences,
-    })
-}
-
-// The numbers of the sequences that have a pattern within the bound of the grids.
-fn with_patterns(alloc: Global, grids: &mut Grids, count: u32) -> Result<Vec<u32>, NoMemory>
-    requires none { grids.old.sequences ≡ [] }
-    requires count { count ≡ length grids.old.problem.sequences }
-    ensures rising { IfOk result (λ numbers. AllPairs (λ low high. low < high) numbers.items) }
-    ensures exact { IfOk result (λ numbers. (i : ℕ) → Contains numbers.items i ↔ ((i < count)
-        × Completes grids.old.problem grids.old.bound (items_of grids.old.problem i) 0 false)) }
-{
-    let mut numbers = Vec::new(alloc);
-    for number in 0..count {
-        if has_pattern(grids, number)? {
-            numbers.push(number)?;
-        }
-    }
-    Ok(numbers)
-}
-
-// Whether the sequence has a pattern within the bound of the grids. What they found out stays, the grid of
-// the sequence does not.
-fn has_pattern(grids: &mut Grids, number: u32) -> Result<bool, NoMemory>
-    requires none { grids.old.sequences ≡ [] }
-    requires within { number < length grids.old.problem.sequences }
-    ensures same { grids.new ≡ grids.old }
-    ensures completes { IfOk result (λ found. IsTrue found
-        ↔ Completes grids.old.problem grids.old.bound (items_of grids.old.problem number) 0 false) }
-{
-    grids.push(number)?;
-    let found = grids.completes(0, 0, Place(0), false);
-    grids.clear();
-    Ok(found)
-}
+use std::thread::Threads;
 
 /// The nodes of these seeds whose sequences weigh at least the support, in their order.
 pub fn roots<'a>(
@@ -89,6 +37,65 @@ pub fn roots<'a>(
             nodes.push(root(alloc, job, seed)?)?;
         }
     }
+    Ok(nodes)
+}
+
+/// The root of the search without pivots, where the sequences that have a pattern of frequent items weigh at
+/// least the support. They are found by so many threads; where no item has a rank, no sequence is looked at.
+pub fn whole_roots<'a, R: Threads + Sync>(
+    rt: &R,
+    workers: u32,
+    alloc: Global,
+    job: &'a Job,
+) -> Result<Vec<Node<'a>>, NoMemory>
+    requires some { 1 ≤ workers }
+    ensures problem { IfOk result (λ nodes. All (λ (node : Prefix). node.problem ≡ job.now) nodes.items) }
+    ensures roots { IfOk result (λ nodes.
+        AreRootsOf (data_of job.now) job.now.ranking.order (0 ∷ []) (map label_at nodes.items)) }
+{
+    if job.ranks().count() == 0 {
+        return Ok(Vec::new(alloc));
+    }
+    let (part, snapshots) = begin_whole(rt, workers, alloc, job)?;
+    roots_at(alloc, job, part, snapshots)
+}
+
+/// The same in one thread.
+pub fn whole_roots_alone<'a>(alloc: Global, job: &'a Job) -> Result<Vec<Node<'a>>, NoMemory>
+    ensures problem { IfOk result (λ nodes. All (λ (node : Prefix). node.problem ≡ job.now) nodes.items) }
+    ensures roots { IfOk result (λ nodes.
+        AreRootsOf (data_of job.now) job.now.ranking.order (0 ∷ []) (map label_at nodes.items)) }
+{
+    if job.ranks().count() == 0 {
+        return Ok(Vec::new(alloc));
+    }
+    let (part, snapshots) = begin_whole_alone(alloc, job)?;
+    roots_at(alloc, job, part, snapshots)
+}
+
+// The node of the empty prefix, of which this is kept, where the sequences of the part weigh at least the
+// support.
+fn roots_at<'a>(
+    alloc: Global,
+    job: &'a Job,
+    part: Part<'a>,
+    snapshots: Snapshots,
+) -> Result<Vec<Node<'a>>, NoMemory>
+    requires part { IsWholePart job.now part }
+    requires start { (least : ℕ) → IsProjected part least [] snapshots }
+    ensures problem { IfOk result (λ nodes. All (λ (node : Prefix). node.problem ≡ job.now) nodes.items) }
+    ensures roots { IfOk result (λ nodes.
+        AreRootsOf (data_of job.now) job.now.ranking.order (0 ∷ []) (map label_at nodes.items)) }
+{
+    // There are so few sequences that those of the part are a seed.
+    let _count = job.db().sequences();
+    if weight(job, part.sequences()) < job.support() {
+        return Ok(Vec::new(alloc));
+    }
+    let label = root_label(alloc, None)?;
+    let state = State::Projected(part, snapshots);
+    let mut nodes = Vec::new(alloc);
+    nodes.push(Node { job, label, state })?;
     Ok(nodes)
 }
 
@@ -113,10 +120,18 @@ fn root<'a>(alloc: Global, job: &'a Job, seed: PartSeed) -> Result<Node<'a>, NoM
     requires { IsComplete job.now seed }
     ensures { IfOk result (λ node. node ≡ prefix_at job.now (pivot_of seed.pivot ∷ [])) }
 {
-    let label = vec![in alloc; seed.pivot.unwrap_or(0)]?;
+    let label = root_label(alloc, seed.pivot)?;
     Ok(Node {
         job,
         label,
         state: State::Root(seed),
     })
+}
+
+// The label of the root with the pivot, or without one.
+fn root_label(alloc: Global, pivot: Option<u32>) -> Result<Vec<u32>, NoMemory>
+    ensures { IfOk result (λ label. label.items ≡ pivot_of pivot ∷ []) }
+{
+    let label = vec![in alloc; pivot.unwrap_or(0)]?;
+    Ok(label)
 }

@@ -4,16 +4,16 @@ ghost use Rattle.dfs_growth.specs.Nodes.{Prefix};
 ghost use Rattle.dfs_growth.specs.Projections.{IsRoomFor};
 
 use super::data::{RUNNING, Shape, add_names, add_numbers, job};
-use dfs_growth::{Node, expand, roots, whole};
+use dfs_growth::{Node, expand, whole_roots_alone};
 use mine_model::{NoMemory, Row};
 use mining_job::Job;
 use search_tree::Grown;
-use snapshot_project::Room;
+use snapshot_project::{Room, begin_whole_alone};
 use std::alloc::Global;
 use std::fmt::Write;
 use std::test::Fail;
 
-/// The sequences of the seed without a pivot; then what each of the nodes grows into that have these places
+/// The sequences that have a pattern; then what each of the nodes grows into that have these places
 /// among the roots, among the kids of that, and so on.
 fn told(alloc: Global, job: &Job, path: &[u32]) -> Result<String, NoMemory> {
     let mut room = Room::new(alloc, job)?;
@@ -35,15 +35,13 @@ fn told_in<'a>(
     Ok(text)
 }
 
-/// The roots without a pivot. Tells the sequences of the seed.
+/// The roots without a pivot. Tells the sequences that have a pattern.
 fn rooted<'a>(alloc: Global, job: &'a Job, text: &mut String) -> Result<Vec<Node<'a>>, NoMemory>
     ensures { IfOk result (λ nodes. All (λ (node : Prefix). node.problem ≡ job.now) nodes.items) }
 {
-    let seed = whole(alloc, job)?;
-    add_numbers(text, seed.sequences.as_slice())?;
-    let mut seeds = Vec::new(alloc);
-    seeds.push(seed)?;
-    roots(alloc, job, seeds)
+    let (part, _start) = begin_whole_alone(alloc, job)?;
+    add_numbers(text, part.sequences())?;
+    whole_roots_alone(alloc, job)
 }
 
 /// Grows the node with the first place among the nodes, that with the next among its kids, and so on.

@@ -1,5 +1,5 @@
 -- Bits of words, and sums of them.
-use Rattle.std.proofs.Common.{◌≡◌, ℕ, zero, suc, ◌+◌, ◌-◌, ◌*◌, ◌/◌, ◌%◌, ◌^◌, ◌<◌, min, max, length, bit_and, bit_or, arith, refl, sym, ◌∙◌, inl, inr}
+use Rattle.std.proofs.Common.{◌≡◌, ℕ, zero, suc, ◌+◌, ◌-◌, ◌*◌, ◌/◌, ◌%◌, ◌^◌, ◌<◌, min, max, List, length, bit_and, bit_or, arith, refl, sym, ap, ◌∙◌, inl, inr}
 use Rattle.std.specs.Int.{bit_at}
 use Rattle.std.specs.Int.RustNames.{bit_xor}
 use Rattle.std.proofs.lemmas.Nat.Bits.{bit_at-lt, bit_at_and, bit_at_or, bit_at_xor, bit_at_cat_low, bit_at_cat_high}
@@ -51,3 +51,6 @@ bit_in-words_of (suc width) set q inside =
           let same : q % 64 ≡ (q - 64) % 64 = omega arith in
           rw (later, same) (bit_in-words_of width high (q - 64) (omega arith) ∙ (sym (bit_at_cat_high high 64 low q fits behind) ∙ rw (← whole) refl))
     ]
+
+pub word_is : (width : ℕ) (words : List ℕ) (set q : ℕ) → words ≡ words_of width set → q < 64 * width → bit_in words q ≡ bit_at set q
+word_is width words set q same inside = ap (λ (ws : List ℕ). bit_in ws q) same ∙ bit_in-words_of width set q inside

@@ -3,7 +3,7 @@ use Rattle.std.proofs.Common.{Bool, true, false, ◌==◌, ◌≢◌, None, ◌�
 use Rattle.std.specs.List.{range_with_len}
 use Rattle.std.specs.Bool.{OnTrue, OnFalse}
 use Rattle.std.proofs.Math.Nat.{mul-le-mul_left}
-use Rattle.std.proofs.lemmas.List.{drop_more, take_more, length-take-le, take_all, get_or_past, ext_get_or, get_or-replicate, length-replicate}
+use Rattle.std.proofs.lemmas.List.{drop_more, take_more, take_more_set, get_or_append_left, get_or-append-add, length-take-le, take_all, get_or_past, ext_get_or, get_or-replicate, length-replicate}
 use Rattle.std.proofs.lemmas.List.FromFn.{length-map-range_with_len, get_or-map-range_with_len}
 use Rattle.std.proofs.lemmas.Bool.{cases_lt, cases_eq, eqb-true, eqb-false}
 use Rattle.std.specs.Int.{bit_at}
@@ -11,8 +11,9 @@ use Rattle.std.proofs.lemmas.Nat.Bits.{bit_at-lt, bit_at-zero}
 use Rattle.state_bits.specs.Members.{Has, HasBit}
 use Rattle.state_bits.proofs.NeighbourLemmas.{Has-none}
 use Rattle.member_counts.specs.declared.digits.Digits.{Digits}
-use Rattle.member_counts.specs.Digits.{digit, bit_in}
-use Rattle.member_counts.specs.Counts.{count_in, counts_in, AreCounts}
+use Rattle.member_counts.specs.declared.low.Low.{Low}
+use Rattle.member_counts.specs.Digits.{digit, bit_in, low_count}
+use Rattle.member_counts.specs.Counts.{count_in, sets_with, added_up, count_of, counts_in, AreCounts}
 
 pub pow_suc : (k : ℕ) → 2 ^ suc k ≡ 2 * 2 ^ k
 pow_suc k = omega arith
@@ -60,24 +61,160 @@ count_in-take ds k e q inside =
     let long : length (take k ds) ≡ k = length-take-le k ds (omega arith) in
     rw (take_more ds k e inside, count_in-push (take k ds) (get_or ds k e) q, long) refl
 
+pub count_in-empty : (W q : ℕ) → count_in {W = W} [] q ≡ 0
+unfolding count_in
+count_in-empty W q = refl
+
+-- some digits in front
+pub count_in-append : {W : ℕ} (ds es : List (Digits W)) (q : ℕ) → count_in (ds ++ es) q ≡ count_in ds q + 2 ^ length ds * count_in es q
+unfolding count_in
+count_in-append [] es q = omega arith
+count_in-append (x ∷ ds) es q =
+    let more = count_in-append ds es q in
+    let scaled : 2 ^ suc (length ds) * count_in es q ≡ 2 * 2 ^ length ds * count_in es q = ap (λ n. n * count_in es q) (pow_suc (length ds)) in
+    omega arith
+
+pub count_in-three : {W : ℕ} (d e f : Digits W) (q : ℕ) → count_in (d ∷ e ∷ f ∷ []) q ≡ digit d q + 2 * digit e q + 4 * digit f q
+unfolding count_in
+count_in-three d e f q = omega arith
+
+-- one set more
+sets_with-push : (sets : List ℕ) (set q : ℕ) → sets_with (sets ++ set ∷ []) q ≡ sets_with sets q + bit_at set q
+unfolding sets_with
+sets_with-push [] set q = omega arith
+sets_with-push (other ∷ sets) set q = let more = sets_with-push sets set q in omega arith
+
+pub sets_with-next : (sets : List ℕ) (k other q : ℕ) → k < length sets
+    → sets_with (take (k + 1) sets) q ≡ sets_with (take k sets) q + bit_at (get_or sets k other) q
+sets_with-next sets k other q inside = rw (take_more sets k other inside) (sets_with-push (take k sets) (get_or sets k other) q)
+
+pub sets_with-waits : (sets : List ℕ) (k one q : ℕ) → k < length sets
+    → sets_with (take (k + 1) (set sets k one)) q ≡ sets_with (take k sets) q + bit_at one q
+sets_with-waits sets k one q inside = rw (take_more_set sets k one inside) (sets_with-push (take k sets) one q)
+
+pub sets_with-le : (sets : List ℕ) (q : ℕ) → sets_with sets q ≤ length sets
+unfolding sets_with
+sets_with-le [] q = omega arith
+sets_with-le (one ∷ sets) q = omega (arith, sets_with-le sets q, bit_at-lt one q)
+
+pub sets_with-take_le : (sets : List ℕ) (k q : ℕ) → sets_with (take k sets) q ≤ k
+unfolding sets_with
+sets_with-take_le sets zero q = omega arith
+sets_with-take_le [] (suc k) q = omega arith
+sets_with-take_le (one ∷ sets) (suc k) q = omega (arith, sets_with-take_le sets k q, bit_at-lt one q)
+
+pub sets_with-none : (sets : List ℕ) (q : ℕ) → sets_with (take 0 sets) q ≡ 0
+unfolding sets_with
+sets_with-none sets q = refl
+
+pub sets_with-all : (sets : List ℕ) (k q : ℕ) → length sets ≤ k → sets_with (take k sets) q ≡ sets_with sets q
+sets_with-all sets k q long = rw (take_all k sets long) refl
+
+-- seven sets, one by one
+pub sets_with-seven : (sets : List ℕ) (a b c d e f g q : ℕ) → length sets ≡ 7
+    → sets_with sets q ≡ bit_at (get_or sets 0 a) q + bit_at (get_or sets 1 b) q + bit_at (get_or sets 2 c) q + bit_at (get_or sets 3 d) q
+    + bit_at (get_or sets 4 e) q + bit_at (get_or sets 5 f) q + bit_at (get_or sets 6 g) q
+sets_with-seven sets a b c d e f g q long =
+    omega (
+      arith,
+      sets_with-none sets q,
+      sets_with-all sets 7 q (omega arith),
+      sets_with-next sets 0 a q (omega arith),
+      sets_with-next sets 1 b q (omega arith),
+      sets_with-next sets 2 c q (omega arith),
+      sets_with-next sets 3 d q (omega arith),
+      sets_with-next sets 4 e q (omega arith),
+      sets_with-next sets 5 f q (omega arith),
+      sets_with-next sets 6 g q (omega arith),
+    )
+
 -- the count of a member
-pub get_or-counts_in : {W : ℕ} (ds : List (Digits W)) (q : ℕ) → q < 64 * W → get_or (counts_in W ds) q 0 ≡ count_in ds q
+pub get_or-counts_in : {W : ℕ} (sets : List ℕ) (filled : ℕ) (low : Low W) (ds : List (Digits W)) (q : ℕ) → q < 64 * W
+    → get_or (counts_in W sets filled low ds) q 0 ≡ count_of sets filled low ds q
 unfolding counts_in
-get_or-counts_in {W} ds q inside = get_or-map-range_with_len (count_in ds) 0 (64 * W) q q 0 inside (omega arith)
+get_or-counts_in {W} sets filled low ds q inside = get_or-map-range_with_len (count_of sets filled low ds) 0 (64 * W) q q 0 inside (omega arith)
 
-pub counts_in_past : {W : ℕ} (ds : List (Digits W)) (q : ℕ) → 64 * W ≤ q → get_or (counts_in W ds) q 0 ≡ 0
+pub counts_in_past : {W : ℕ} (sets : List ℕ) (filled : ℕ) (low : Low W) (ds : List (Digits W)) (q : ℕ) → 64 * W ≤ q
+    → get_or (counts_in W sets filled low ds) q 0 ≡ 0
 unfolding counts_in
-counts_in_past {W} ds q past =
-    get_or_past (map (count_in ds) (range_with_len 0 (64 * W))) q 0 (omega (arith, length-map-range_with_len (count_in ds) 0 (64 * W)))
+counts_in_past {W} sets filled low ds q past =
+    get_or_past (map (count_of sets filled low ds) (range_with_len 0 (64 * W))) q 0 (omega (arith, length-map-range_with_len (count_of sets filled low ds) 0 (64 * W)))
 
--- with no digits all are 0
-pub counts_in-none : (W : ℕ) → counts_in W [] ≡ replicate (64 * W) 0
-unfolding count_in counts_in
-counts_in-none W = ext_get_or 0 (counts_in W []) (replicate (64 * W) 0)
-    (length-map-range_with_len (count_in {W = W} []) 0 (64 * W) ∙ sym (length-replicate (64 * W) 0))
+-- with nothing added up and no set waiting all are 0
+pub counts_in-none : (W : ℕ) (sets : List ℕ) (low : Low W) → ((q : ℕ) → low_count low q ≡ 0) → counts_in W sets 0 low [] ≡ replicate (64 * W) 0
+unfolding counts_in
+counts_in-none W sets low none = ext_get_or 0 (counts_in W sets 0 low []) (replicate (64 * W) 0)
+    (length-map-range_with_len (count_of sets 0 low []) 0 (64 * W) ∙ sym (length-replicate (64 * W) 0))
     (λ k inside.
-    let short : k < 64 * W = omega (arith, length-map-range_with_len (count_in {W = W} []) 0 (64 * W)) in
-    get_or-counts_in {W = W} [] k short ∙ sym (get_or-replicate (64 * W) k 0 0 short))
+    let short : k < 64 * W = omega (arith, length-map-range_with_len (count_of sets 0 low []) 0 (64 * W)) in
+    let zero : count_of sets 0 low [] k ≡ 0 = omega (arith, sets_with-none sets k, none k, count_in-empty W k) in
+    get_or-counts_in sets 0 low [] k short ∙ (zero ∙ sym (get_or-replicate (64 * W) k 0 0 short)))
+
+-- a list of digits of which the first three come by themselves
+pub three-count : {W : ℕ} (ds es : List (Digits W)) (q : ℕ) → length ds ≡ 3 → count_in (ds ++ es) q ≡ count_in ds q + 8 * count_in es q
+three-count ds es q three = count_in-append ds es q ∙ (rw three refl)
+
+-- ---- one set more
+
+pub has_bit : (set q : ℕ) → Has set q → bit_at set q ≡ 1
+unfolding Has
+has_bit set q has = has
+
+pub lacks_bit : (set q : ℕ) → (Has set q → ⊥) → bit_at set q ≡ 0
+unfolding Has
+lacks_bit set q lacks = let small = bit_at-lt set q in elim (cases_eq (bit_at set q) 1) [ inl one ↦ absurd (lacks one) | inr other ↦ omega arith ]
+
+-- each member's count is one more where the set has it
+abbrev pub HasMore : {W : ℕ} → List ℕ → ℕ → Low W → List (Digits W) → List ℕ → ℕ → Low W → List (Digits W) → ℕ → Type 0
+HasMore {W} sets filled low ds later waits high es one = (q : ℕ) → q < 64 * W → count_of later waits high es q ≡ count_of sets filled low ds q + bit_at one q
+
+pub more-members : {W : ℕ} (sets : List ℕ) (filled : ℕ) (low : Low W) (ds : List (Digits W)) (later : List ℕ) (waits : ℕ) (high : Low W) (es : List (Digits W)) (one : ℕ) (old : List ℕ)
+    → HasMore sets filled low ds later waits high es one → counts_in W sets filled low ds ≡ old → (q : ℕ) → q < 64 * W → Has one q
+    → get_or (counts_in W later waits high es) q 0 ≡ get_or old q 0 + 1
+more-members {W} sets filled low ds later waits high es one old more same q inside has =
+    let after = get_or-counts_in later waits high es q inside in
+    let before = get_or-counts_in sets filled low ds q inside in
+    let was : get_or (counts_in W sets filled low ds) q 0 ≡ get_or old q 0 = ap (λ (cs : List ℕ). get_or cs q 0) same in
+    omega (arith, after, before, was, more q inside, has_bit one q has)
+
+pub more-others : {W : ℕ} (sets : List ℕ) (filled : ℕ) (low : Low W) (ds : List (Digits W)) (later : List ℕ) (waits : ℕ) (high : Low W) (es : List (Digits W)) (one : ℕ) (old : List ℕ)
+    → HasMore sets filled low ds later waits high es one → counts_in W sets filled low ds ≡ old → (q : ℕ) → (Has one q → ⊥)
+    → get_or (counts_in W later waits high es) q 0 ≡ get_or old q 0
+more-others {W} sets filled low ds later waits high es one old more same q lacks =
+    let was : get_or (counts_in W sets filled low ds) q 0 ≡ get_or old q 0 = ap (λ (cs : List ℕ). get_or cs q 0) same in
+    elim (cases_lt q (64 * W)) [
+      | inl inside ↦
+          let after = get_or-counts_in later waits high es q inside in
+          let before = get_or-counts_in sets filled low ds q inside in
+          omega (arith, after, before, was, more q inside, lacks_bit one q lacks)
+      | inr past ↦
+          let after = counts_in_past later waits high es q past in
+          let before = counts_in_past sets filled low ds q past in
+          omega (arith, after, before, was)
+    ]
+
+-- it waits
+pub wait-more : {W : ℕ} (sets : List ℕ) (filled : ℕ) (low : Low W) (ds : List (Digits W)) (one : ℕ) → filled < length sets
+    → HasMore sets filled low ds (set sets filled one) (filled + 1) low ds one
+wait-more sets filled low ds one room q inside = omega (arith, sets_with-waits sets filled one q room)
+
+-- it is added up with those that wait
+pub added-more : {W : ℕ} (sets : List ℕ) (filled : ℕ) (low : Low W) (ds : List (Digits W)) (high : Low W) (es : List (Digits W)) (one : ℕ) → length sets ≤ filled
+    → ((q : ℕ) → q < 64 * W → added_up high es q ≡ added_up low ds q + sets_with sets q + bit_at one q)
+    → HasMore sets filled low ds sets 0 high es one
+added-more sets filled low ds high es one full sum_is q inside =
+    omega (arith, sum_is q inside, sets_with-all sets filled q full, sets_with-none sets q)
+
+pub AreCounts-more : {W filled added members : ℕ} {low high : Low W} {ds es : List (Digits W)} (sets : List ℕ) (one : ℕ) → AreCounts W filled low ds added members → length sets ≡ 7 → added + 16 < 2 ^ 64
+    → ((q : ℕ) → q < 64 * W → added_up high es q ≡ added_up low ds q + sets_with sets q + bit_at one q)
+    → AreCounts W 0 high es (added + 8) members
+AreCounts-more sets one was seven fits sum_is = record {
+  narrow = was.narrow;
+  waits = omega arith;
+  fits = omega arith;
+  few = λ q inside. omega (arith, was.few q inside, sum_is q inside, sets_with-le sets q, bit_at-lt one q);
+  known = was.known;
+}
 
 -- A member's count against a threshold, as far as the digits before a power of two go: what the digits leave of
 -- the count and of the threshold, and whether the first reaches the second.
@@ -170,15 +307,12 @@ IsCompared-clear {power} {rest} {threshold} {before} {after} {carry} {carried} {
       ];
     }
 
-pub count_in-empty : (W q : ℕ) → count_in {W = W} [] q ≡ 0
-unfolding count_in
-count_in-empty W q = refl
-
-pub AreCounts-none : (W members : ℕ) → W ≤ 17 → ((q : ℕ) → Has members q ↔ (q < 64 * W)) → AreCounts W [] 0 members
-AreCounts-none W members narrow known = record {
+pub AreCounts-none : (W members : ℕ) (low : Low W) → W ≤ 17 → ((q : ℕ) → low_count low q ≡ 0) → ((q : ℕ) → Has members q ↔ (q < 64 * W)) → AreCounts W 0 low [] 0 members
+AreCounts-none W members low narrow none known = record {
   narrow = narrow;
+  waits = omega arith;
   fits = omega arith;
-  few = λ q. omega (arith, count_in-empty W q);
+  few = λ q inside. omega (arith, none q, count_in-empty W q);
   known = known;
 }
 
@@ -206,7 +340,7 @@ pub record AreCompared {W : ℕ} (ds : List (Digits W)) (k members threshold res
   pub within : (q : ℕ) → Has reaching q → Has members q
   pub compared : (q : ℕ) → Has members q → IsCompared (2 ^ k) rest threshold reaching (bit_in carry q) (count_in (take k ds) q) q
 
-bit_in-none : (width q : ℕ) → bit_in (replicate width 0) q ≡ 0
+pub bit_in-none : (width q : ℕ) → bit_in (replicate width 0) q ≡ 0
 bit_in-none width q = elim (cases_lt (q / 64) width) [
   | inl inside ↦ rw (get_or-replicate {A = ℕ} width (q / 64) 0 0 inside) (bit_at-zero (q % 64))
   | inr outside ↦ rw (get_or_past {X = ℕ} (replicate width 0) (q / 64) 0 (omega (arith, length-replicate {A = ℕ} width 0))) (bit_at-zero (q % 64))
@@ -309,14 +443,6 @@ not_reached ds k members threshold rest carry before was over large q = (
       absurd (too_great at up_then large (bit_at-lt (get_or carry (q / 64) 0) (q % 64)))),
 )
 
-pub has_bit : (set q : ℕ) → Has set q → bit_at set q ≡ 1
-unfolding Has
-has_bit set q has = has
-
-pub lacks_bit : (set q : ℕ) → (Has set q → ⊥) → bit_at set q ≡ 0
-unfolding Has
-lacks_bit set q lacks = let small = bit_at-lt set q in elim (cases_eq (bit_at set q) 1) [ inl one ↦ absurd (lacks one) | inr other ↦ omega arith ]
-
 -- the count from a digit on is at most the whole one, and so is twice that from the next one on
 pub counted_on : {W : ℕ} (ds : List (Digits W)) (k : ℕ) (e : Digits W) (q : ℕ) → 0 < k → k ≤ length ds
     → count_in (drop (k - 1) ds) q ≡ digit (get_or ds (k - 1) e) q + 2 * count_in (drop k ds) q
@@ -324,3 +450,14 @@ counted_on ds k e q some within =
     let back : k - 1 + 1 ≡ k = omega arith in
     let next = count_in-drop ds (k - 1) e q (omega arith) in
     rw back at next
+
+-- of two lists of digits together, one of the first, and one behind the first three
+pub get_or-front : {W : ℕ} (ds es : List (Digits W)) (k : ℕ) (d : Digits W) → k < length ds → d ≡ get_or ds k d
+    → get_or ds k d ≡ get_or (ds ++ es) k (get_or ds k d)
+get_or-front {W} ds es k d inside read =
+    subst (λ (e : Digits W). e ≡ get_or (ds ++ es) k e) read (read ∙ sym (get_or_append_left ds es d k inside))
+
+pub get_or-behind : {W : ℕ} (ds es : List (Digits W)) (k : ℕ) (d : Digits W) → length ds ≡ 3 → get_or (ds ++ es) (3 + k) d ≡ get_or es k d
+get_or-behind ds es k d three =
+    let place : 3 + k ≡ length ds + k = omega arith in
+    ap (λ (n : ℕ). get_or (ds ++ es) n d) place ∙ get_or-append-add ds es k d

@@ -1,18 +1,14 @@
 //! Rows of bits, a bit for each member.
 
-ghost use Rattle.std.specs.Prelude.{◌≡◌, ℕ, ◌+◌, ◌*◌, ◌<◌};
+ghost use Rattle.std.specs.Prelude.{◌≡◌, ℕ, ◌+◌, ◌*◌, ◌<◌, length};
 ghost use Rattle.std.specs.Int.{bit_at};
 ghost use Rattle.member_counts.specs.Digits.{bit_in};
 
-use state_bits::StateSet;
-
 /// Adds two rows to a third, each bit by itself. What is carried.
 #[inline]
-pub(crate) fn add_rows<const W: usize>(
-    sum: &mut [u64; W],
-    one: &[u64; W],
-    other: &[u64; W],
-) -> [u64; W]
+pub(crate) fn add_rows<const W: usize>(sum: &mut [u64; W], one: &[u64], other: &[u64]) -> [u64; W]
+    requires one { length one.now ≡ W }
+    requires other { length other.now ≡ W }
     ensures { (q : ℕ) → bit_in sum.new q + 2 * bit_in result q
         ≡ bit_in sum.old q + bit_in one.now q + bit_in other.now q }
 {
@@ -41,14 +37,4 @@ pub(crate) fn bit<const W: usize>(row: &[u64; W], member: u32) -> u64
     ensures { result ≡ bit_in row.now member }
 {
     (row[(member / 64) as usize] >> (member % 64)) & 1
-}
-
-/// The bits of the members of a set.
-#[inline]
-pub(crate) fn row_of<const W: usize>(set: &StateSet<W>) -> [u64; W]
-    ensures { (q : ℕ) → q < 64 * W → bit_in result q ≡ bit_at set.now q }
-{
-    let mut row = [0; W];
-    row.copy_from_slice(set.words());
-    row
 }

@@ -4,6 +4,7 @@
 mod bits;
 mod counts;
 mod digits;
+mod low;
 mod reaching;
 
 pub use counts::MemberCounts;

@@ -1,6 +1,6 @@
 //! Which counts reach a threshold.
 
-ghost use Rattle.std.specs.Prelude.{◌≡◌, ℕ, ◌<◌, ◌≤◌, ◌↔◌, ◌⊎◌};
+ghost use Rattle.std.specs.Prelude.{◌≡◌, ℕ, ◌<◌, ◌≤◌, ◌↔◌, ◌⊎◌, ◌++◌};
 ghost use Rattle.std.specs.Bool.{OnTrue, OnFalse};
 ghost use Rattle.state_bits.specs.Members.{Has, HasBit};
 ghost use Rattle.member_counts.specs.Counts.{count_in};
@@ -12,17 +12,30 @@ use state_bits::StateSet;
 /// more in front, a number is at least another one where its bit is the greater, or where both are the same
 /// and it was before.
 pub(crate) fn reaching<const W: usize>(
-    digits: &[Digits<W>],
+    low: &[Digits<W>; 3],
+    high: &[Digits<W>],
     members: &StateSet<W>,
     threshold: u64,
 ) -> StateSet<W>
     requires { W ≤ 17 }
-    ensures { (q : ℕ) → Has result q ↔ (Has members.now q × (threshold ≤ count_in digits.now q)) }
+    ensures { (q : ℕ) → Has result q
+        ↔ (Has members.now q × (threshold ≤ count_in (low.now ++ high.now) q)) }
 {
     let mut reaching = *members;
-    let mut carry = [0; W];
     let mut rest = threshold;
-    for digit in digits {
+    let mut row = [0; W];
+    let two = low[0].add_to(&mut row);
+    compare(&mut reaching, members, &row, rest % 2 == 1);
+    rest /= 2;
+    row = two;
+    let four = low[1].add_to(&mut row);
+    compare(&mut reaching, members, &row, rest % 2 == 1);
+    rest /= 2;
+    row = four;
+    let mut carry = low[2].add_to(&mut row);
+    compare(&mut reaching, members, &row, rest % 2 == 1);
+    rest /= 2;
+    for digit in high {
         let mut row = carry;
         carry = digit.add_to(&mut row);
         compare(&mut reaching, members, &row, rest % 2 == 1);

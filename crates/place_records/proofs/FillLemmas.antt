@@ -18,36 +18,34 @@ use Rattle.sequence_grids.specs.declared.kinds.Kinds.{Kinds}
 use Rattle.sequence_grids.specs.Columns.{AreColumns}
 use Rattle.sequence_grids.specs.Grids.{GridList, items_at}
 use Rattle.sequence_grids.specs.Kinds.{Extends, IsTarget, HasKind, row_at}
-use Rattle.sequence_grids.specs.Tables.{TableValue}
+use Rattle.sequence_grids.specs.Tables.{ClassSets, TableValue}
 use Rattle.sequence_grids.proofs.GridLemmas.{HasCell-of}
-use Rattle.sequence_grids.proofs.KindLemmas.{once_by_rising}
+use Rattle.sequence_grids.proofs.KindLemmas.{once_by_rising, Extends-nothing}
 use Rattle.walk_memo.specs.Moves.{MoveSets}
 use Rattle.walk_places.specs.declared.places.Record.{Record}
 use Rattle.place_records.specs.Records.{AreRecords, AreRanksAt, IsDead, IsRecordAt, NamesMoves, start_of}
 use Rattle.place_records.specs.Ranks.{RanksValue, ranks_in, ranks_of, CanAskOf}
 use Rattle.place_records.specs.Twins.{TwinSets, dead_move, dead_twin, move_in}
-use Rattle.place_records.specs.Numbers.{TwinsValue, TwinsGrow}
-use Rattle.place_records.proofs.NumberLemmas.{TwinsGrow-nothing}
-use Rattle.place_records.specs.Filled.{IsRecordBy, AreUpTo, AreHere, AreKnown, AreKept, AreFilledTo, wall_record}
+use Rattle.place_records.specs.Filled.{IsRecordBy, AreUpTo, AreHere, AreKnown, AreKept, AreFilledTo, AreMade, wall_record}
 
-pub IsRecordBy-grow : (problem : Problem) (bound : Bound) (twins after : TwinsValue) (kinds : Kinds) (t : Item) (rest : List Item) (entry : Record)
-    → IsRecordBy problem bound twins kinds t rest entry → TwinsGrow twins after → IsRecordBy problem bound after kinds t rest entry
-IsRecordBy-grow problem bound twins after kinds t rest entry is grows = record {
-  kind_is = subst (λ (v : TableValue). HasKind problem bound v.classes kinds t entry.kind) (sym grows.table) is.kind_is;
+pub IsRecordBy-grow : (problem : Problem) (bound : Bound) (twins after : List TwinSets) (kinds : Kinds) (t : Item) (rest : List Item) (entry : Record)
+    → IsRecordBy problem bound twins kinds t rest entry → Extends twins after → IsRecordBy problem bound after kinds t rest entry
+IsRecordBy-grow problem bound twins after kinds t rest entry is (more, grown) = record {
+  kind_is = is.kind_is;
   twin = is.twin;
-  there = let (more, grown) = grows.twins in rw grown (get-left twins.twins more entry.of is.twin is.there);
+  there = rw grown (get-left twins more entry.of is.twin is.there);
   early_is = is.early_is;
   late_is = is.late_is;
 }
 
-pub AreUpTo-grow : (problem : Problem) (bound : Bound) (twins after : TwinsValue) (kinds : Kinds) (items : List Item) (places longer : List Record) (start count : ℕ)
-    → AreUpTo problem bound twins kinds items places start count → TwinsGrow twins after → Extends places longer → AreUpTo problem bound after kinds items longer start count
+pub AreUpTo-grow : (problem : Problem) (bound : Bound) (twins after : List TwinSets) (kinds : Kinds) (items : List Item) (places longer : List Record) (start count : ℕ)
+    → AreUpTo problem bound twins kinds items places start count → Extends twins after → Extends places longer → AreUpTo problem bound after kinds items longer start count
 AreUpTo-grow problem bound twins after kinds items places longer start count are grows (more, grown) position t below there =
     let (entry, found, is) = are position t below there in
     (entry, (rw grown (get-left places more (start + position) entry found)), IsRecordBy-grow problem bound twins after kinds t (drop (position + 1) items) entry is grows)
 
-pub AreUpTo-more : (problem : Problem) (bound : Bound) (twins after : TwinsValue) (kinds : Kinds) (items : List Item) (places longer : List Record) (start count : ℕ) (entry : Record)
-    → AreUpTo problem bound twins kinds items places start count → TwinsGrow twins after → longer ≡ places ++ entry ∷ [] → length places ≡ start + count
+pub AreUpTo-more : (problem : Problem) (bound : Bound) (twins after : List TwinSets) (kinds : Kinds) (items : List Item) (places longer : List Record) (start count : ℕ) (entry : Record)
+    → AreUpTo problem bound twins kinds items places start count → Extends twins after → longer ≡ places ++ entry ∷ [] → length places ≡ start + count
     → ((t : Item) → slice_get items count ≡ Some t → IsRecordBy problem bound after kinds t (drop (count + 1) items) entry)
     → AreUpTo problem bound after kinds items longer start (count + 1)
 AreUpTo-more problem bound twins after kinds items places longer start count entry are grows pushed long is position t below there = elim (cases_eq position count) [
@@ -63,11 +61,11 @@ AreUpTo-more problem bound twins after kinds items places longer start count ent
 pub Extends-long : {X : Type 0} (xs ys : List X) → Extends xs ys → length xs ≤ length ys
 Extends-long xs ys (more, is) = let long : length ys ≡ length (xs ++ more) = ap length is in omega (arith, long, length-append xs more)
 
-pub AreKnown-more : (twins after : TwinsValue) (places longer : List Record) (entry : Record) → AreKnown twins places → TwinsGrow twins after → longer ≡ places ++ entry ∷ []
-    → entry.of < length after.twins → AreKnown after longer
+pub AreKnown-more : (twins after : List TwinSets) (places longer : List Record) (entry : Record) → AreKnown twins places → Extends twins after → longer ≡ places ++ entry ∷ []
+    → entry.of < length after → AreKnown after longer
 AreKnown-more twins after places longer entry known grows pushed inside other held =
     elim (Contains-append_cases places (entry ∷ []) other (subst (λ (ps : List Record). Contains ps other) pushed held)) [
-      | inl before ↦ let below = known other before in omega (arith, below, Extends-long twins.twins after.twins grows.twins)
+      | inl before ↦ let below = known other before in omega (arith, below, Extends-long twins after grows)
       | inr last ↦ elim (Contains-cases entry [] other last) [ inl same ↦ rw same inside | inr none ↦ absurd (Contains-none other none) ]
     ]
 
@@ -77,22 +75,26 @@ first-kept before after first (more, is) = rw is (get-left before more 0 dead_tw
 
 -- ---- the records of one sequence
 
-pub AreHere-all : (problem : Problem) (bound : Bound) (twins : TwinsValue) (kinds : Kinds) (items : List Item) (places longer : List Record) (start count : ℕ)
+pub AreHere-all : (problem : Problem) (bound : Bound) (twins : List TwinSets) (kinds : Kinds) (items : List Item) (places longer : List Record) (start count : ℕ)
     → AreUpTo problem bound twins kinds items places start count → length items ≡ count → longer ≡ places ++ wall_record ∷ [] → length places ≡ start + count
-    → AreHere problem bound twins kinds items longer start
-AreHere-all problem bound twins kinds items places longer start count are all pushed long = record {
-  all = λ position t below there. AreUpTo-grow problem bound twins twins kinds items places longer start count are (TwinsGrow-nothing twins) (wall_record ∷ [], pushed) position t (omega (arith, below, all)) there;
+    → slice_get twins 0 ≡ Some dead_twin → AreHere problem bound twins kinds items longer start
+AreHere-all problem bound twins kinds items places longer start count are all pushed long first = record {
+  all = λ position t below there. AreUpTo-grow problem bound twins twins kinds items places longer start count are (Extends-nothing twins) (wall_record ∷ [], pushed) position t (omega (arith, below, all)) there;
   wall =
       let last : slice_get longer (length places) ≡ Some wall_record = rw pushed (get_last places wall_record) in
       let at : length places ≡ start + length items = omega (arith, long, all) in
-      subst (λ (n : ℕ). slice_get longer n ≡ Some wall_record) at last;
+      (wall_record, subst (λ (n : ℕ). slice_get longer n ≡ Some wall_record) at last, first);
 }
 
-pub AreHere-grow : (problem : Problem) (bound : Bound) (twins after : TwinsValue) (kinds : Kinds) (items : List Item) (places longer : List Record) (start : ℕ)
-    → AreHere problem bound twins kinds items places start → TwinsGrow twins after → Extends places longer → AreHere problem bound after kinds items longer start
+pub AreHere-grow : (problem : Problem) (bound : Bound) (twins after : List TwinSets) (kinds : Kinds) (items : List Item) (places longer : List Record) (start : ℕ)
+    → AreHere problem bound twins kinds items places start → Extends twins after → Extends places longer → AreHere problem bound after kinds items longer start
 AreHere-grow problem bound twins after kinds items places longer start are grows extends = record {
   all = AreUpTo-grow problem bound twins after kinds items places longer start (length items) are.all grows extends;
-  wall = let (more, grown) = extends in rw grown (get-left places more (start + length items) wall_record are.wall);
+  wall =
+      let (more, grown) = extends in
+      let (others, longer_list) = grows in
+      let (entry, found, dead) = are.wall in
+      (entry, (rw grown (get-left places more (start + length items) entry found)), (rw longer_list (get-left twins others entry.of dead_twin dead)));
 }
 
 -- ---- those of one more sequence
@@ -100,7 +102,7 @@ AreHere-grow problem bound twins after kinds items places longer start are grows
 pub start_of-more : (part : GridList) (grid : ℕ) → grid < length part.sequences → start_of part (grid + 1) ≡ start_of part grid + (length (items_at part grid) + 1)
 start_of-more part grid inside = sum_by_more (λ i. length (items_of part.problem i) + 1) part.sequences grid 0 inside
 
-pub AreFilledTo-none : (part : GridList) (twins : TwinsValue) (kinds : Kinds) → AreFilledTo part twins kinds [] 0
+pub AreFilledTo-none : (part : GridList) (twins : List TwinSets) (kinds : Kinds) → AreFilledTo part twins kinds [] 0
 AreFilledTo-none part twins kinds = record {
   long = refl;
   few = omega arith;
@@ -108,8 +110,8 @@ AreFilledTo-none part twins kinds = record {
   here = λ grid none. absurd (omega (arith, none));
 }
 
-pub AreFilledTo-more : (part : GridList) (twins after : TwinsValue) (kinds : Kinds) (places longer : List Record) (grid : ℕ) → AreFilledTo part twins kinds places grid
-    → grid < length part.sequences → TwinsGrow twins after → Extends places longer → length longer ≡ length places + length (items_at part grid) + 1 → length longer < 2 ^ 32
+pub AreFilledTo-more : (part : GridList) (twins after : List TwinSets) (kinds : Kinds) (places longer : List Record) (grid : ℕ) → AreFilledTo part twins kinds places grid
+    → grid < length part.sequences → Extends twins after → Extends places longer → length longer ≡ length places + length (items_at part grid) + 1 → length longer < 2 ^ 32
     → AreKnown after longer → AreHere part.problem part.bound after kinds (items_at part grid) longer (length places)
     → AreFilledTo part after kinds longer (grid + 1)
 AreFilledTo-more part twins after kinds places longer grid filled inside grows extends long few known here = record {
@@ -148,6 +150,36 @@ AreKept-of problem bound table kinds after places ends sequences are columns sam
       );
 }
 
+-- the records are those of other kinds, too, that differ in what serves to find more of them
+module _ (problem : Problem) (bound : Bound) (kinds after : Kinds) (columns : after.columns ≡ kinds.columns) (same : after.kinds ≡ kinds.kinds) (ends : after.ends ≡ kinds.ends) (ranks : after.ranks ≡ kinds.ranks) where
+  IsRecordBy-same : (twins : List TwinSets) (t : Item) (rest : List Item) (entry : Record) → IsRecordBy problem bound twins kinds t rest entry → IsRecordBy problem bound twins after t rest entry
+  IsRecordBy-same twins t rest entry is = record {
+    kind_is =
+        let classes = is.kind_is.0 in
+        (classes, HasKind-same problem bound (record { predecessors = []; classes = classes; triples = [] }) kinds after columns same ends ranks t entry.kind is.kind_is.1);
+    twin = is.twin;
+    there = is.there;
+    early_is = is.early_is;
+    late_is = is.late_is;
+  }
+
+  AreHere-same : (twins : List TwinSets) (items : List Item) (places : List Record) (start : ℕ) → AreHere problem bound twins kinds items places start → AreHere problem bound twins after items places start
+  AreHere-same twins items places start are = record {
+    all = λ position t below there. let (entry, found, is) = are.all position t below there in (entry, found, IsRecordBy-same twins t (drop (position + 1) items) entry is);
+    wall = are.wall;
+  }
+
+  pub AreMade-same : (sequences : List ℕ) (places : List Record) (early late : List MoveSets) → AreMade problem bound kinds sequences places early late → AreMade problem bound after sequences places early late
+  AreMade-same sequences places early late made =
+      let part : GridList = record { problem = problem; bound = bound; sequences = sequences } in
+      let filled = made.filled in
+      record {
+        twins = made.twins;
+        filled = record { long = filled.long; few = filled.few; known = filled.known; here = λ grid below. AreHere-same made.twins (items_at part grid) places (start_of part grid) (filled.here grid below) };
+        early_are = made.early_are;
+        late_are = made.late_are;
+      }
+
 -- ---- the records of a part
 
 dead_is : IsDead dead_move
@@ -159,21 +191,21 @@ dead_is = record {
   ends = λ k has. Has-none k has;
 }
 
-module _ (part : GridList) (twins : TwinsValue) (kinds : Kinds) (places : List Record) (early late : List MoveSets) (columns : AreColumns part.problem.machine.labels kinds.columns.numbers.items kinds.columns.heads.items)
-    (filled : AreFilledTo part twins kinds places (length part.sequences)) (first : slice_get twins.twins 0 ≡ Some dead_twin)
-    (early_are : early ≡ map (move_in false) twins.twins) (late_are : late ≡ map (move_in true) twins.twins) (keeps : Bool) where
+module _ (part : GridList) (twins : List TwinSets) (kinds : Kinds) (places : List Record) (early late : List MoveSets) (columns : AreColumns part.problem.machine.labels kinds.columns.numbers.items kinds.columns.heads.items)
+    (filled : AreFilledTo part twins kinds places (length part.sequences))
+    (early_are : early ≡ map (move_in false) twins) (late_are : late ≡ map (move_in true) twins) (keeps : Bool) where
   abbrev pub table : RanksValue
   table = record { kinds = kinds; keeps = keeps }
 
-  names : (entry : Record) (twin : TwinSets) → slice_get twins.twins entry.of ≡ Some twin → NamesMoves early late entry twin.early twin.late
+  names : (entry : Record) (twin : TwinSets) → slice_get twins entry.of ≡ Some twin → NamesMoves early late entry twin.early twin.late
   names entry twin there = record {
-    early_is = rw early_are (slice_get-mapped_by (move_in false) twins.twins entry.of twin there);
-    late_is = rw late_are (slice_get-mapped_by (move_in true) twins.twins entry.of twin there);
+    early_is = rw early_are (slice_get-mapped_by (move_in false) twins entry.of twin there);
+    late_is = rw late_are (slice_get-mapped_by (move_in true) twins entry.of twin there);
   }
 
-  ranks_are : (t : Item) (number k : ℕ) → HasKind part.problem part.bound twins.table.classes kinds t number → IsTarget part.problem k
+  ranks_are : (t : Item) (number k : ℕ) (classes : List ClassSets) → HasKind part.problem part.bound classes kinds t number → IsTarget part.problem k
       → AreRanksAt part.problem part.bound t (ranks_of table) number k
-  ranks_are t number k (kind, found, is) target =
+  ranks_are t number k classes (kind, found, is) target =
       let cell = is.cells k target in
       let same : ranks_of table number k ≡ row_at kinds.ends.items kinds.ranks.items kind.base (slice_index kinds.columns.numbers.items k) = ap (λ o. ranks_in kinds o k) found in
       record { exact = rw same cell.outputs; once = rw same (once_by_rising _ cell.rising) }
@@ -184,16 +216,18 @@ module _ (part : GridList) (twins : TwinsValue) (kinds : Kinds) (places : List R
     before = is.twin.early;
     behind = is.twin.late;
     names = names entry is.twin is.there;
-    asked = λ k target. HasCell-of part.problem part.bound twins.table kinds t entry.kind k columns is.kind_is target;
-    ranks_are = λ k target. ranks_are t entry.kind k is.kind_is target;
+    asked = λ k target.
+        let classes = is.kind_is.0 in
+        HasCell-of part.problem part.bound (record { predecessors = []; classes = classes; triples = [] }) kinds t entry.kind k columns is.kind_is.1 target;
+    ranks_are = λ k target. ranks_are t entry.kind k is.kind_is.0 is.kind_is.1 target;
     early_is = is.early_is;
     late_is = is.late_is;
   }
 
   pub AreRecords-of : AreRecords part places early late (ranks_of table) (CanAskOf table)
   AreRecords-of =
-      let long_early : length early ≡ length twins.twins = ap length early_are ∙ length-map twins.twins (move_in false) in
-      let long_late : length late ≡ length twins.twins = ap length late_are ∙ length-map twins.twins (move_in true) in
+      let long_early : length early ≡ length twins = ap length early_are ∙ length-map twins (move_in false) in
+      let long_late : length late ≡ length twins = ap length late_are ∙ length-map twins (move_in true) in
       record {
         long = filled.long;
         few = filled.few;
@@ -204,5 +238,5 @@ module _ (part : GridList) (twins : TwinsValue) (kinds : Kinds) (places : List R
             let within = slice_get_within (items_at part grid) position t there in
             let (entry, found, is) = here.all position t within there in
             (entry, found, record_at t (drop (position + 1) (items_at part grid)) entry is);
-        wall = λ grid below. (wall_record, dead_move, dead_move, (filled.here grid below).wall, names wall_record dead_twin first, dead_is, dead_is);
+        wall = λ grid below. let (entry, found, dead) = (filled.here grid below).wall in (entry, dead_move, dead_move, found, names entry dead_twin dead, dead_is, dead_is);
       }

@@ -2,3 +2,4 @@ pub mod TwinLemmas
 pub mod NumberLemmas
 pub mod RecordLemmas
 pub mod FillLemmas
+pub mod BlockLemmas

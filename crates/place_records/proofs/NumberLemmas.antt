@@ -4,7 +4,7 @@ use Rattle.std.specs.List.{slice_index}
 use Rattle.mine_model.proofs.ElementLemmas.{get-left}
 use Rattle.mine_model.specs.Lists.{AddsTo}
 use Rattle.sequence_grids.specs.Kinds.{Extends}
-use Rattle.sequence_grids.specs.Tables.{ClassSets, TripleSets, TableValue, row, unknown}
+use Rattle.sequence_grids.specs.Tables.{ClassSets, TripleSets, TableValue, Grows, row, unknown}
 use Rattle.sequence_grids.proofs.KindLemmas.{Extends-nothing, Extends-twice}
 use Rattle.place_records.specs.Twins.{TwinSets, AreTargets, IsTwinAt, dead_twin}
 use Rattle.place_records.specs.Numbers.{TwinsValue, TwinsGrow, AreTwins}
@@ -23,6 +23,26 @@ AreTwins-grow table needed targets twins after numbers are grown = record {
   targets_are = are.targets_are;
   first = let (more, is) = grown in rw is (get-left twins more 0 dead_twin are.first);
   numbers_are = λ i inside some. IsTwinAt-grow (length table.predecessors) needed table.classes table.triples twins after (i % row) (i / row) (slice_index numbers i) (are.numbers_are i inside some) grown;
+}
+
+-- the same once a table has grown
+pub AreTwins-reach : (table after : TableValue) (needed : Bool) (targets : ℕ) (twins : List TwinSets) (numbers : List ℕ)
+    → AreTwins table needed targets twins numbers → Grows table after → AreTwins after needed targets twins numbers
+AreTwins-reach table after needed targets twins numbers are grows = record {
+  targets_are = rw grows.predecessors are.targets_are;
+  first = are.first;
+  numbers_are = λ i inside some.
+      let (c, t, twin, found_c, found_t, found, is) = are.numbers_are i inside some in
+      let (classes, more_classes) = grows.classes in
+      let (triples, more_triples) = grows.triples in (
+        c,
+        t,
+        twin,
+        (rw more_classes (get-left table.classes classes (i % row) c found_c)),
+        (rw more_triples (get-left table.triples triples (i / row) t found_t)),
+        found,
+        (rw grows.predecessors is),
+      );
 }
 
 pub AreTwins-keep : (table : TableValue) (needed : Bool) (targets : ℕ) (twins : List TwinSets) (numbers after : List ℕ) (class behind number : ℕ)

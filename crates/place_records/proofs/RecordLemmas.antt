@@ -1,5 +1,6 @@
 -- The record of an item, from its kind, its class and the triple behind it.
 use Rattle.std.proofs.Common.{◌≡◌, ℕ, ◌+◌, ◌-◌, ◌<◌, ◌↔◌, Bool, true, false, List, length, drop, arith, sym, ap, ◌∙◌, subst, Some}
+use Rattle.std.specs.Bool.{IsTrue}
 use Rattle.std.specs.List.{slice_get}
 use Rattle.std.proofs.lemmas.Option.{slice_get_within, same_Some}
 use Rattle.mine_model.specs.declared.item.Item.{Item}
@@ -49,7 +50,7 @@ move_at problem bound t rest class triple needed goes move k of_class of_triple 
 pub record_by : (problem : Problem) (bound : Bound) (table : TableValue) (twins : TwinsValue) (kinds : Kinds) (t : Item) (rest : List Item) (kind : Kind) (number of behind : ℕ)
     → twins.table ≡ table → twins.needed ≡ goes_with bound.need → length table.predecessors ≡ length problem.machine.labels + 1
     → HasKind problem bound table.classes kinds t number → slice_get kinds.kinds.items number ≡ Some kind → HasTriple problem bound table.triples rest behind → HasTwin twins kind.class behind of
-    → IsRecordBy problem bound twins kinds t rest (record { kind = number; of = of })
+    → IsRecordBy problem bound twins.twins kinds t rest (record { kind = number; of = of })
 record_by problem bound table twins kinds t rest kind number of behind same_table same states (that, found_that, is_kind) found (triple, found_triple, is_triple) (c, b, twin, at_c, at_b, at_twin, is) =
     let that_kind : that ≡ kind = same_Some that kind (sym found_that ∙ found) in
     let (class, at_class, right) = is_kind.class in
@@ -63,7 +64,7 @@ record_by problem bound table twins kinds t rest kind number of behind same_tabl
     subst (λ (x : TripleSets). IsTwinOf (length twins.table.predecessors) twins.needed class x twin) same_triple
     (subst (λ (x : ClassSets). IsTwinOf (length twins.table.predecessors) twins.needed x b twin) same_class is) in
     record {
-      kind_is = subst (λ (v : TableValue). HasKind problem bound v.classes kinds t number) (sym same_table) (that, found_that, is_kind);
+      kind_is = (table.classes, (that, found_that, is_kind));
       twin = twin;
       there = at_twin;
       early_is = λ k target. move_at problem bound t rest class triple twins.needed false twin.early k right is_triple same target (twin_is.early_is k target.0 (let high = target.1 in omega (arith, all_states, high)));
@@ -118,6 +119,35 @@ module _ (problem : Problem) (bound : Bound) (table : TableValue) (kinds : Kinds
   pub record_is : (twins : TwinsValue) (place behind : Place) (kind : Kind) (of : ℕ) → slice_get kept (end - 1 - position) ≡ Some place → slice_get kept (end - 2 - position) ≡ Some behind
       → slice_get kinds.kinds.items place.kind ≡ Some kind → length table.predecessors ≡ length problem.machine.labels + 1 → twins.table ≡ table → twins.needed ≡ goes_with bound.need
       → HasTwin twins kind.class behind.triple of → (t : Item) → slice_get items position ≡ Some t
-      → IsRecordBy problem bound twins kinds t (drop (position + 1) items) (record { kind = place.kind; of = of })
+      → IsRecordBy problem bound twins.twins kinds t (drop (position + 1) items) (record { kind = place.kind; of = of })
   record_is twins place behind kind of found found_behind there states same needed twin t at_t =
       record_by problem bound table twins kinds t (drop (position + 1) items) kind place.kind of behind.triple same needed states ((place_is place found).kind t at_t) there (behind_is behind found_behind) twin
+
+-- ---- the place of all items
+
+module _ (problem : Problem) (bound : Bound) (table : TableValue) (kinds : Kinds) (kept : List Place) (end : ℕ) (items : List Item) (are : ArePlaces problem bound table kinds kept end items) where
+  pub first_within : end - 1 < length kept
+  first_within =
+      let (_, (place, found, _)) = are 0 (omega arith) in
+      let here : end - 1 - 0 ≡ end - 1 = omega arith in
+      subst (λ (n : ℕ). n < length kept) here (slice_get_within kept (end - 1 - 0) place found)
+
+  pub first_is : (place : Place) → slice_get kept (end - 1) ≡ Some place → HasTriple problem bound table.triples items place.triple
+  first_is place found =
+      let (_, (that, found_that, is)) = are 0 (omega arith) in
+      let here : end - 1 - 0 ≡ end - 1 = omega arith in
+      let same : that ≡ place = same_Some that place (sym found_that ∙ (ap (slice_get kept) here ∙ found)) in
+      subst (λ (p : Place). HasTriple problem bound table.triples items p.triple) same is.triple
+
+  pub first_triple : (place : Place) → slice_get kept (end - 1) ≡ Some place → place.triple < length table.triples
+  first_triple place found = let (triple, there, _) = first_is place found in slice_get_within table.triples place.triple triple there
+
+  pub some_place : 0 < end
+  some_place = (are 0 (omega arith)).0
+
+  -- whether the start completes
+  pub first_completes : (place : Place) → slice_get kept (end - 1) ≡ Some place → (answer : Bool) → ((t : TripleSets) → slice_get table.triples place.triple ≡ Some t
+      → (IsTrue answer ↔ Has (completing t false) 0)) → IsTrue answer ↔ Completes problem bound items 0 false
+  first_completes place found answer answers =
+      let (triple, there, is) = first_is place found in
+      through (answers triple there) (completes_by problem bound items triple is false 0 (omega arith))

@@ -7,27 +7,26 @@ use Rattle.sequence_grids.specs.declared.kinds.Kinds.{Kinds}
 use Rattle.sequence_grids.specs.declared.places.Place.{Place}
 use Rattle.sequence_grids.specs.Columns.{AreColumns}
 use Rattle.sequence_grids.specs.Grids.{GridList, items_at}
-use Rattle.sequence_grids.specs.Tables.{TableValue}
+use Rattle.sequence_grids.specs.Tables.{ClassSets, TableValue}
 use Rattle.sequence_grids.specs.Kinds.{IsTarget, HasKind}
 use Rattle.sequence_grids.specs.Places.{IsTableOf, ArePlaces}
 use Rattle.walk_memo.specs.Moves.{MoveSets}
 use Rattle.walk_places.specs.declared.places.Record.{Record}
 use Rattle.place_records.specs.Twins.{TwinSets, dead_twin, move_in}
-use Rattle.place_records.specs.Numbers.{TwinsValue}
 use Rattle.place_records.specs.Records.{IsMoveAt, start_of}
 
 -- the record has the kind of t, and names what its place does
-pub record IsRecordBy (problem : Problem) (bound : Bound) (twins : TwinsValue) (kinds : Kinds) (t : Item)
+pub record IsRecordBy (problem : Problem) (bound : Bound) (twins : List TwinSets) (kinds : Kinds) (t : Item)
     (rest : List Item) (entry : Record)
     : Type 0 where
-  pub kind_is : HasKind problem bound twins.table.classes kinds t entry.kind
+  pub kind_is : (classes : List ClassSets) × HasKind problem bound classes kinds t entry.kind
   pub twin : TwinSets
-  pub there : slice_get twins.twins entry.of ≡ Some twin
+  pub there : slice_get twins entry.of ≡ Some twin
   pub early_is : (k : ℕ) → IsTarget problem k → IsMoveAt problem bound false t rest twin.early k
   pub late_is : (k : ℕ) → IsTarget problem k → IsMoveAt problem bound true t rest twin.late k
 
 -- so many of the items have their records from the start on
-abbrev pub AreUpTo : Problem → Bound → TwinsValue → Kinds → List Item → List Record → ℕ → ℕ → Type 0
+abbrev pub AreUpTo : Problem → Bound → List TwinSets → Kinds → List Item → List Record → ℕ → ℕ → Type 0
 AreUpTo problem bound twins kinds items places start count =
     (position : ℕ) (t : Item) → position < count → slice_get items position ≡ Some t
     → (entry : Record) × (slice_get places (start + position) ≡ Some entry)
@@ -38,15 +37,16 @@ abbrev pub wall_record : Record
 wall_record = record { kind = 0; of = 0 }
 
 -- all have them, and a dead one is behind them
-pub record AreHere (problem : Problem) (bound : Bound) (twins : TwinsValue) (kinds : Kinds)
+pub record AreHere (problem : Problem) (bound : Bound) (twins : List TwinSets) (kinds : Kinds)
     (items : List Item) (places : List Record) (start : ℕ)
     : Type 0 where
   pub all : AreUpTo problem bound twins kinds items places start (length items)
-  pub wall : slice_get places (start + length items) ≡ Some wall_record
+  pub wall : (entry : Record) × (slice_get places (start + length items) ≡ Some entry)
+      × (slice_get twins entry.of ≡ Some dead_twin)
 
 -- the records name what has a number
-abbrev pub AreKnown : TwinsValue → List Record → Type 0
-AreKnown twins places = (entry : Record) → Contains places entry → entry.of < length twins.twins
+abbrev pub AreKnown : List TwinSets → List Record → Type 0
+AreKnown twins places = (entry : Record) → Contains places entry → entry.of < length twins
 
 -- what is kept of grids: the columns of the kinds, and the places before each end
 pub record AreKept (problem : Problem) (bound : Bound) (table : TableValue) (kinds : Kinds)
@@ -60,7 +60,7 @@ pub record AreKept (problem : Problem) (bound : Bound) (table : TableValue) (kin
       (items_of problem (slice_index sequences index))
 
 -- the records of the first so many sequences, one behind another
-pub record AreFilledTo (part : GridList) (twins : TwinsValue) (kinds : Kinds) (places : List Record)
+pub record AreFilledTo (part : GridList) (twins : List TwinSets) (kinds : Kinds) (places : List Record)
     (count : ℕ)
     : Type 0 where
   pub long : length places ≡ start_of part count
@@ -70,18 +70,16 @@ pub record AreFilledTo (part : GridList) (twins : TwinsValue) (kinds : Kinds) (p
       → AreHere part.problem part.bound twins kinds (items_at part grid) places (start_of part grid)
 
 -- those of all
-abbrev pub AreFilled : Problem → Bound → TwinsValue → Kinds → List ℕ → List Record → Type 0
+abbrev pub AreFilled : Problem → Bound → List TwinSets → Kinds → List ℕ → List Record → Type 0
 AreFilled problem bound twins kinds sequences places =
     AreFilledTo (record { problem = problem; bound = bound; sequences = sequences }) twins kinds places
     (length sequences)
 
 -- the records of all, and the moves that they name
-pub record AreMade (problem : Problem) (bound : Bound) (table : TableValue) (kinds : Kinds)
-    (sequences : List ℕ) (places : List Record) (early late : List MoveSets)
+pub record AreMade (problem : Problem) (bound : Bound) (kinds : Kinds) (sequences : List ℕ)
+    (places : List Record) (early late : List MoveSets)
     : Type 0 where
-  pub twins : TwinsValue
-  pub same : twins.table ≡ table
-  pub first : slice_get twins.twins 0 ≡ Some dead_twin
+  pub twins : List TwinSets
   pub filled : AreFilled problem bound twins kinds sequences places
-  pub early_are : early ≡ map (move_in false) twins.twins
-  pub late_are : late ≡ map (move_in true) twins.twins
+  pub early_are : early ≡ map (move_in false) twins
+  pub late_are : late ≡ map (move_in true) twins

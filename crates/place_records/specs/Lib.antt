@@ -6,3 +6,4 @@ pub mod Values
 pub mod Twins
 pub mod Numbers
 pub mod Filled
+pub mod Blocks

@@ -36,7 +36,7 @@ pub(crate) fn fill<const W: usize>(
     requires within { AllByRecursion (λ i. i < length job.now.sequences) sequences.now }
     requires kept { AreKept job.now bound twins.old.table kinds.now kept.now ends.now sequences.now }
     ensures twins { TwinsGrow twins.old twins.new }
-    ensures places { IfOk result (AreFilled job.now bound twins.new kinds.now sequences.now) }
+    ensures places { IfOk result (AreFilled job.now bound twins.new.twins kinds.now sequences.now) }
 {
     let mut places = Places::new(alloc);
     for grid in 0..sequences.len() {
@@ -58,8 +58,8 @@ pub(crate) fn fill<const W: usize>(
     Ok(places)
 }
 
-// The records of the items of one sequence, whose places lie before the end, and a dead one behind them.
-fn fill_sequence<const W: usize>(
+/// The records of the items of one sequence, whose places lie before the end, and a dead one behind them.
+pub(crate) fn fill_sequence<const W: usize>(
     job: &Job,
     bound: Bound,
     twins: &mut Twins<W>,
@@ -74,12 +74,12 @@ fn fill_sequence<const W: usize>(
     requires table { IsTableOf job.now twins.old.table }
     requires kept { ArePlaces job.now bound twins.old.table kinds.now kept.now end items.now }
     requires first { slice_get twins.old.twins 0 ≡ Some dead_twin }
-    requires known { AreKnown twins.old places.old }
+    requires known { AreKnown twins.old.twins places.old }
     ensures twins { TwinsGrow twins.old twins.new }
     ensures grow { Extends places.old places.new }
     ensures long { OnOk result (length places.new ≡ length places.old + length items.now + 1) }
-    ensures known { OnOk result (AreKnown twins.new places.new) }
-    ensures here { OnOk result (AreHere job.now bound twins.new kinds.now items.now places.new
+    ensures known { OnOk result (AreKnown twins.new.twins places.new) }
+    ensures here { OnOk result (AreHere job.now bound twins.new.twins kinds.now items.now places.new
         (length places.old)) }
 {
     for position in 0..items.len() {
@@ -117,7 +117,7 @@ fn record_at<const W: usize>(
     requires position { position < length items.now }
     ensures twins { TwinsGrow twins.old twins.new }
     ensures entry { IfOk result (λ entry. (t : Item) → slice_get items.now position ≡ Some t
-        → IsRecordBy job.now bound twins.new kinds.now t (drop (position + 1) items.now) entry) }
+        → IsRecordBy job.now bound twins.new.twins kinds.now t (drop (position + 1) items.now) entry) }
 {
     let _job = job;
     let _bound = bound;

@@ -2,6 +2,7 @@
 //! moves that they name, and what may be written there.
 #![tactic(auto)]
 
+mod block;
 mod filling;
 mod making;
 mod moves;
@@ -10,7 +11,9 @@ mod rank_sets;
 mod rank_table;
 mod twin;
 mod twins;
+mod whole;
 
 pub use making::records;
 pub use part_records::Records;
 pub use rank_table::RankTable;
+pub use whole::{records_of_all, records_of_all_alone};

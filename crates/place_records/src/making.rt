@@ -5,18 +5,18 @@ ghost use Rattle.std.specs.List.{AllByRecursion};
 ghost use Rattle.mining_job.specs.declared.bound.Bound.{Bound as Bounded};
 ghost use Rattle.mining_job.specs.Problems.{Problem};
 ghost use Rattle.sequence_grids.specs.Columns.{AreColumns};
-ghost use Rattle.sequence_grids.specs.Tables.{TableValue};
 ghost use Rattle.walk_memo.specs.Moves.{move_sets};
 ghost use Rattle.place_records.specs.Records.{goes_with as goes_by, AreRecords};
 ghost use Rattle.place_records.specs.Ranks.{CanAskOf, ranks_of};
-ghost use Rattle.place_records.specs.Twins.{dead_twin, move_in};
+ghost use Rattle.place_records.specs.Twins.{dead_twin, move_in, twin_sets};
 ghost use Rattle.place_records.specs.Filled.{AreKept, AreMade};
 
 use super::filling::fill;
 use super::moves::moves_of;
 use super::part_records::Records;
 use super::rank_table::RankTable;
-use super::twins::Twins;
+use super::twin::Twin;
+use super::twins::{Twins, twins_over};
 use mine_model::NoMemory;
 use mining_job::{Bound, Job};
 use sequence_grids::{Grids, Kinds, Place, Tables};
@@ -50,7 +50,7 @@ pub fn records<const W: usize>(alloc: Global, grids: Grids<'_>) -> Result<Record
 
 // The records, and the moves that they name.
 #[derive(Drop)]
-struct Made<const W: usize> {
+pub(crate) struct Made<const W: usize> {
     places: Places,
     early: Vec<Move<W>>,
     late: Vec<Move<W>>,
@@ -71,7 +71,7 @@ fn make<const W: usize>(
     requires room { length job.now.machine.labels < 64 * W }
     requires within { AllByRecursion (λ i. i < length job.now.sequences) sequences.now }
     requires kept { AreKept job.now bound tables kinds.now kept.now ends.now sequences.now }
-    ensures { IfOk result (λ made. AreMade job.now bound tables kinds.now sequences.now
+    ensures { IfOk result (λ made. AreMade job.now bound kinds.now sequences.now
         made.places (map move_sets made.early.items) (map move_sets made.late.items)) }
 {
     let mut twins = twins_over(alloc, job, bound, tables)?;
@@ -94,24 +94,24 @@ fn make_by<const W: usize>(
     requires first { slice_get twins.old.twins 0 ≡ Some dead_twin }
     requires within { AllByRecursion (λ i. i < length job.now.sequences) sequences.now }
     requires kept { AreKept job.now bound twins.old.table kinds.now kept.now ends.now sequences.now }
-    ensures { IfOk result (λ made. AreMade job.now bound twins.old.table kinds.now sequences.now
+    ensures { IfOk result (λ made. AreMade job.now bound kinds.now sequences.now
         made.places (map move_sets made.early.items) (map move_sets made.late.items)) }
 {
     let places = fill(alloc, job, bound, twins, kinds, kept, ends, sequences)?;
-    with_moves(alloc, twins, places)
+    with_moves(alloc, twins.as_slice(), places)
 }
 
 // The records of a part with its kinds, whose ranks are kept as sets, too, where that is wanted and they are
 // few.
-fn with_table<const W: usize>(
+pub(crate) fn with_table<const W: usize>(
     alloc: Global,
     made: Result<Made<W>, NoMemory>,
     kinds: Kinds,
     by_sets: bool,
 ) -> Result<Records<W>, NoMemory>
     requires width { W ≤ 17 }
-    ensures { (problem : Problem) (bound : Bounded) (table : TableValue) (sequences : List ℕ)
-        → IfOk made.entry (λ made. AreMade problem bound table kinds sequences
+    ensures { (problem : Problem) (bound : Bounded) (sequences : List ℕ)
+        → IfOk made.entry (λ made. AreMade problem bound kinds sequences
         made.places (map move_sets made.early.items) (map move_sets made.late.items))
         → AreColumns problem.machine.labels kinds.columns.numbers.items kinds.columns.heads.items
         → IfOk result (λ found. AreRecords
@@ -132,35 +132,19 @@ fn with_table<const W: usize>(
     }
 }
 
-// No twins but that which does nothing, over these tables.
-fn twins_over<const W: usize>(
-    alloc: Global,
-    job: &Job,
-    bound: Bound,
-    tables: Tables,
-) -> Result<Twins<W>, NoMemory>
-    requires width { W ≤ 17 }
-    requires room { length job.now.machine.labels < 64 * W }
-    requires table { length tables.predecessors ≡ length job.now.machine.labels + 1 }
-    ensures { IfOk result (λ twins. twins
-        ≡ record { table = tables; needed = goes_by bound.need; twins = dead_twin ∷ [] }) }
-{
-    Twins::new(alloc, tables, goes_with(bound.need), job.fst().states())
-}
-
 // The records with the moves that they name.
-fn with_moves<const W: usize>(
+pub(crate) fn with_moves<const W: usize>(
     alloc: Global,
-    twins: &Twins<W>,
+    twins: &[Twin<W>],
     places: Places,
 ) -> Result<Made<W>, NoMemory>
     requires width { W ≤ 17 }
     ensures { IfOk result (λ made. (made.places ≡ places)
-        × (map move_sets made.early.items ≡ map (move_in false) twins.now.twins)
-        × (map move_sets made.late.items ≡ map (move_in true) twins.now.twins)) }
+        × (map move_sets made.early.items ≡ map (move_in false) (map twin_sets twins.now))
+        × (map move_sets made.late.items ≡ map (move_in true) (map twin_sets twins.now))) }
 {
-    let early = moves_of(alloc, twins.as_slice(), false)?;
-    let late = moves_of(alloc, twins.as_slice(), true)?;
+    let early = moves_of(alloc, twins, false)?;
+    let late = moves_of(alloc, twins, true)?;
     Ok(Made {
         places,
         early,
@@ -169,7 +153,7 @@ fn with_moves<const W: usize>(
 }
 
 // The kinds without what only serves to find those of more items.
-fn without_numbers(alloc: Global, kinds: Kinds) -> Kinds
+pub(crate) fn without_numbers(alloc: Global, kinds: Kinds) -> Kinds
     ensures columns { result.columns ≡ kinds.columns }
     ensures kinds { result.kinds ≡ kinds.kinds }
     ensures ends { result.ends ≡ kinds.ends }
@@ -186,18 +170,8 @@ fn without_numbers(alloc: Global, kinds: Kinds) -> Kinds
 }
 
 // Whether nothing is needed and few ranks may be written, so that sums by sets of ranks serve.
-fn is_plain(bound: Bound) -> bool
+pub(crate) fn is_plain(bound: Bound) -> bool
     ensures { result ≡ true ↔ ((bound.need ≡ None) × (bound.top ≤ 255)) }
 {
     bound.need.is_none() && bound.top <= 255
-}
-
-// Whether something is needed, so that a path that has seen it may write nothing more.
-fn goes_with(need: Option<u32>) -> bool
-    ensures { result ≡ goes_by need }
-{
-    match need {
-        None => false,
-        Some(_) => true,
-    }
 }

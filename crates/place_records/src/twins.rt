@@ -1,14 +1,20 @@
 //! What places do, numbered when it is first met.
 
-ghost use Rattle.std.specs.Prelude.{◌≡◌, ◌*◌, ◌≤◌, ◌<◌, [], ◌∷◌, length, map, slice_get, Some, IfOk};
+ghost use Rattle.std.specs.Prelude.{◌≡◌, ◌+◌, ◌*◌, ◌≤◌, ◌<◌, ◌↔◌, false, [], ◌∷◌, length, map, slice_get, Some, All, IsTrue, IfOk, OnOk};
 ghost use Rattle.mine_model.specs.Lists.{AddsTo};
+ghost use Rattle.sequence_grids.specs.Grids.{Completes};
+ghost use Rattle.sequence_grids.specs.Kinds.{AreMet};
+ghost use Rattle.sequence_grids.specs.Places.{ArePlaces};
+ghost use Rattle.place_records.specs.Blocks.{IsOver};
+ghost use Rattle.place_records.specs.Records.{goes_with as goes_by};
 ghost use Rattle.place_records.specs.Twins.{twin_sets, dead_twin, AreTargets};
 ghost use Rattle.place_records.specs.Numbers.{HasTwin, TwinsGrow};
 
 use super::twin::{Twin, twin_of};
 use indexmap::IndexSet;
-use mine_model::NoMemory;
-use sequence_grids::{Tables, keep_step, known_step};
+use mine_model::{Item, NoMemory};
+use mining_job::{Bound, Job};
+use sequence_grids::{Kinds, Place, Tables, keep_step, known_step, push_met};
 use state_bits::StateSet;
 use std::alloc::Global;
 use std::marker::Model;
@@ -88,6 +94,31 @@ impl<const W: usize> Twins<W> {
         self.twins.as_slice()
     }
 
+    /// The places of a sequence in place of those in the room, and whether the sequence completes.
+    pub(crate) fn places_of(
+        &mut self,
+        job: &Job,
+        bound: Bound,
+        kinds: &Kinds,
+        items: &[Item],
+        room: &mut Vec<Place>,
+    ) -> Result<bool, NoMemory>
+        requires width { W ≤ 17 }
+        requires over { IsOver job.now bound kinds.now self.old }
+        requires items { All (λ t. t.0 < job.now.hierarchy.items) items.now }
+        requires met { AreMet kinds.now items.now }
+        ensures over { IsOver job.now bound kinds.now self.new }
+        ensures twins { self.new.twins ≡ self.old.twins }
+        ensures places { OnOk result (ArePlaces job.now bound self.new.table kinds.now
+            room.new.items (length room.new.items) items.now) }
+        ensures completes { IfOk result (λ found. IsTrue found ↔ Completes job.now bound items.now 0 false) }
+    {
+        room.clear();
+        push_met(job, bound, &mut self.tables, kinds, room, items)?;
+        let first = room[room.len() - 1];
+        Ok(self.tables.completes(first.triple, 0, false))
+    }
+
     // The number, found out and kept.
     #[inline(never)]
     fn new_number(&mut self, class: u32, behind: u32) -> Result<u32, NoMemory>
@@ -105,8 +136,11 @@ impl<const W: usize> Twins<W> {
     }
 }
 
-// The number of a twin, which is added if it is new.
-fn twin_in<const W: usize>(twins: &mut IndexSet<Twin<W>>, twin: &Twin<W>) -> Result<u32, NoMemory>
+/// The number of a twin, which is added if it is new.
+pub(crate) fn twin_in<const W: usize>(
+    twins: &mut IndexSet<Twin<W>>,
+    twin: &Twin<W>,
+) -> Result<u32, NoMemory>
     requires width { W ≤ 17 }
     ensures grows { AddsTo (map twin_sets twins.old.keys) (twin_sets twin.now)
         (map twin_sets twins.new.keys) }
@@ -132,4 +166,30 @@ fn targets_below<const W: usize>(states: u32) -> StateSet<W>
         targets.add(k);
     }
     targets
+}
+
+/// No twins but that which does nothing, over these tables.
+pub(crate) fn twins_over<const W: usize>(
+    alloc: Global,
+    job: &Job,
+    bound: Bound,
+    tables: Tables,
+) -> Result<Twins<W>, NoMemory>
+    requires width { W ≤ 17 }
+    requires room { length job.now.machine.labels < 64 * W }
+    requires table { length tables.predecessors ≡ length job.now.machine.labels + 1 }
+    ensures { IfOk result (λ twins. twins
+        ≡ record { table = tables; needed = goes_by bound.need; twins = dead_twin ∷ [] }) }
+{
+    Twins::new(alloc, tables, goes_with(bound.need), job.fst().states())
+}
+
+// Whether something is needed, so that a path that has seen it may write nothing more.
+fn goes_with(need: Option<u32>) -> bool
+    ensures { result ≡ goes_by need }
+{
+    match need {
+        None => false,
+        Some(_) => true,
+    }
 }

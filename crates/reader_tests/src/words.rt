@@ -72,12 +72,21 @@ const COMMANDS: &[(&str, &str)] = &[
          hierarchy: None, weighted: true, engine: Count, workers: 4, seed: None, share: None, stats: false, \
          task: Check { proof: \"p\" } })",
     ),
+    (
+        "--support 2 --engine cand --workers 3 (a) f",
+        "Some(Command { support: 2, source: Read { expression: \"(a)\", file: \"f\" }, \
+         hierarchy: None, weighted: false, engine: Cand, workers: 3, seed: None, share: None, stats: false, \
+         task: Mine })",
+    ),
     ("--support 2 (a)", "None"),
     ("--support 1 --generated 1000001 (.)", "None"),
     ("--support 1 --generated 3 (.) f", "None"),
     ("--support 0 (a) f", "None"),
     ("--support 2 --workers 65 (a) f", "None"),
     ("--support 2 --engine count --simulate 7 (a) f", "None"),
+    ("--support 2 --engine cand --simulate 7 (a) f", "None"),
+    ("--support 2 --engine cand --split 1/2 (a) f", "None"),
+    ("--support 2 --engine cands (a) f", "None"),
     ("--support 2 --max-gap 1 --min-length 6 f", "None"),
     ("--support 2 --engine pivot --split 3/2 (a) f", "None"),
     ("--support 2 --engine pivot --split 1/65 (a) f", "None"),

@@ -325,3 +325,86 @@ fn more_sequences_than_a_block_holds_are_all_counted(rt: HostRuntime) -> Result<
     }
     Ok(())
 }
+
+// Two sets with one pivot, one of which two sequences have; equal sequences with a set for each of two
+// pivots; sets that have nothing in common, so that no row is found; sequences with one set, though they
+// differ; a pivot whose sequences weigh just enough, and too little; sequences that have no candidate.
+const SETS: &[Case] = &[
+    (
+        "--support=2 --hierarchy h .*(A)[(.^)|.]*(b).* f",
+        HIERARCHY,
+        SEQUENCES,
+        0,
+        ANSWER,
+        "desq: nodes 0 parts 2 candidates 0\n",
+    ),
+    (
+        "--support=2 (a)[(b)|.] f",
+        "",
+        "a b\na b\n",
+        0,
+        "2\ta\n2\ta b\n",
+        "desq: nodes 0 parts 2 candidates 0\n",
+    ),
+    (
+        "--support=2 (.)(.) f",
+        "",
+        "a b\nb a\n",
+        0,
+        "",
+        "desq: nodes 0 parts 2 candidates 0\n",
+    ),
+    (
+        "--support=3 .*(a)(b).* f",
+        "",
+        "a b\na b a b\nx a b\na c\n",
+        0,
+        "3\ta b\n",
+        "desq: nodes 0 parts 1 candidates 0\n",
+    ),
+    (
+        "--weighted --support=5 .*(.).* f",
+        "",
+        "5 a b\n3 a c\n1 a\n",
+        0,
+        "9\ta\n5\tb\n",
+        "desq: nodes 0 parts 2 candidates 0\n",
+    ),
+    (
+        "--weighted --support=6 .*(.).* f",
+        "",
+        "5 a b\n3 a c\n1 a\n",
+        0,
+        "9\ta\n",
+        "desq: nodes 0 parts 1 candidates 0\n",
+    ),
+    (
+        "--support=1 .* f",
+        "",
+        "a b\na b\n\n",
+        0,
+        "",
+        "desq: nodes 0 parts 0 candidates 0\n",
+    ),
+    (
+        "--support=1 (.) f",
+        "",
+        "",
+        0,
+        "",
+        "desq: nodes 0 parts 0 candidates 0\n",
+    ),
+];
+
+#[test]
+fn any_number_of_workers_counts_the_same_sets(rt: HostRuntime) -> Result<(), Fail> {
+    for before in [
+        "--stats --engine=cand",
+        "--stats --engine=cand --workers=1",
+        "--stats --engine=cand --workers=64",
+    ] {
+        let wrong = first_wrong(&rt, rt.alloc(), before, SETS)?;
+        assert_eq!(rt; wrong, None, "{before}");
+    }
+    Ok(())
+}

@@ -87,6 +87,14 @@ fn a_second_worker_counts_while_the_first_is_held(rt: HostRuntime) -> Result<(),
     Ok(())
 }
 
+// Each of the two items is the pivot of one part.
+#[test]
+fn a_second_worker_has_a_part_while_the_first_is_held(rt: HostRuntime) -> Result<(), Fail> {
+    let words = "--support=1 --engine=cand --workers=2 (.) f";
+    assert!(rt; is_shared(&rt, rt.alloc(), words, "a\nb\n", "1\ta\n1\tb\n", 0, 2)?);
+    Ok(())
+}
+
 /// Lines, each twice, and the rows of the patterns that they generate by `(.)[(.)|.]`.
 #[derive(Drop)]
 struct Pairs {

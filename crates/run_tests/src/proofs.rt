@@ -169,7 +169,7 @@ fn proofs_are_written_and_checked(rt: HostRuntime) -> Result<(), Fail> {
         )?;
         assert!(rt; is_right, "{words} on {proof}");
     }
-    for engine in ["count", "dfs", "pivot"] {
+    for engine in ["count", "dfs", "pivot", "cand"] {
         let words = format!(in rt.alloc(); "{PROVES} --engine {engine}")?;
         let is_right = leaves(
             &rt,

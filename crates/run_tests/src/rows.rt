@@ -88,7 +88,12 @@ const ANSWERS: &[Case] = &[
 
 #[test]
 fn each_engine_gives_the_answer(rt: HostRuntime) -> Result<(), Fail> {
-    for engine in ["--engine=count", "--engine=dfs", "--engine=pivot"] {
+    for engine in [
+        "--engine=count",
+        "--engine=dfs",
+        "--engine=pivot",
+        "--engine=cand",
+    ] {
         let wrong = first_wrong(&rt, rt.alloc(), engine, ANSWERS)?;
         assert_eq!(rt; wrong, None, "{engine}");
     }

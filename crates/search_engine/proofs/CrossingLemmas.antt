@@ -18,6 +18,8 @@ use Rattle.snapshot_project.specs.contracts.part.Ground as Ground
 use Rattle.snapshot_project.specs.contracts.terrain.AnyTerrain as AnyTerrain
 use Rattle.snapshot_project.specs.contracts.room.Room as Room
 use Rattle.snapshot_project.specs.contracts.room.Room.TheInside as RoomInside
+use Rattle.mask_sums.specs.contracts.sums.MaskedSums as MaskedSums
+use Rattle.level_ahead.specs.contracts.ahead.Ahead as Ahead
 use Rattle.dfs_growth.specs.contracts.node.Node as Node
 
 -- an expression reaches itself, so it is shown layer by layer
@@ -63,6 +65,12 @@ part-sync l = let i : IsSync (PartInside.the_row l) = declared_sync (PartInside.
 pub node-send : (l : NamedLft) → IsSend (Node.the_row l)
 node-send l = let j = job-sync in let s = seed-send in let n = snapshots-send in let p = part-send l in let q = part-sync l in search (sendable, crosses) depth 40 fits 20000
 
+sums-send : IsSend MaskedSums.the_row
+sums-send = search (sendable, crosses) depth 40 fits 20000
+
+ahead-send : IsSend Ahead.the_row
+ahead-send = search (sendable, crosses) depth 40 fits 20000
+
 -- and so may the room of a worker
 pub room-send : (l : NamedLft) → IsSend (Room.the_row l)
-room-send l = let i : IsSend (RoomInside.the_row l) = declared_send (RoomInside.the_type l) (let g = ground-send l in let h = ground-sync l in search (sendable, crosses) depth 40 fits 20000) in search sendable
+room-send l = let i : IsSend (RoomInside.the_row l) = declared_send (RoomInside.the_type l) (let g = ground-send l in let h = ground-sync l in let s = sums-send in let a = ahead-send in search (sendable, crosses) depth 40 fits 20000) in search sendable

@@ -1,6 +1,6 @@
 //! Mining by workers that steal.
 
-ghost use Rattle.std.specs.Prelude.{◌≡◌, ℕ, ◌≤◌, ◌<◌, ◌↔◌, List, [], All, AllPairs, Contains, length, IfOk};
+ghost use Rattle.std.specs.Prelude.{◌≡◌, ℕ, ◌≤◌, ◌<◌, ◌↔◌, List, [], map, All, AllPairs, Contains, length, IfOk};
 ghost use Rattle.std.specs.List.{AllByRecursion, filter_map};
 ghost use Rattle.mine_model.specs.declared.row.Row.{Row};
 ghost use Rattle.mine_model.specs.Answer.{IsFrequent};
@@ -11,11 +11,13 @@ ghost use Rattle.mine_model.specs.Pivots.{IsAliveLabel};
 ghost use Rattle.mining_job.specs.Problems.{data_of};
 ghost use Rattle.mining_job.specs.Parts.{IsComplete};
 ghost use Rattle.pivot_partition.specs.Pivots.{pivots_in};
+ghost use Rattle.dfs_growth.specs.Nodes.{Prefix, label_at};
 ghost use Rattle.search_engine.specs.Partition.{HasPivotAmong, IsPartsWork, IsWorkFor};
 ghost use Rattle.search_engine.specs.Searches.{tree_of};
 
 use super::search::Search;
 use super::workers::posted;
+use dfs_growth::{Node, whole_roots};
 use mine_model::{Gate, Mined, NoMemory, Work};
 use mining_job::{Job, PartSeed};
 use pivot_partition::split;
@@ -50,8 +52,9 @@ pub fn mine<R: Threads + Wait + Sync, G: Gate>(
         let mined = mine_parts(rt, alloc, job, seeds, workers, gate)?;
         return Ok(mined);
     }
-    let search = Search::new(alloc, job)?;
-    let mined = mined_by(rt, alloc, job, &search, workers, gate)?;
+    let roots = whole_roots(rt, workers, alloc, job)?;
+    let search = Search::new(job);
+    let mined = mined_by(rt, alloc, job, &search, roots, workers, gate)?;
     Ok(mined)
 }
 
@@ -83,20 +86,24 @@ pub fn mine_parts<R: Threads + Wait + Sync, G: Gate>(
 {
     let _items = job.hierarchy().items();
     let search = Search::by_seeds(job, seeds);
-    let mined = mined_by(rt, alloc, job, &search, workers, gate)?;
+    let roots = search.roots(alloc)?;
+    let mined = mined_by(rt, alloc, job, &search, roots, workers, gate)?;
     Ok(mined)
 }
 
 // The rows of the labels of the search's tree, and how many labels and roots there are.
-fn mined_by<R: Threads + Wait + Sync, G: Gate>(
+fn mined_by<'a, R: Threads + Wait + Sync, G: Gate>(
     rt: &R,
     alloc: Global,
-    job: &Job,
-    search: &Search,
+    job: &'a Job,
+    search: &Search<'a>,
+    roots: Vec<Node<'a>>,
     workers: u32,
     gate: &G,
 ) -> Result<Mined, NoMemory>
     requires problem { search.now.problem ≡ job.now }
+    requires roots { map label_at roots.items ≡ (tree_of search.now).roots }
+    requires own { All (λ (node : Prefix). node.problem ≡ search.now.problem) roots.items }
     requires some { 1 ≤ workers }
     requires few { workers ≤ most_workers }
     ensures { IfOk result (λ mined. (labels : List (List ℕ))
@@ -110,7 +117,6 @@ fn mined_by<R: Threads + Wait + Sync, G: Gate>(
 {
     // Each accessor of the job says that it is whole.
     let _support = job.support();
-    let roots = search.roots(alloc)?;
     let parts = roots.len() as u64;
     let board = posted(rt, alloc, search, job, job, roots, workers, gate)?;
     let (rows, nodes) = board.into_parts();

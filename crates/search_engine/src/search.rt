@@ -4,9 +4,12 @@ ghost use Rattle.mining_job.specs.declared.part_seed.PartSeed.{PartSeed as Seed}
 ghost use Rattle.mining_job.specs.Problems.{Problem, IsWhole, data_of};
 ghost use Rattle.mining_job.specs.Parts.{pivot_of, IsComplete};
 ghost use Rattle.pivot_partition.specs.Pivots.{pivots_in};
+ghost use Rattle.search_tree.specs.SearchTree.{AreRootsOf};
+ghost use Rattle.dfs_growth.specs.Nodes.{Prefix, label_at};
 ghost use Rattle.search_engine.specs.Partition.{ArePivotsFor};
+ghost use Rattle.search_engine.specs.Searches.{AreComplete, pivots_from};
 
-use dfs_growth::{Node, expand, roots, whole};
+use dfs_growth::{Node, expand, roots, whole_roots_alone};
 use mine_model::NoMemory;
 use mining_job::{Job, PartSeed};
 use pivot_partition::split_alone;
@@ -15,18 +18,24 @@ use snapshot_project::Room;
 use std::alloc::Global;
 use std::marker::Model;
 
-/// A job with the seeds of the roots of its search tree.
+/// Where the roots of a search tree come from.
+#[derive(Drop)]
+pub(crate) enum Source {
+    /// One root, without a pivot, of all sequences that have a pattern of frequent items.
+    Whole,
+    /// A root for each seed.
+    Seeds(Vec<PartSeed>),
+}
+
+/// A job with the source of the roots of its search tree.
 #[derive(Drop)]
 pub(crate) struct Search<'a> {
     job: &'a Job,
-    seeds: Vec<PartSeed>,
+    source: Source,
 }
 
 impl<'a> Model for Search<'a> {
-    ghost use Rattle.std.specs.Prelude.{map};
-    ghost use Rattle.mining_job.specs.declared.part_seed.PartSeed.{PartSeed as Seed};
-    ghost use Rattle.mining_job.specs.Parts.{pivot_of};
-    ghost use Rattle.search_engine.specs.Searches.{Search, IsSeeded};
+    ghost use Rattle.search_engine.specs.Searches.{Search, IsSeeded, pivots_from};
 
     ghost Value = { Search };
 
@@ -35,12 +44,9 @@ impl<'a> Model for Search<'a> {
 
     ghost coded = { Prim.hlevel (codes, e.the_row.coded) };
 
-    ghost view = { λ s. record {
-      problem = s.job.now;
-      pivots = map (λ (seed : Seed). pivot_of seed.pivot) s.seeds.items;
-    } };
+    ghost view = { λ s. record { problem = s.job.now; pivots = pivots_from s.source } };
 
-    ghost invariant = { λ s. IsSeeded s.job.now s.seeds.items };
+    ghost invariant = { λ s. IsSeeded s.job.now s.source };
 }
 
 /// The seeds, copied.
@@ -60,17 +66,34 @@ fn copied(alloc: Global, seeds: &[PartSeed]) -> Result<Vec<PartSeed>, NoMemory>
     Ok(copies)
 }
 
+/// The roots of this source.
+fn roots_from<'a>(alloc: Global, job: &'a Job, source: &Source) -> Result<Vec<Node<'a>>, NoMemory>
+    requires complete { AreComplete job.now source.now }
+    ensures problem { IfOk result (λ nodes. All (λ (node : Prefix). node.problem ≡ job.now) nodes.items) }
+    ensures roots { IfOk result (λ nodes. AreRootsOf (data_of job.now) job.now.ranking.order
+        (pivots_from source.now) (map label_at nodes.items)) }
+{
+    match source {
+        Source::Whole => whole_roots_alone(alloc, job),
+        Source::Seeds(seeds) => {
+            let seeds = copied(alloc, seeds.as_slice())?;
+            roots(alloc, job, seeds)
+        }
+    }
+}
+
 impl<'a> Search<'a> {
-    /// The search without pivots: it has one seed, of all sequences that have a pattern of frequent items.
-    pub(crate) fn new(alloc: Global, job: &'a Job) -> Result<Search<'a>, NoMemory>
-        ensures problem { IfOk result (λ search. search.problem ≡ job.now) }
-        ensures pivots { IfOk result (λ search. search.pivots ≡ 0 ∷ []) }
+    /// The search without pivots.
+    pub(crate) fn new(job: &'a Job) -> Search<'a>
+        ensures problem { result.problem ≡ job.now }
+        ensures pivots { result.pivots ≡ 0 ∷ [] }
     {
         // Each accessor of the job says that it is whole.
         let _support = job.support();
-        let mut seeds = Vec::new(alloc);
-        seeds.push(whole(alloc, job)?)?;
-        Ok(Search { job, seeds })
+        Search {
+            job,
+            source: Source::Whole,
+        }
     }
 
     /// The search by the pivots of these seeds.
@@ -80,7 +103,10 @@ impl<'a> Search<'a> {
         ensures pivots { result.pivots ≡ pivots_in seeds.items }
     {
         let _support = job.support();
-        Search { job, seeds }
+        Search {
+            job,
+            source: Source::Seeds(seeds),
+        }
     }
 
     /// The search of the job, split by pivots or not. The pivots are looked for in this thread.
@@ -90,11 +116,10 @@ impl<'a> Search<'a> {
             ArePivotsFor is_split (data_of job.now) job.now.ranking.order search.pivots) }
     {
         if !is_split {
-            return Search::new(alloc, job);
+            return Ok(Search::new(job));
         }
-        let _support = job.support();
         let seeds = split_alone(alloc, job)?;
-        Ok(Search { job, seeds })
+        Ok(Search::by_seeds(job, seeds))
     }
 
     /// The job.
@@ -133,8 +158,7 @@ impl<'a> Grow for Search<'a> {
     }
 
     fn roots(&self, alloc: Global) -> Result<Vec<Node<'a>>, NoMemory> {
-        let seeds = copied(alloc, self.seeds.as_slice())?;
-        let nodes = roots(alloc, self.job, seeds)?;
+        let nodes = roots_from(alloc, self.job, &self.source)?;
         Ok(nodes)
     }
 

@@ -35,7 +35,7 @@ use Rattle.mining_job.specs.Problems.{Problem, IsWhole}
 use Rattle.sequence_grids.specs.Columns.{AreColumns}
 use Rattle.sequence_grids.specs.Grids.{Reads, WritesRank}
 use Rattle.sequence_grids.specs.Tables.{ClassSets, IsClassOf, LeadsInto, unknown}
-use Rattle.sequence_grids.specs.Kinds.{IsNeededRank, Writes, Goes, Needs, IsTarget, IsClassFor, IsCell, IsRow, AreActs, IsAct, AreEntered, Extends, IsKind, HasKind, AreKinds, KindsGrow, IsInside, row_at}
+use Rattle.sequence_grids.specs.Kinds.{IsNeededRank, Writes, Goes, Needs, IsTarget, IsClassFor, IsCell, IsRow, AreActs, IsAct, AreEntered, Extends, IsKind, HasKind, IsMet, AreKinds, KindsGrow, IsInside, row_at}
 
 -- ---- ranks
 
@@ -570,3 +570,26 @@ pub HasKind-at : (problem : Problem) (bound : Bound) (classes : List ClassSets) 
     → (i number : ℕ) → i < length kinds.numbers.items → number ≡ slice_index kinds.numbers.items i → number ≢ unknown
     → HasKind problem bound classes kinds (record { 0 = i }) number
 HasKind-at problem bound classes kinds are i number inside is some = rw is (are.right (record { 0 = i }) inside (λ none. some (is ∙ none)))
+
+-- ---- items that have a number
+
+pub IsMet-set : (numbers : List ℕ) (i number : ℕ) → i < length numbers → number ≢ unknown → slice_index (set numbers i number) i ≢ unknown
+IsMet-set numbers i number inside some none = some (sym (get_or-set_same numbers i number 0 inside) ∙ none)
+
+pub IsMet-kept : (numbers : List ℕ) (i number : ℕ) → i < length numbers → number ≢ unknown → (j : ℕ) → slice_index numbers j ≢ unknown → slice_index (set numbers i number) j ≢ unknown
+IsMet-kept numbers i number inside some j was none = elim (cases_eq j i) [
+  | inl same ↦ IsMet-set numbers i number inside some (ap (slice_index (set numbers i number)) (sym same) ∙ none)
+  | inr other ↦ was (sym (get_or-set_other numbers i j number 0 other) ∙ none)
+]
+
+-- one more of the items
+pub AreMet-more : (kinds after : Kinds) (items : List Item) (index : ℕ) (d : Item) → ((u : Item) → Contains (take index items) u → IsMet kinds u)
+    → ((u : Item) → IsMet kinds u → IsMet after u) → IsMet after (get_or items index d) → index < length items
+    → (u : Item) → Contains (take (index + 1) items) u → IsMet after u
+AreMet-more kinds after items index d met kept now inside u held =
+    let t : Item = get_or items index d in
+    let more : take (index + 1) items ≡ take index items ++ t ∷ [] = take_more items index d inside in
+    elim (Contains-append_cases (take index items) (t ∷ []) u (subst (λ (xs : List Item). Contains xs u) more held)) [
+      | inl before ↦ kept u (met u before)
+      | inr last ↦ elim (Contains-cases t [] u last) [ inl same ↦ subst (IsMet after) (sym same) now | inr none ↦ absurd (Contains-none u none) ]
+    ]

@@ -8,12 +8,13 @@ use Rattle.std.proofs.lemmas.Bool.{cases_eq}
 use Rattle.mine_model.specs.declared.item.Item.{Item}
 use Rattle.mine_model.proofs.ListLemmas.{Contains-none}
 use Rattle.mining_job.specs.declared.bound.Bound.{Bound}
+use Rattle.sequence_grids.specs.declared.kinds.Kind.{Kind}
 use Rattle.sequence_grids.specs.declared.kinds.Kinds.{Kinds}
 use Rattle.sequence_grids.specs.declared.places.Place.{Place}
-use Rattle.mining_job.specs.Problems.{Problem, IsWhole}
-use Rattle.sequence_grids.specs.Tables.{ClassSets, TripleSets, TableValue, Grows, IsStep, IsLast}
-use Rattle.sequence_grids.specs.Kinds.{IsClassFor, HasKind, KindsGrow, Extends}
-use Rattle.sequence_grids.specs.Places.{IsTripleOf, HasTriple, IsTableOf, IsPlaceAt, ArePlaces}
+use Rattle.mining_job.specs.Problems.{Problem, IsWhole, items_of}
+use Rattle.sequence_grids.specs.Tables.{ClassSets, TripleSets, TableValue, Grows, IsStep, IsStepAt, IsLast}
+use Rattle.sequence_grids.specs.Kinds.{IsClassFor, HasKind, AreKinds, IsMet, AreMet, KindsGrow, Extends}
+use Rattle.sequence_grids.specs.Places.{IsTripleOf, HasTriple, IsTableOf, IsPlaceAt, ArePlaces, AreFilled, IsAlphabetTo}
 use Rattle.mine_model.proofs.ElementLemmas.{get-left, stands_last}
 use Rattle.sequence_grids.proofs.KindLemmas.{HasKind-grow, LeadsInto-of}
 use Rattle.sequence_grids.proofs.PathLemmas.{target-of, ends-step, seen-step, unseen-step}
@@ -92,6 +93,19 @@ IsTripleOf-step problem whole bound table is_table t rest class after before is_
   );
 }
 
+-- the same by numbers, where the kind of the item says what its class is
+pub HasTriple-step : (problem : Problem) → IsWhole problem → (bound : Bound) (table : TableValue) → IsTableOf problem table → (kinds : Kinds) (t : Item) (number : ℕ) → HasKind problem bound table.classes kinds t number
+    → (kind : Kind) → ((k : Kind) → slice_get kinds.kinds.items number ≡ Some k → kind ≡ k) → (after before : ℕ) → IsStepAt table.predecessors table.classes table.triples kind.class after before
+    → (rest : List Item) → HasTriple problem bound table.triples rest after → HasTriple problem bound table.triples (t ∷ rest) before
+HasTriple-step problem whole bound table is_table kinds t number (of_number, found_kind, is_kind) kind same after before (c, a, b, found_c, found_a, found_b, step) rest (triple, found, is) =
+    let (class, found_class, is_class) = is_kind.class in
+    let same_class : c ≡ class = same_Some c class (sym found_c ∙ (ap (λ (k : Kind). slice_get table.classes k.class) (same of_number found_kind) ∙ found_class)) in
+    let same_after : a ≡ triple = same_Some a triple (sym found_a ∙ found) in (
+      b,
+      found_b,
+      IsTripleOf-step problem whole bound table is_table t rest c a b (subst (IsClassFor problem bound t) (sym same_class) is_class) (subst (IsTripleOf problem bound rest) (sym same_after) is) step,
+    )
+
 -- ---- what stays while tables and kinds grow
 
 pub HasTriple-grow : (problem : Problem) (bound : Bound) (triples triples' : List TripleSets) (rest : List Item) (number : ℕ)
@@ -119,11 +133,6 @@ ArePlaces-grow problem bound table table' kinds kinds' places places' end items 
     (below, (place, (rw e (get-left places more (end - 1 - position) place found)), IsPlaceAt-grow problem bound table table' kinds kinds' items position place is grows grow))
 
 -- ---- the places from a position on
-
-pub record AreFilled (problem : Problem) (bound : Bound) (table : TableValue) (kinds : Kinds) (places : List Place) (from : ℕ) (items : List Item) (position : ℕ) : Type 0 where
-  pub inside : position ≤ length items
-  pub long : length places + position ≡ from + length items + 1
-  pub filled : (p : ℕ) → position ≤ p → p ≤ length items → (place : Place) × (slice_get places (from + length items - p) ≡ Some place) × IsPlaceAt problem bound table kinds items p place
 
 pub AreFilled-none : (problem : Problem) (bound : Bound) (table : TableValue) (kinds : Kinds) (places : List Place) (items : List Item) (place : Place) (count : ℕ) → IsTableOf problem table
     → place.triple ≡ 0 → count ≡ length items → AreFilled problem bound table kinds (places ++ place ∷ []) (length places) items count
@@ -181,3 +190,17 @@ AreFilled-all problem bound table kinds places from items position so_far none p
     let (place, found, is) = so_far.filled p (omega arith) most in
     let index : length places - 1 - p ≡ from + length items - p = omega arith in
     (omega arith, (place, (rw index found), is))
+
+-- ---- the kinds of the items of one more sequence
+
+pub IsAlphabetTo-more : (problem : Problem) (bound : Bound) (table table' : TableValue) (kinds kinds' : Kinds) (count : ℕ) → IsAlphabetTo problem bound table kinds count
+    → IsTableOf problem table' → AreKinds problem bound table'.classes kinds' → ((t : Item) → IsMet kinds t → IsMet kinds' t) → AreMet kinds' (items_of problem count)
+    → IsAlphabetTo problem bound table' kinds' (count + 1)
+IsAlphabetTo-more problem bound table table' kinds kinds' count is table_is kinds_are kept met = record {
+  table_is = table_is;
+  kinds_are = kinds_are;
+  met = λ i below. elim (cases_eq i count) [
+    | inl same ↦ rw same met
+    | inr earlier ↦ λ t held. kept t (is.met i (omega (arith, below, earlier)) t held)
+  ];
+}

@@ -1,11 +1,11 @@
 -- Tables that grow keep what they say.
-use Rattle.std.proofs.Common.{◌≡◌, ◌≢◌, ℕ, zero, suc, ◌+◌, ◌-◌, ◌*◌, ◌/◌, ◌%◌, ◌^◌, ◌<◌, ◌≤◌, ◌⊎◌, ◌↔◌, inl, inr, Bool, true, List, [], ◌∷◌, ◌++◌, map, length, get_or, arith, refl, sym, ap, ◌∙◌, Some, ◌&&◌, append_assoc}
+use Rattle.std.proofs.Common.{◌≡◌, ◌≢◌, ℕ, zero, suc, ◌+◌, ◌-◌, ◌*◌, ◌/◌, ◌%◌, ◌^◌, ◌<◌, ◌≤◌, ◌⊎◌, ◌↔◌, inl, inr, Bool, true, not, cond, List, [], ◌∷◌, ◌++◌, map, length, get_or, arith, refl, sym, ap, ◌∙◌, Some, ◌&&◌, append_assoc}
 use Rattle.std.specs.Bool.{◌==◌}
-use Rattle.std.specs.List.{All, Contains, slice_get, slice_index}
+use Rattle.std.specs.List.{All, Contains, slice_get, slice_index, list_any}
 use Rattle.std.proofs.lemmas.List.{get_or_append_left, append-nil, length-append, length-map, get_or-append-add}
 use Rattle.std.proofs.lemmas.List.Elements.{All-contains}
 use Rattle.std.proofs.lemmas.Option.{slice_get_within, get_or_from_slice_get, slice_get_read, slice_get-map}
-use Rattle.std.proofs.lemmas.Bool.{cases_lt, and_parts, eqb-true}
+use Rattle.std.proofs.lemmas.Bool.{cases_lt, cases_Bool, and_parts, eqb-true, true≢false}
 use Rattle.indexmap.specs.IndexSet.{insert_key}
 use Rattle.mine_model.proofs.ListLemmas.{Contains-none}
 use Rattle.mine_model.proofs.ElementLemmas.{get-left}
@@ -16,7 +16,7 @@ use Rattle.state_bits.specs.Members.{Has, HasBit, words_of}
 use Rattle.state_bits.proofs.NeighbourLemmas.{Has-none}
 use Rattle.sequence_grids.specs.declared.table.Class.{Class}
 use Rattle.sequence_grids.specs.declared.table.Triple.{Triple}
-use Rattle.sequence_grids.specs.Tables.{ClassSets, TripleSets, TableValue, class_sets, triple_sets, IsClassOf, Grows, IsLast, IsStepAt, AreBelow, IsTable, row, unknown}
+use Rattle.sequence_grids.specs.Tables.{ClassSets, TripleSets, TableValue, class_sets, triple_sets, IsClassOf, Grows, IsLast, IsStepAt, AreSteps, AreBelow, IsTable, row, unknown}
 
 -- an element of a list where it is mapped
 pub slice_get-mapped : {X Y : Type 0} (f : X → Y) (xs : List X) (i : ℕ) (x : X) → i < length xs → x ≡ get_or xs i x → slice_get (map f xs) i ≡ Some (f x)
@@ -38,6 +38,14 @@ pub IsStepAt-grow : (predecessors : List ℕ) (classes more_classes : List Class
     → IsStepAt predecessors classes triples class after before → IsStepAt predecessors (classes ++ more_classes) (triples ++ more_triples) class after before
 IsStepAt-grow predecessors classes more_classes triples more_triples class after before (c, a, b, found_c, found_a, found_b, step) =
     (c, a, b, get-left classes more_classes class c found_c, get-left triples more_triples after a found_a, get-left triples more_triples before b found_b, step)
+
+-- a step that is kept
+pub step-kept : (predecessors : List ℕ) (classes : List ClassSets) (triples : List TripleSets) (kept : List ℕ) (class after before : ℕ) → AreSteps predecessors classes triples kept
+    → class < 256 → 256 * after + class < length kept → slice_index kept (256 * after + class) ≡ before → before ≢ unknown → IsStepAt predecessors classes triples class after before
+step-kept predecessors classes triples kept class after before right first inside is some =
+    let column : (256 * after + class) % row ≡ class = omega arith in
+    let line : (256 * after + class) / row ≡ after = omega arith in
+    rw (column, line, is) at (right (256 * after + class) inside (λ same. some (sym is ∙ same)))
 
 pub IsTable-triples : (width : ℕ) (predecessors : List ℕ) (classes : List ClassSets) (triples after more : List TripleSets) (kept : List ℕ)
     → IsTable width predecessors classes triples kept → after ≡ triples ++ more → IsTable width predecessors classes after kept
@@ -190,3 +198,18 @@ first_inserted f eq before after k none are = rw (are, none) refl
 
 pub IsLast-of : (finals all : ℕ) → ((q : ℕ) → Has all q ↔ Has finals q) → (none : ℕ) → none ≡ 0 → IsLast finals (record { seen = all; unseen = none; ends = all })
 IsLast-of finals all are none is = record { seen = are; unseen = λ q has. Has-none q (rw is at has); ends = are }
+
+-- ---- copies
+
+-- a key that was not there goes last
+pub inserted_last : {T : Type 0} (eq : T → T → Bool) (ks after : List T) (k : T) (new : Bool) → after ≡ cond (list_any (eq k) ks) ks (ks ++ k ∷ []) → new ≡ not (list_any (eq k) ks) → new ≡ true
+    → after ≡ ks ++ k ∷ []
+inserted_last eq ks after k new are is added = elim (cases_Bool (list_any (eq k) ks)) [
+  | inl there ↦ absurd (true≢false (sym added ∙ (is ∙ ap not there)))
+  | inr none ↦ rw (are, none) refl
+]
+
+-- a table with the same states, where no step is kept
+pub IsTable-copy : (width : ℕ) (predecessors : List ℕ) (classes : List ClassSets) (triples : List TripleSets) (kept : List ℕ) → IsTable width predecessors classes triples kept
+    → IsTable width predecessors classes triples []
+IsTable-copy width predecessors classes triples kept is = record { room = is.room; below = is.below; steps = λ i none. absurd (omega (arith, none)) }

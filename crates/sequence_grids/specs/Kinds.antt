@@ -116,6 +116,14 @@ pub record AreKinds (problem : Problem) (bound : Bound) (classes : List ClassSet
   pub right : (t : Item) → t.0 < length kinds.numbers.items → slice_index kinds.numbers.items t.0 ≢ unknown
       → HasKind problem bound classes kinds t (slice_index kinds.numbers.items t.0)
 
+-- the item has the number of a kind
+abbrev pub IsMet : Kinds → Item → Type 0
+IsMet kinds t = slice_index kinds.numbers.items t.0 ≢ unknown
+
+-- each of the items has one
+abbrev pub AreMet : Kinds → List Item → Type 0
+AreMet kinds items = (t : Item) → Contains items t → IsMet kinds t
+
 -- no kind is lost
 pub record KindsGrow (before after : Kinds) : Type 0 where
   pub columns : after.columns ≡ before.columns

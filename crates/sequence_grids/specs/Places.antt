@@ -9,7 +9,7 @@ use Rattle.sequence_grids.specs.declared.places.Place.{Place}
 use Rattle.mining_job.specs.Problems.{Problem, items_of}
 use Rattle.sequence_grids.specs.Grids.{Completes, Ends}
 use Rattle.sequence_grids.specs.Tables.{TripleSets, TableValue, Precedes, IsLast}
-use Rattle.sequence_grids.specs.Kinds.{HasKind, AreKinds}
+use Rattle.sequence_grids.specs.Kinds.{HasKind, AreMet, AreKinds}
 
 -- the triple of what may come before the rest
 pub record IsTripleOf (problem : Problem) (bound : Bound) (rest : List Item) (triple : TripleSets)
@@ -48,6 +48,16 @@ ArePlaces problem bound table kinds places end items =
     → (position < end) × ((place : Place) × (slice_get places (end - 1 - position) ≡ Some place)
     × IsPlaceAt problem bound table kinds items position place)
 
+-- the places behind the first so many are those of the items, from the last position to this one
+pub record AreFilled (problem : Problem) (bound : Bound) (table : TableValue) (kinds : Kinds)
+    (places : List Place) (from : ℕ)
+    (items : List Item) (position : ℕ) : Type 0 where
+  pub inside : position ≤ length items
+  pub long : length places + position ≡ from + length items + 1
+  pub filled : (p : ℕ) → position ≤ p → p ≤ length items
+      → (place : Place) × (slice_get places (from + length items - p) ≡ Some place)
+      × IsPlaceAt problem bound table kinds items p place
+
 -- the places before each end are those of the sequence with the number
 pub record AreGrids (problem : Problem) (bound : Bound) (table : TableValue) (kinds : Kinds)
     (places : List Place)
@@ -58,3 +68,14 @@ pub record AreGrids (problem : Problem) (bound : Bound) (table : TableValue) (ki
   pub grids : (index : ℕ) → index < length sequences
       → ArePlaces problem bound table kinds places (slice_index ends index)
       (items_of problem (slice_index sequences index))
+
+-- the table has classes for the kinds, and all items of the first so many sequences have one
+pub record IsAlphabetTo (problem : Problem) (bound : Bound) (table : TableValue) (kinds : Kinds) (count : ℕ)
+    : Type 0 where
+  pub table_is : IsTableOf problem table
+  pub kinds_are : AreKinds problem bound table.classes kinds
+  pub met : (i : ℕ) → i < count → AreMet kinds (items_of problem i)
+
+-- the same of all sequences
+abbrev pub IsAlphabet : Problem → Bound → TableValue → Kinds → Type 0
+IsAlphabet problem bound table kinds = IsAlphabetTo problem bound table kinds (length problem.sequences)

@@ -7,7 +7,7 @@ ghost use Rattle.mine_model.specs.Ranks.{HasRank};
 ghost use Rattle.sequence_grids.specs.Grids.{Reads, WritesRank};
 ghost use Rattle.sequence_grids.specs.Tables.{Grows, unknown};
 ghost use Rattle.sequence_grids.specs.Columns.{AreColumns, AreHeads};
-ghost use Rattle.sequence_grids.specs.Kinds.{IsTarget, IsNeededRank, IsRow, AreActs, AreEntered, Extends, HasKind, HasCell, AreKinds, KindsGrow, IsKind, AreRows, IsInside, row_at};
+ghost use Rattle.sequence_grids.specs.Kinds.{IsTarget, IsNeededRank, IsRow, AreActs, AreEntered, Extends, HasKind, HasCell, IsMet, AreKinds, KindsGrow, IsKind, AreRows, IsInside, row_at};
 ghost use Rattle.sequence_grids.specs.declared.kinds.Kind.{Kind};
 
 use super::columns::Columns;
@@ -52,7 +52,7 @@ pub(crate) struct Act {
 /// Room for what is found out of one item: what each column does; the states that it leads into without an
 /// output, with one, and with one that is needed; the outputs at one column, and their ranks.
 #[derive(Drop)]
-pub(crate) struct Scratch {
+pub struct Scratch {
     acts: Vec<Act>,
     pub(crate) silent: Vec<u32>,
     pub(crate) writes: Vec<u32>,
@@ -63,7 +63,7 @@ pub(crate) struct Scratch {
 
 impl Scratch {
     /// Empty room.
-    pub(crate) fn new(alloc: Global) -> Scratch {
+    pub fn new(alloc: Global) -> Scratch {
         Scratch {
             acts: Vec::new(alloc),
             silent: Vec::new(alloc),
@@ -77,7 +77,7 @@ impl Scratch {
 
 impl Kinds {
     /// No kinds yet of so many items, at the states of a transducer.
-    pub(crate) fn new(alloc: Global, fst: &Fst, items: u32) -> Result<Kinds, NoMemory>
+    pub fn new(alloc: Global, fst: &Fst, items: u32) -> Result<Kinds, NoMemory>
         ensures columns { IfOk result (λ kinds. AreColumns fst.now.labels
             kinds.columns.numbers.items kinds.columns.heads.items) }
         ensures none { IfOk result (λ kinds. (length kinds.numbers.items ≡ items)
@@ -131,6 +131,8 @@ pub(crate) fn kind_of(
     ensures grow { KindsGrow kinds.old kinds.new }
     ensures kinds { AreKinds job.now bound tables.new.classes kinds.new }
     ensures kind { IfOk result (λ number. HasKind job.now bound tables.new.classes kinds.new t number) }
+    ensures met { OnOk result (IsMet kinds.new t) }
+    ensures kept { (other : Item) → IsMet kinds.old other → IsMet kinds.new other }
 {
     let known = kinds.numbers[t.0 as usize];
     if known != NONE {
@@ -158,11 +160,22 @@ pub(crate) fn kind_of(
         kinds.numbers[t.0 as usize] = number;
         return Ok(number);
     }
-    let number = to_number(kinds.kinds.len())?;
+    let number = next_number(kinds.kinds.len())?;
     kinds.kinds.push(Kind { class, base })?;
     kinds.numbers[t.0 as usize] = number;
     keep_hint(&mut kinds.hints, hint, t);
     Ok(number)
+}
+
+// The number of one more kind.
+fn next_number(count: usize) -> Result<u32, NoMemory>
+    ensures number { IfOk result (λ number. number ≡ count) }
+    ensures some { IfOk result (λ number. number ≢ unknown) }
+{
+    if count >= NONE as usize {
+        return Err(NoMemory);
+    }
+    Ok(count as u32)
 }
 
 // How many hints there are.
@@ -200,7 +213,8 @@ fn alike(
     requires kinds { AreKinds job.now bound tables.now.classes kinds.now }
     requires kind { IsKind job.now bound tables.now.classes kinds.now.columns
         kinds.now.ends.items kinds.now.ranks.items t kind }
-    ensures { IfSome result (HasKind job.now bound tables.now.classes kinds.now t) }
+    ensures kind { IfSome result (HasKind job.now bound tables.now.classes kinds.now t) }
+    ensures some { IfSome result (λ number. number ≢ unknown) }
 {
     let _job = job;
     let _tables = tables;

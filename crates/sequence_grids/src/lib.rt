@@ -2,6 +2,7 @@
 //! there.
 #![tactic(auto)]
 
+mod alphabet;
 mod columns;
 mod grid;
 mod grid_parts;
@@ -14,12 +15,13 @@ mod successors;
 mod table;
 mod tables;
 
+pub use alphabet::{Alphabet, alphabet_of};
 pub use columns::Columns;
 pub use grid::Grid;
 pub use grid_parts::GridParts;
 pub use grids::Grids;
-pub use kinds::{Kind, Kinds, outputs_of};
-pub use places::Place;
+pub use kinds::{Kind, Kinds, Scratch, outputs_of};
+pub use places::{Place, push_met, push_places};
 pub use reading::Reading;
 pub use successors::{Successors, successors_of};
 pub use table::{Words, keep_step, known_step};

@@ -14,6 +14,7 @@ use indexmap::IndexSet;
 use mine_model::NoMemory;
 use state_bits::{StateSet, neighbours};
 use std::alloc::Global;
+use std::hash::Hash;
 use std::marker::Model;
 
 /// The states whose edges match an item and write nothing, those whose edges may write something that is
@@ -102,6 +103,21 @@ impl<const W: usize> Table<W> {
         })
     }
 
+    /// A table with the same classes and triples.
+    pub(crate) fn copy(&self, alloc: Global) -> Result<Table<W>, NoMemory>
+        requires width { W ≤ 17 }
+        ensures { IfOk result (λ copy. copy ≡ self.now) }
+    {
+        let mut predecessors = Vec::new(alloc);
+        predecessors.extend_from_slice(self.predecessors.as_slice())?;
+        Ok(Table {
+            predecessors,
+            classes: set_in_order(alloc, self.classes.as_slice())?,
+            triples: set_in_order(alloc, self.triples.as_slice())?,
+            steps: Vec::new(alloc),
+        })
+    }
+
     /// The number of the class with these states.
     pub(crate) fn class_number(
         &mut self,
@@ -140,6 +156,14 @@ impl<const W: usize> Table<W> {
             Some(number) => Ok(number),
             None => self.new_step(class, after),
         }
+    }
+
+    /// The steps that are kept.
+    #[inline]
+    pub(crate) fn steps(&self) -> &[u32]
+        ensures { AreSteps self.now.predecessors self.now.classes self.now.triples result.now }
+    {
+        self.steps.as_slice()
     }
 
     /// The step, found out and kept.
@@ -236,6 +260,20 @@ impl<const W: usize> Table<W> {
             triple.unseen.words()
         }
     }
+}
+
+// The set of these, which are different, in their order.
+fn set_in_order<T: Copy + Eq + Hash>(alloc: Global, list: &[T]) -> Result<IndexSet<T>, NoMemory>
+    ensures { IfOk result (λ set. set.keys ≡ list.now) }
+{
+    let mut set = IndexSet::new(alloc);
+    for one in list {
+        let (_index, new) = set.insert_full(*one)?;
+        if !new {
+            return Err(NoMemory);
+        }
+    }
+    Ok(set)
 }
 
 // The number of a class, which is added if it is new.

@@ -3,7 +3,7 @@
 ghost use Rattle.std.specs.Prelude.{◌≡◌, ℕ, ◌+◌, ◌*◌, ◌≤◌, ◌<◌, ◌↔◌, [], ◌∷◌, length, slice_get, Some, All, IfOk, IsTrue};
 ghost use Rattle.state_bits.specs.Members.{Has, HasBit};
 ghost use Rattle.fst_compile.specs.Transducer.{Leads};
-ghost use Rattle.sequence_grids.specs.Tables.{ClassSets, TripleSets, Precedes, Grows, IsStepAt, IsLast, IsClassOf, completing};
+ghost use Rattle.sequence_grids.specs.Tables.{ClassSets, TripleSets, Precedes, Grows, IsStepAt, IsLast, IsClassOf, AreSteps, completing};
 ghost use Rattle.sequence_grids.specs.Words.{AreClassWords, AreTripleWords};
 
 use super::table::{Table, Words};
@@ -49,7 +49,7 @@ impl Model for Tables {
 
 impl Tables {
     /// The table that has the triple of the end alone, with the number 0.
-    pub(crate) fn new(alloc: Global, fst: &Fst) -> Result<Tables, NoMemory>
+    pub fn new(alloc: Global, fst: &Fst) -> Result<Tables, NoMemory>
         ensures long { IfOk result (λ table. length table.predecessors ≡ length fst.now.labels + 1) }
         ensures edges { IfOk result (λ table. (q k : ℕ) → q ≤ length fst.now.labels
             → (Precedes table.predecessors q k ↔ Leads fst.now q k)) }
@@ -64,6 +64,18 @@ impl Tables {
             Width::Four(Table::new(alloc, fst)?)
         } else {
             Width::Wide(Table::new(alloc, fst)?)
+        };
+        Ok(Tables { width })
+    }
+
+    /// Tables with the same classes and triples.
+    pub fn copy(&self, alloc: Global) -> Result<Tables, NoMemory>
+        ensures { IfOk result (λ copy. copy ≡ self.now) }
+    {
+        let width = match &self.width {
+            Width::One(table) => Width::One(table.copy(alloc)?),
+            Width::Four(table) => Width::Four(table.copy(alloc)?),
+            Width::Wide(table) => Width::Wide(table.copy(alloc)?),
         };
         Ok(Tables { width })
     }
@@ -95,6 +107,14 @@ impl Tables {
             IsStepAt self.new.predecessors self.new.classes self.new.triples class after before) }
     {
         on_table!(&mut self.width, table => table.step(class, after))
+    }
+
+    /// The steps that are kept.
+    #[inline]
+    pub(crate) fn steps(&self) -> &[u32]
+        ensures { AreSteps self.now.predecessors self.now.classes self.now.triples result.now }
+    {
+        on_table!(&self.width, table => table.steps())
     }
 
     /// Whether the edges into state k match an item of the class and write nothing.
@@ -131,7 +151,7 @@ impl Tables {
     }
 
     /// Whether state q completes at a place of the triple.
-    pub(crate) fn completes(&self, triple: u32, q: u32, seen: bool) -> bool
+    pub fn completes(&self, triple: u32, q: u32, seen: bool) -> bool
         requires triple { triple < length self.now.triples }
         requires state { q < length self.now.predecessors }
         ensures { (t : TripleSets) → slice_get self.now.triples triple ≡ Some t

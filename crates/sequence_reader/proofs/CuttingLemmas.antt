@@ -1,6 +1,6 @@
 -- Lines of bytes that are cut between lines.
 use Rattle.std.proofs.Common.{◌≡◌, ℕ, ◌==◌, ◌<◌, ◌+◌, Bool, true, false, List, [], ◌∷◌, ◌++◌, map, length, take, drop, get_or, refl, sym, ap, ◌∙◌, append_assoc}
-use Rattle.std.proofs.lemmas.List.{map-append, append-nil, take_more, take-append-drop}
+use Rattle.std.proofs.lemmas.List.{map-append, take_more, take-append-drop}
 use Rattle.mine_model.specs.Bytes.{line_feed}
 use Rattle.mine_model.specs.Text.{onto_first, pieces_by_feed, without_return}
 use Rattle.text_ports.specs.Scanning.{lines_behind}
@@ -42,6 +42,3 @@ lines_behind-cut bytes end within feed =
     let whole : bytes ≡ front ++ line_feed ∷ rest = sym (take-append-drop (end + 1) bytes) ∙ ap (λ w. w ++ rest) cut ∙ append_assoc front (line_feed ∷ []) rest in
     ap lines_behind whole ∙ ap (map without_return) (pieces-append front rest) ∙ map-append without_return (pieces_by_feed (front ++ line_feed ∷ [])) (pieces_by_feed rest)
     ∙ ap (λ w. lines_behind w ++ lines_behind rest) (sym cut)
-
-pub lines_behind-whole : (bytes : List ℕ) (end : ℕ) → take end bytes ≡ bytes → drop end bytes ≡ [] → lines_behind bytes ≡ lines_behind (take end bytes) ++ lines_behind (drop end bytes)
-lines_behind-whole bytes end front none = rw (front, none) (sym (append-nil (lines_behind bytes)))

@@ -1,7 +1,8 @@
--- What was read of a piece by names of its own becomes a part of all.
-use Rattle.std.proofs.Common.{◌≡◌, ℕ, ◌+◌, ◌≤◌, ◌<◌, Bool, List, [], ◌∷◌, ◌++◌, map, length, get_or, inl, inr, refl, sym, ap, ◌∙◌, subst, arith, length-append}
-use Rattle.std.specs.List.{AllByRecursion, AllZip, Contains, flat_map}
-use Rattle.std.proofs.lemmas.List.{map-append, append-nil, length-map, get_or-map}
+-- What was read of a piece by known names and names of its own becomes a part of all.
+use Rattle.std.proofs.Common.{◌≡◌, ℕ, zero, suc, ◌+◌, ◌≤◌, ◌<◌, Bool, List, [], ◌∷◌, ◌++◌, map, length, take, get_or, inl, inr, refl, sym, ap, ◌∙◌, subst, arith, length-append}
+use Rattle.std.specs.List.{AllByRecursion, AllZip, Contains, flat_map, slice_index_or}
+use Rattle.std.proofs.Math.Seq.{take-append_seam}
+use Rattle.std.proofs.lemmas.List.{map-append, append-nil, length-map, get_or-map, take_more}
 use Rattle.std.proofs.lemmas.List.Concat.{flat_map-append}
 use Rattle.std.proofs.lemmas.List.Elements.{Contains-get_or, Contains-append_left, Contains-append_right, Contains-append_cases}
 use Rattle.mine_model.specs.declared.item.Item.{Item}
@@ -15,33 +16,93 @@ use Rattle.mine_model.proofs.NameLemmas.{GrowBy-more}
 use Rattle.item_names.specs.Fields.{AreItemsOf}
 use Rattle.text_ports.specs.Scanning.{lines_behind}
 use Rattle.sequence_reader.specs.declared.reading.Reading.{Reading}
-use Rattle.sequence_reader.specs.Taking.{IsGoodLine, IsTaken, renumbered}
+use Rattle.sequence_reader.specs.Taking.{IsGoodLine, behind, IsTaken, numbers_below, renumbered}
 use Rattle.sequence_reader.proofs.TakingLemmas.{items_of-append, counted, sequences-grown, named-grown}
 
--- names that grow by names grow by any others that are the same among them
-GrowBy-same : (old some others new : List (List ℕ)) → GrowBy old some new → GrowBy [] others some → GrowBy old others new
-GrowBy-same old some others new grown same = record {
+-- what behind known names are all that others bring, are all that they bring to names with the known ones
+GrowBy-same : (known old own others new : List (List ℕ)) → ((name : List ℕ) → Contains known name → Contains old name) → GrowBy old own new → GrowBy known others (known ++ own) → GrowBy old others new
+GrowBy-same known old own others new held grown same = record {
   added = grown.added;
   behind = grown.behind;
   exact = λ name. (λ inside. forth name ((grown.exact name).0 inside), λ inside. (grown.exact name).1 (back name inside));
 }
   where
-    forth : (name : List ℕ) → Contains (old ++ some) name → Contains (old ++ others) name
-    forth name inside = elim (Contains-append_cases old some name inside) [
+    forth : (name : List ℕ) → Contains (old ++ own) name → Contains (old ++ others) name
+    forth name inside = elim (Contains-append_cases old own name inside) [
       | inl here ↦ Contains-append_left old others name here
-      | inr there ↦ Contains-append_right old others name ((same.exact name).0 there)
+      | inr there ↦ elim (Contains-append_cases known others name ((same.exact name).0 (Contains-append_right known own name there))) [
+        | inl before ↦ Contains-append_left old others name (held name before)
+        | inr met ↦ Contains-append_right old others name met
+      ]
     ]
 
-    back : (name : List ℕ) → Contains (old ++ others) name → Contains (old ++ some) name
+    back : (name : List ℕ) → Contains (old ++ others) name → Contains (old ++ own) name
     back name inside = elim (Contains-append_cases old others name inside) [
-      | inl here ↦ Contains-append_left old some name here
-      | inr there ↦ Contains-append_right old some name ((same.exact name).1 there)
+      | inl here ↦ Contains-append_left old own name here
+      | inr there ↦ elim (Contains-append_cases known own name ((same.exact name).1 (Contains-append_right known others name there))) [
+        | inl before ↦ Contains-append_left old own name (held name before)
+        | inr met ↦ Contains-append_right old own name met
+      ]
     ]
+
+-- Numbers of names
+
+-- items of texts, and those of more texts behind them
+AreItemsOf-append : (names : List (List ℕ)) (items others : List Item) (texts more : List (List ℕ)) → AreItemsOf names items texts → AreItemsOf names others more → AreItemsOf names (items ++ others) (texts ++ more)
+AreItemsOf-append names items others texts more are later = record {
+  named = of_both (HasName names) items others are.named later.named;
+  said = map-append (name_of names) items others ∙ (λ j. are.said j ++ later.said j);
+}
+
+pub numbers_below-length : (n : ℕ) → length (numbers_below n) ≡ n
+numbers_below-length zero = refl
+numbers_below-length (suc n) =
+    let below = numbers_below-length n in
+    let more = length-append (numbers_below n) ((record { 0 = n }) ∷ []) in
+    omega (arith, below, more)
+
+-- the first names have the first numbers
+AreItemsOf-below : (names : List (List ℕ)) (n : ℕ) → n ≤ length names → AreItemsOf names (numbers_below n) (take n names)
+AreItemsOf-below names zero within = record { named = tt; said = refl }
+AreItemsOf-below names (suc n) within =
+    let below = AreItemsOf-below names n (omega (arith, within)) in
+    let last : AreItemsOf names ((record { 0 = n }) ∷ []) (get_or names n [] ∷ []) = record { named = (within, tt); said = refl } in
+    let one : n + 1 ≡ suc n = omega arith in
+    subst (λ k. AreItemsOf names (numbers_below (suc n)) (take k names)) one
+    (subst (AreItemsOf names (numbers_below (suc n))) (sym (take_more names n [] within))
+    (AreItemsOf-append names (numbers_below n) ((record { 0 = n }) ∷ []) (take n names) (get_or names n [] ∷ []) below last))
+
+-- known names keep their numbers, and those of others stand behind them
+pub AreItemsOf-behind : (known own added new : List (List ℕ)) (numbers : List Item) → new ≡ known ++ added → AreItemsOf new numbers own
+    → AreItemsOf new (numbers_below (length known) ++ numbers) (known ++ own)
+AreItemsOf-behind known own added new numbers is are =
+    let size : length known ≤ length new = let whole = ap length is in let both = length-append known added in omega (arith, whole, both) in
+    let front : take (length known) new ≡ known = ap (take (length known)) is ∙ take-append_seam known added in
+    AreItemsOf-append new (numbers_below (length known)) numbers known own
+    (subst (AreItemsOf new (numbers_below (length known))) front (AreItemsOf-below new (length known) size)) are
+
+-- Numbers that are those of their places
+
+module _ (numbers : List Item) (kept : (k : ℕ) → k < length numbers → slice_index_or numbers k (record { 0 = 0 }) ≡ record { 0 = k }) where
+  items-kept : (items : List Item) → AllByRecursion (λ item. item.0 < length numbers) items → map (renumbered numbers) items ≡ items
+  items-kept [] within = refl
+  items-kept (item ∷ items) within =
+      let first : renumbered numbers item ≡ item = kept item.0 within.0 in
+      let others = items-kept items within.1 in
+      cc (first, others)
+
+  pub sequences-kept : (sequences : List (Sequence Item)) → AllByRecursion (λ sequence. AllByRecursion (λ item. item.0 < length numbers) sequence.items) sequences
+      → map (sequence_by (renumbered numbers)) sequences ≡ sequences
+  sequences-kept [] within = refl
+  sequences-kept (sequence ∷ sequences) within =
+      let first : sequence_by (renumbered numbers) sequence ≡ sequence = ap (λ (w : List Item). record { items = w; weight = sequence.weight }) (items-kept sequence.items within.0) in
+      let others = sequences-kept sequences within.1 in
+      cc (first, others)
 
 -- Items whose new numbers have the names of the old ones
 
 module _ (names own : List (List ℕ)) (numbers : List Item) (are : AreItemsOf names numbers own) where
-  as_many : length numbers ≡ length own
+  pub as_many : length numbers ≡ length own
   as_many = sym (length-map numbers (name_of names)) ∙ ap length are.said
 
   item-named : (item : Item) → HasName own item → HasName names (renumbered numbers item)
@@ -77,14 +138,9 @@ module _ (names own : List (List ℕ)) (numbers : List Item) (are : AreItemsOf n
       let others = sequences-said sequences named.1 in
       cc (first, others)
 
-  pub items-within : (sequences : List (Sequence Item)) → AllByRecursion (λ sequence. AllByRecursion (HasName own) sequence.items) sequences
-      → AllByRecursion (λ sequence. AllByRecursion (λ item. item.0 < length numbers) sequence.items) sequences
-  items-within sequences named =
-      subst (λ n. AllByRecursion (λ (sequence : Sequence Item). AllByRecursion (λ (item : Item). item.0 < n) sequence.items) sequences) (sym as_many) named
-
 -- the sequences of a piece, renumbered, behind those before it
 pub IsTaken-joined : (known : List (List ℕ)) (weighted : Bool) (earlier lines : List (List ℕ)) (all piece new : Reading) (numbers : List Item)
-    → IsTaken known weighted earlier all → IsTaken [] weighted lines piece → AreItemsOf new.names numbers piece.names → GrowBy all.names piece.names new.names
+    → IsTaken known weighted earlier all → IsTaken known weighted lines (behind known piece) → AreItemsOf new.names numbers (known ++ piece.names) → GrowBy all.names piece.names new.names
     → length new.names ≤ most_items → new.db ≡ all.db ++ map (sequence_by (renumbered numbers)) piece.db → new.weighted ≡ all.weighted
     → length all.db + length piece.db ≤ most_sequences → IsTaken known weighted (earlier ++ lines) new
 IsTaken-joined known weighted earlier lines all piece new numbers taken own are grown room joined same few = record {
@@ -92,23 +148,26 @@ IsTaken-joined known weighted earlier lines all piece new numbers taken own are 
   good = of_both (IsGoodLine weighted) earlier lines taken.good own.good;
   few =
       let first = counted known weighted earlier all taken in
-      let second = counted [] weighted lines piece own in
+      let second = counted known weighted lines (behind known piece) own in
       let both = length-append earlier lines in
       omega (arith, first, second, both, few);
   grown =
       subst (λ items. GrowBy known items new.names) (sym (items_of-append weighted earlier lines))
-      (GrowBy-more known _ all.names _ new.names taken.grown (GrowBy-same all.names piece.names _ new.names grown own.grown));
+      (GrowBy-more known _ all.names _ new.names taken.grown (GrowBy-same known all.names piece.names _ new.names held grown own.grown));
   room = room;
   named =
       subst (AllByRecursion (λ (sequence : Sequence Item). AllByRecursion (HasName new.names) sequence.items)) (sym joined)
       (of_both (λ (sequence : Sequence Item). AllByRecursion (HasName new.names) sequence.items) all.db (map (sequence_by (renumbered numbers)) piece.db)
-      (named-grown all.names _ new.names all.db grown taken.named) (sequences-named new.names piece.names numbers are piece.db own.named));
+      (named-grown all.names _ new.names all.db grown taken.named) (sequences-named new.names (known ++ piece.names) numbers are piece.db own.named));
   said =
       ap (map (sequence_by (name_of new.names))) joined
       ∙ map-append (sequence_by (name_of new.names)) all.db (map (sequence_by (renumbered numbers)) piece.db)
-      ∙ (λ j. (sequences-grown all.names _ new.names all.db grown taken.named ∙ taken.said) j ++ (sequences-said new.names piece.names numbers are piece.db own.named ∙ own.said) j)
+      ∙ (λ j. (sequences-grown all.names _ new.names all.db grown taken.named ∙ taken.said) j ++ (sequences-said new.names (known ++ piece.names) numbers are piece.db own.named ∙ own.said) j)
       ∙ sym (map-append (λ line. sequence_of weighted (fields_of line)) earlier lines);
 }
+  where
+    held : (name : List ℕ) → Contains known name → Contains all.names name
+    held name inside = subst (λ (w : List (List ℕ)). Contains w name) (sym taken.grown.behind) (Contains-append_left known taken.grown.added name inside)
 
 -- Pieces, one after another
 
@@ -124,26 +183,27 @@ AllZip-last R (x ∷ xs) (w ∷ ys) y zip =
     (x ∷ front, last, ap (λ l. x ∷ l) is, (zip.0, others), own)
 
 pub pieces-none : (known : List (List ℕ)) (weighted : Bool) (v : Reading) → IsTaken known weighted [] v → (texts : List (List ℕ))
-    → AllZip (λ text reading. IsTaken [] weighted (lines_behind text) reading) texts [] → IsTaken known weighted (flat_map lines_behind texts) v
+    → AllZip (λ text reading. IsTaken known weighted (lines_behind text) (behind known reading)) texts [] → IsTaken known weighted (flat_map lines_behind texts) v
 pieces-none known weighted v start [] zip = start
 pieces-none known weighted v start (text ∷ texts) zip = absurd zip
 
 pub pieces-more : (known : List (List ℕ)) (weighted : Bool) (seen : List Reading) (v piece w : Reading)
-    → ((texts : List (List ℕ)) → AllZip (λ text reading. IsTaken [] weighted (lines_behind text) reading) texts seen → IsTaken known weighted (flat_map lines_behind texts) v)
-    → ((earlier lines : List (List ℕ)) → IsTaken known weighted earlier v → IsTaken [] weighted lines piece → IsTaken known weighted (earlier ++ lines) w)
-    → (texts : List (List ℕ)) → AllZip (λ text reading. IsTaken [] weighted (lines_behind text) reading) texts (seen ++ piece ∷ []) → IsTaken known weighted (flat_map lines_behind texts) w
+    → ((texts : List (List ℕ)) → AllZip (λ text reading. IsTaken known weighted (lines_behind text) (behind known reading)) texts seen → IsTaken known weighted (flat_map lines_behind texts) v)
+    → ((earlier lines : List (List ℕ)) → IsTaken known weighted earlier v → IsTaken known weighted lines (behind known piece) → IsTaken known weighted (earlier ++ lines) w)
+    → (texts : List (List ℕ)) → AllZip (λ text reading. IsTaken known weighted (lines_behind text) (behind known reading)) texts (seen ++ piece ∷ []) → IsTaken known weighted (flat_map lines_behind texts) w
 pieces-more known weighted seen v piece w so_far step texts zip =
-    let (front, text, is, others, own) = AllZip-last (λ (text : List ℕ) (reading : Reading). IsTaken [] weighted (lines_behind text) reading) texts seen piece zip in
+    let (front, text, is, others, own) = AllZip-last (λ (text : List ℕ) (reading : Reading). IsTaken known weighted (lines_behind text) (behind known reading)) texts seen piece zip in
     let whole : flat_map lines_behind texts ≡ flat_map lines_behind front ++ lines_behind text =
     ap (flat_map lines_behind) is ∙ flat_map-append lines_behind front (text ∷ []) ∙ ap (λ w. flat_map lines_behind front ++ w) (append-nil (lines_behind text)) in
     subst (λ lines. IsTaken known weighted lines w) (sym whole) (step (flat_map lines_behind front) (lines_behind text) (so_far front others) own)
 
 -- the items of each piece have names
-pub pieces-named : {X : Type 0} (weighted : Bool) (lines : X → List (List ℕ)) (pieces : List X) (readings : List Reading) → AllZip (λ piece reading. IsTaken [] weighted (lines piece) reading) pieces readings
-    → AllByRecursion (λ reading. AllByRecursion (λ sequence. AllByRecursion (HasName reading.names) sequence.items) reading.db) readings
-pieces-named weighted lines pieces [] zip = tt
-pieces-named weighted lines [] (reading ∷ readings) zip = absurd zip
-pieces-named weighted lines (piece ∷ pieces) (reading ∷ readings) zip = (zip.0.named, pieces-named weighted lines pieces readings zip.1)
+pub pieces-named : {X : Type 0} (known : List (List ℕ)) (weighted : Bool) (lines : X → List (List ℕ)) (pieces : List X) (readings : List Reading)
+    → AllZip (λ piece reading. IsTaken known weighted (lines piece) (behind known reading)) pieces readings
+    → AllByRecursion (λ reading. AllByRecursion (λ sequence. AllByRecursion (HasName (known ++ reading.names)) sequence.items) reading.db) readings
+pieces-named known weighted lines pieces [] zip = tt
+pieces-named known weighted lines [] (reading ∷ readings) zip = absurd zip
+pieces-named known weighted lines (piece ∷ pieces) (reading ∷ readings) zip = (zip.0.named, pieces-named known weighted lines pieces readings zip.1)
 
 -- pieces by their bytes
 pub pieces-bytes : {X : Type 0} (bytes : X → List ℕ) (R : List ℕ → Reading → Type 0) (pieces : List X) (readings : List Reading) → AllZip (λ piece reading. R (bytes piece) reading) pieces readings

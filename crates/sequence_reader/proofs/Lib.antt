@@ -2,3 +2,4 @@ pub mod TakingLemmas
 mod JoiningLemmas
 mod CuttingLemmas
 mod PieceLemmas
+mod BehindLemmas

@@ -1,5 +1,5 @@
 -- How a line becomes a sequence, and why it is refused.
-use Rattle.std.specs.Prelude.{◌≡◌, ℕ, ◌≤◌, ◌<◌, Bool, List, [], ◌∷◌, ◌++◌, map, length}
+use Rattle.std.specs.Prelude.{◌≡◌, ℕ, zero, suc, ◌≤◌, ◌<◌, Bool, List, [], ◌∷◌, ◌++◌, map, length}
 use Rattle.std.specs.List.{AllByRecursion, slice_index_or}
 use Rattle.mine_model.specs.declared.item.Item.{Item}
 use Rattle.sequence_reader.specs.declared.sequence_fault.SequenceFault.{SequenceFault}
@@ -10,6 +10,7 @@ use Rattle.mine_model.specs.Support.{Sequence}
 use Rattle.mine_model.specs.Names.{name_of, HasName, sequence_by, GrowBy}
 use Rattle.mine_model.specs.Refusal.{sequence_of, sequences_of_lines, items_of, IsBadWeight, HasMoreNames}
 use Rattle.sequence_reader.specs.declared.reading.Reading.{Reading}
+use Rattle.sequence_reader.specs.declared.piece.Piece.{Piece}
 
 -- the sequence that a line says to a reader
 abbrev pub said_to : Reading → List ℕ → Sequence (List ℕ)
@@ -80,3 +81,22 @@ pub record IsTaken (known : List (List ℕ)) (weighted : Bool) (lines : List (Li
 -- the item that has the number of this one
 abbrev pub renumbered : List Item → Item → Item
 renumbered numbers item = slice_index_or numbers item.0 (record { 0 = 0 })
+
+-- the same by these names, and its own behind them
+abbrev pub behind : List (List ℕ) → Reading → Reading
+behind known reading = record {
+  weighted = reading.weighted;
+  names = known ++ reading.names;
+  items = reading.items;
+  db = reading.db;
+}
+
+-- a line of a piece became one more sequence, by the known names and the piece's own
+pub record TookPieceLine (before : Piece) (number : ℕ) (text : List ℕ) (after : Piece) : Type 0 where
+  pub known : after.known ≡ before.known
+  pub took : TookLine (behind before.known.now before.own) number text (behind before.known.now after.own)
+
+-- the items with the numbers below this one
+abbrev pub numbers_below : ℕ → List Item
+numbers_below zero = []
+numbers_below (suc n) = numbers_below n ++ (record { 0 = n }) ∷ []

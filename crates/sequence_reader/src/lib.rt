@@ -3,6 +3,7 @@
 
 mod cutting;
 mod joining;
+mod piece;
 mod pieces;
 mod reading;
 mod sequence_fault;

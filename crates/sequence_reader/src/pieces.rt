@@ -4,14 +4,15 @@ ghost use Rattle.std.specs.Prelude.{◌≡◌, ℕ, ◌≤◌, ◌<◌, ◌++◌
 ghost use Rattle.std.specs.List.{AllZip};
 ghost use Rattle.mine_model.specs.Limits.{most_file_bytes, most_items};
 ghost use Rattle.text_ports.specs.Scanning.{lines_behind};
-ghost use Rattle.sequence_reader.specs.Taking.{IsTaken};
+ghost use Rattle.sequence_reader.specs.Taking.{behind, IsTaken};
 
 use super::cutting::cut;
 use super::joining::append_all;
-use super::reading::{Reading, read_in_order};
+use super::piece::read_piece;
+use super::reading::Reading;
 use super::sequence_fault::SequenceFault;
 use item_names::Names;
-use mine_model::{Db, NoMemory};
+use mine_model::NoMemory;
 use rayon::prelude::*;
 use std::alloc::Global;
 use std::thread::Threads;
@@ -35,51 +36,39 @@ pub(crate) fn read_in_pieces<R: Threads + Sync>(
     ensures same { all.new.weighted ≡ all.old.weighted }
 {
     let pieces = cut(alloc, bytes, workers)?;
-    match read_pieces(rt, alloc, pieces.as_slice(), all.weighted) {
+    match read_pieces(rt, alloc, &all.names, pieces.as_slice(), all.weighted) {
         Ok(readings) => append_all(alloc, all, readings),
         Err(_) => Ok(false),
     }
 }
 
-/// What is read of the pieces, each by names of its own, in order.
+/// What is read of the pieces in order, each by the known names and names of its own.
 fn read_pieces<R: Threads + Sync>(
     rt: &R,
     alloc: Global,
+    known: &Names,
     pieces: &[&[u8]],
     weighted: bool,
 ) -> Result<Vec<Reading>, SequenceFault>
-    requires { All (λ piece. length piece.now ≤ most_file_bytes) pieces.now }
+    requires few { All (λ piece. length piece.now ≤ most_file_bytes) pieces.now }
+    requires room { length known.now ≤ most_items }
     ensures { IfOk result (λ readings. AllZip
-        (λ piece reading. IsTaken [] weighted (lines_behind piece.now) reading) pieces.now readings.items) }
+        (λ piece reading. IsTaken known.now weighted (lines_behind piece.now) (behind known.now reading))
+        pieces.now readings.items) }
 {
     let collected = pieces
         .par_iter()
         .with_min_len(1)
         .map(
             |piece: &&[u8]| -> Result<Reading, SequenceFault>
-                requires { length piece.now.now ≤ most_file_bytes }
-                ensures { IfOk result (λ reading.
-                    IsTaken [] weighted (lines_behind piece.now.now) reading) }
-            { read_piece(alloc, *piece, weighted) },
+                requires { (length piece.now.now ≤ most_file_bytes) × (length known.now ≤ most_items) }
+                ensures { IfOk result (λ reading. IsTaken known.entry.now weighted
+                    (lines_behind piece.now.now) (behind known.entry.now reading)) }
+            { read_piece(alloc, known, *piece, weighted) },
         )
         .collect::<Result<Vec<Reading>, SequenceFault>>(rt, alloc);
     match collected {
         Ok(readings) => readings,
         Err(_) => Err(SequenceFault::NoMemory),
     }
-}
-
-/// What is read of a piece by names of its own.
-fn read_piece(alloc: Global, bytes: &[u8], weighted: bool) -> Result<Reading, SequenceFault>
-    requires { length bytes.now ≤ most_file_bytes }
-    ensures { IfOk result (λ reading. IsTaken [] weighted (lines_behind bytes.now) reading) }
-{
-    let mut reading = Reading {
-        weighted,
-        names: Names::new(alloc)?,
-        items: Vec::new(alloc),
-        db: Db::new(alloc),
-    };
-    read_in_order(alloc, bytes, &mut reading)?;
-    Ok(reading)
 }

@@ -1,18 +1,20 @@
-ghost use Rattle.std.specs.Prelude.{◌≡◌, ◌≢◌, ℕ, ◌≤◌, List, [], ◌++◌, map, take, Err, length, IsTrue, IfOk, OnOk, OnErr, IfSome};
+ghost use Rattle.std.specs.Prelude.{◌≡◌, ◌≢◌, ℕ, ◌≤◌, ◌<◌, List, [], ◌++◌, map, take, Err, length, All, IsTrue, IfOk, IfErr, OnOk, OnErr, IfSome};
 ghost use Rattle.std.specs.List.{AllByRecursion};
 ghost use Rattle.mine_model.specs.declared.fault.Fault.{Fault};
 ghost use Rattle.mine_model.specs.First.{FirstAmong};
-ghost use Rattle.mine_model.specs.Limits.{most_file_bytes, most_items};
+ghost use Rattle.mine_model.specs.Limits.{most_file_bytes, most_items, most_sequences, most_length, most_weight};
 ghost use Rattle.sequence_reader.specs.Faults.{fault_of_sequences};
 ghost use Rattle.mine_model.specs.Names.{name_of, HasName, sequence_by, GrowBy};
 ghost use Rattle.mine_model.specs.Refusal.{sequences_of, items_of, IsSequenceLineRefusal, IsSequencesRefusal};
 ghost use Rattle.text_ports.specs.Faults.{Rose};
+ghost use Rattle.text_ports.specs.Lines.{AreFields, IsWithin};
 ghost use Rattle.text_ports.specs.Scanning.{lines_behind};
-ghost use Rattle.sequence_reader.specs.Taking.{TookLine, RefusedLine, IsTaken};
+ghost use Rattle.item_names.specs.Fields.{texts_at};
+ghost use Rattle.sequence_reader.specs.Taking.{said_to, IsWeighed, IsLineFault, TookLine, RefusedLine, IsTaken};
 
 use super::pieces::read_in_pieces;
 use super::sequence_fault::SequenceFault;
-use super::weighing::weigh;
+use super::weighing::{Weighed, weigh};
 use item_names::{MOST_NAMES, Names, NamesFault};
 use mine_model::{Db, Item, NoMemory};
 use std::alloc::Global;
@@ -48,13 +50,7 @@ impl LineVisitor for Reading {
     ghost refused = { RefusedLine };
 
     fn line(&mut self, number: u64, text: &[u8], fields: &[Span]) -> Result<(), SequenceFault> {
-        if self.db.sequences() == MOST_SEQUENCES {
-            return Err(SequenceFault::TooManySequences { line: number });
-        }
-        let line = weigh(self.weighted, number, text, fields)?;
-        if line.items.len() > MOST_LENGTH {
-            return Err(SequenceFault::TooLong { line: number });
-        }
+        let line = self.next_line(number, text, fields)?;
         let items = &mut self.items;
         match self.names.intern_fields(text, line.items, items) {
             Ok(()) => {}
@@ -63,6 +59,36 @@ impl LineVisitor for Reading {
         }
         self.db.push_weighted(items.as_slice(), line.weight)?;
         Ok(())
+    }
+}
+
+impl Reading {
+    /// The next line, where there is room for it and nothing is wrong with it but perhaps its names.
+    pub(crate) fn next_line<'a>(
+        &self,
+        number: u64,
+        text: &[u8],
+        fields: &'a [Span],
+    ) -> Result<Weighed<'a>, SequenceFault>
+        requires { AreFields text.now fields.now }
+        ensures said { IfOk result (λ line. said_to self.now text.now
+            ≡ record { items = texts_at text.now line.items.now; weight = line.weight }) }
+        ensures within { IfOk result (λ line. All (IsWithin (length text.now)) line.items.now) }
+        ensures least { IfOk result (λ line. 1 ≤ line.weight) }
+        ensures most { IfOk result (λ line. line.weight ≤ most_weight) }
+        ensures few { OnOk result (length self.now.db < most_sequences) }
+        ensures weighed { OnOk result (IsWeighed self.now text.now) }
+        ensures short { IfOk result (λ line. length line.items.now ≤ most_length) }
+        ensures bad { IfErr result (λ fault. IsLineFault self.now number text.now fault) }
+    {
+        if self.db.sequences() == MOST_SEQUENCES {
+            return Err(SequenceFault::TooManySequences { line: number });
+        }
+        let line = weigh(self.weighted, number, text, fields)?;
+        if line.items.len() > MOST_LENGTH {
+            return Err(SequenceFault::TooLong { line: number });
+        }
+        Ok(line)
     }
 }
 

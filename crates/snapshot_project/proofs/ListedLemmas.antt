@@ -30,10 +30,6 @@ pub goes-unseen : (need : Option ℕ) → goes false need ≡ false
 goes-unseen None = refl
 goes-unseen (Some need) = refl
 
--- the list without what is said of ranks
-pub snapshots-of : (part : GridList) (ranks : List ℕ) (list : SnapshotList) (are : AreSnapshots part ranks list) → AreSnapshotsOf part are.prefix list.snapshots
-snapshots-of part ranks list are = record { rising = are.rising; right = are.right; all = are.all }
-
 module _ (part : GridList) (prefix : List Item) (snapshots : List Snapshot) (are : AreSnapshotsOf part prefix snapshots) where
   -- a sequence between two places of the list has no snapshot in it
   pub none-between : (cut sequence : ℕ)

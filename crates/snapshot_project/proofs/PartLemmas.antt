@@ -1,13 +1,15 @@
 -- What is known of a part by its sequences and its bound.
-use Rattle.std.proofs.Common.{◌≡◌, ℕ, zero, suc, ◌≤◌, ◌<◌, Option, Some, None, List, [], ◌∷◌, length, get_or, sym, subst, arith}
+use Rattle.std.proofs.Common.{◌≡◌, ℕ, zero, suc, ◌≤◌, ◌<◌, false, Option, Some, None, List, [], ◌∷◌, length, get_or, sym, subst, arith}
 use Rattle.std.specs.Prelude.{IfSome}
 use Rattle.std.specs.List.{AllByRecursion, AllPairs}
 use Rattle.std.proofs.lemmas.Option.{slice_get-get_or}
 use Rattle.mine_model.proofs.ElementLemmas.{get-held}
-use Rattle.mine_model.proofs.ListLemmas.{AllByRecursion-contained}
+use Rattle.mine_model.proofs.ListLemmas.{AllByRecursion-contained, AllByRecursion-from}
 use Rattle.mining_job.specs.declared.bound.Bound.{Bound}
-use Rattle.mining_job.specs.Problems.{Problem, IsWhole}
+use Rattle.mining_job.specs.Problems.{Problem, IsWhole, items_of}
+use Rattle.sequence_grids.specs.Grids.{Completes}
 use Rattle.snapshot_project.specs.Snapshots.{bound_of, IsPart}
+use Rattle.snapshot_project.specs.Terrains.{AreAll}
 
 rising-least : (numbers : List ℕ) → AllPairs (λ low high. low < high) numbers → (i : ℕ) → i < length numbers → i ≤ get_or numbers i 0
 rising-least numbers rising zero inside = omega arith
@@ -43,3 +45,11 @@ part-begun job whole bound pivot same most numbers rising within =
       rising = rising;
       within = within;
     }
+
+-- all sequences that have a pattern within the bound
+module _ (job : Problem) (bound : Bound) (numbers : List ℕ) (all : AreAll job bound numbers) where
+  pub all-within : AllByRecursion (λ i. i < length job.sequences) numbers
+  all-within = AllByRecursion-from (λ i. i < length job.sequences) numbers (λ i held. ((all.exact i).0 held).0)
+
+  pub all-complete : AllByRecursion (λ i. Completes job bound (items_of job i) 0 false) numbers
+  all-complete = AllByRecursion-from (λ i. Completes job bound (items_of job i) 0 false) numbers (λ i held. ((all.exact i).0 held).1)

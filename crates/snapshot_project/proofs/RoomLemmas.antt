@@ -188,13 +188,6 @@ laid-within from (one ∷ found) end (first, forward, others) next held = elim (
   | inr there ↦ let (low, ordered, high) = laid-within one.last found end others next there in (omega arith, ordered, high)
 ]
 
--- where the run is empty, all is full at once
-pub files-empty : (found : List NextRank) → AreLaidOut 0 found 0 → All IsFull (map unfiled found)
-files-empty found are k d below =
-    let (next, among, is) = Contains-from unfiled found (get_or (map unfiled found) k d) (k, below, get_or_default (map unfiled found) k (get_or (map unfiled found) k d) d below) in
-    let (low, ordered, high) = laid-within 0 found 0 are next among in
-    subst IsFull (sym is) (omega arith)
-
 -- and no rank has a stand to be read
 pub places-none : (found : List NextRank) → AreLaidOut 0 found 0 → (next : NextRank) → Contains found next → next.first < next.last → ⊥
 places-none found are next among kept = let (low, ordered, high) = laid-within 0 found 0 are next among in omega arith

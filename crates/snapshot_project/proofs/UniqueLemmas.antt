@@ -162,13 +162,3 @@ pub sequences-cut : (course : Course) (groups done rest : List (List Stand)) (al
 sequences-cut course groups done rest all these cut whole are =
     let (front, back, split, here, there) = zip-cut (AreVisits course) done rest all (subst (λ (l : List (List Stand)). AllZip (AreVisits course) l all) cut whole) in
     (back, split ∙ ap (λ (l : List (List Visit)). l ++ back) (sequences-unique course done front these here are), there)
-
--- so where more are walked behind those that were
-pub sequences-cut_next : (course : Course) (groups done rest more left : List (List Stand)) (all these here : List (List Visit)) → groups ≡ done ++ rest → rest ≡ more ++ left
-    → AllZip (AreVisits course) groups all → AllZip (AreVisits course) done these → AllZip (AreVisits course) more here
-    → (groups ≡ (done ++ more) ++ left) × AllZip (AreVisits course) (done ++ more) (these ++ here)
-    × ((others : List (List Visit)) × (all ≡ these ++ here ++ others) × AllZip (AreVisits course) left others)
-sequences-cut_next course groups done rest more left all these here cut next whole are behind =
-    let split : groups ≡ (done ++ more) ++ left = cut ∙ ap (λ (l : List (List Stand)). done ++ l) next ∙ sym (append_assoc done more left) in
-    let both : AllZip (AreVisits course) (done ++ more) (these ++ here) = zip-append (AreVisits course) done more these here are behind in
-    (split, both, sequences-cut course groups (done ++ more) left all (these ++ here) split whole both)

@@ -6,11 +6,6 @@ abbrev pub sees : Bool → Option ℕ → ℕ → Bool
 sees seen None rank = true
 sees seen (Some need) rank = seen || need == rank
 
--- with any rank
-abbrev pub sees_all : Bool → Option ℕ → Bool
-sees_all seen None = true
-sees_all seen (Some need) = seen
-
 -- a path that goes on may write nothing more: where something is needed that was seen
 abbrev pub goes : Bool → Option ℕ → Bool
 goes seen None = false

@@ -65,11 +65,6 @@ OpensNext problem bound items prefix seen rank position state =
     (before : ℕ) × (position ≡ before + 1) × WritesNext problem bound items prefix rank before state
     × Completes problem bound (drop position items) state (goes (sees seen bound.need rank) bound.need)
 
--- the first so many sequences of the part, with their weights
-abbrev pub sequences_before : GridList → ℕ → List (Sequence Item)
-sequences_before part count =
-    map (λ i. sequence_at part.problem.sequences i) (take count part.sequences)
-
 -- the list has snapshots of the prefix, each once, and all from which more can be written
 pub record AreSnapshotsOf (part : GridList) (prefix : List Item) (snapshots : List Snapshot) : Type 0 where
   pub rising : AllPairs ComesBefore snapshots

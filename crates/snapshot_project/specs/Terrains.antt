@@ -1,5 +1,7 @@
 -- What a part keeps of its sequences for walks.
-use Rattle.std.specs.Prelude.{◌≡◌, ℕ, ◌<◌, ◌↔◌, true, false, List, AllPairs, Contains}
+use Rattle.std.specs.Prelude.{◌≡◌, ℕ, ◌<◌, ◌↔◌, true, false, None, List, length, AllPairs, Contains}
+use Rattle.mining_job.specs.declared.bound.Bound.{Bound}
+use Rattle.mining_job.specs.Problems.{Problem, items_of}
 use Rattle.place_walk.specs.declared.stand.Stand.{Stand}
 use Rattle.sequence_grids.specs.Grids.{GridList, Completes, items_at}
 use Rattle.sequence_grids.specs.Successors.{AreSuccessors}
@@ -10,7 +12,7 @@ use Rattle.snapshot_project.specs.declared.part.Ground.{Ground}
 use Rattle.snapshot_project.specs.declared.terrain.Terrain.{Terrain}
 use Rattle.snapshot_project.specs.declared.terrain.AnyTerrain.{AnyTerrain}
 use Rattle.snapshot_project.specs.declared.terrain.AnyTerrain.TheVariants.{One, Four, Wide}
-use Rattle.snapshot_project.specs.Snapshots.{IsPart}
+use Rattle.snapshot_project.specs.Snapshots.{IsPart, bound_of}
 use Rattle.snapshot_project.specs.Grouped.{AreWeights}
 
 -- the rows are the successors of all states, for which sets of so many words have room, and the records are
@@ -50,3 +52,15 @@ pub record AreStarts (part : GridList) (count : ℕ) (starts : List Stand) : Typ
       ↔ ((grid : ℕ) × (grid < count)
       × (stand ≡ record { place = start_of part grid; state = 0; first = true })
       × Completes part.problem part.bound (items_at part grid) 0 false)
+
+-- the numbers are those of all sequences that have a pattern within the bound, and rise
+pub record AreAll (problem : Problem) (bound : Bound) (numbers : List ℕ) : Type 0 where
+  pub rising : AllPairs (λ low high. low < high) numbers
+  pub exact : (i : ℕ) → Contains numbers i
+      ↔ ((i < length problem.sequences) × Completes problem bound (items_of problem i) 0 false)
+
+-- the part of all sequences that have a pattern of frequent items
+pub record IsWholePart (problem : Problem) (part : GridList) : Type 0 where
+  pub problem_is : part.problem ≡ problem
+  pub bound_is : part.bound ≡ bound_of (length problem.ranking.order) None
+  pub sequences_are : AreAll problem part.bound part.sequences

@@ -1,17 +1,20 @@
 //! A part, with the snapshots of the empty prefix.
 
-ghost use Rattle.std.specs.Prelude.{◌≡◌, ℕ, ◌^◌, ◌≤◌, ◌<◌, ◌++◌, [], length, replicate, AllPairs, IfSome, IfOk, OnOk, IsTrue};
+ghost use Rattle.std.specs.Prelude.{◌≡◌, ℕ, ◌+◌, ◌^◌, ◌≤◌, ◌<◌, ◌++◌, true, false, None, [], length, replicate, AllPairs, IfSome, IfOk, OnOk, IsTrue};
 ghost use Rattle.std.specs.List.{AllByRecursion};
-ghost use Rattle.snapshot_project.specs.Snapshots.{bound_of};
+ghost use Rattle.snapshot_project.specs.Snapshots.{bound_of, IsPart};
 ghost use Rattle.snapshot_project.specs.Stands.{IsProjected};
 ghost use Rattle.snapshot_project.specs.Grouped.{AreWeights};
-ghost use Rattle.snapshot_project.specs.Terrains.{AreStarts};
+ghost use Rattle.snapshot_project.specs.Terrains.{AreStarts, AreAll, IsWholePart, IsTerrainOf};
 ghost use Rattle.mine_model.specs.Database.{sequence_at};
+ghost use Rattle.mine_model.specs.Limits.{most_length};
 ghost use Rattle.mining_job.specs.declared.bound.Bound.{Bound as Bounded};
+ghost use Rattle.mining_job.specs.Problems.{IsWhole, items_of};
+ghost use Rattle.sequence_grids.specs.Grids.{Completes};
 
 use super::part::{Part, bound_by, part_of};
 use super::snapshots::Snapshots;
-use super::terrain::terrain_of;
+use super::terrain::{AnyTerrain, terrain_of, terrain_of_all, terrain_of_all_alone};
 use fst_compile::State;
 use mine_model::NoMemory;
 use mining_job::{Bound, Job};
@@ -19,6 +22,7 @@ use place_walk::Stand;
 use sequence_grids::Grids;
 use std::alloc::Global;
 use std::sync::Arc;
+use std::thread::Threads;
 
 /// The part of these sequences, and what is kept of the empty prefix: it stands at the starts of those that
 /// have a pattern within the bound. With a pivot the part's patterns are those whose greatest rank it is.
@@ -45,6 +49,101 @@ pub fn begin<'a>(
     let last = starts.len();
     let weights = weights_of(alloc, job, sequences.as_slice())?;
     let terrain = terrain_of(alloc, job, grids)?;
+    let part = part_of(alloc, job, bound, sequences, terrain, weights)?;
+    let run = Arc::new(alloc, starts)?;
+    Ok((part, Snapshots::new(false, 0, run, 0, last)))
+}
+
+/// The part of all sequences that have a pattern of frequent items, found by so many threads, and what is
+/// kept of the empty prefix, which stands at the start of each.
+pub fn begin_whole<'a, R: Threads + Sync>(
+    rt: &R,
+    workers: u32,
+    alloc: Global,
+    job: &'a Job,
+) -> Result<(Part<'a>, Snapshots), NoMemory>
+    requires some { 1 ≤ workers }
+    ensures part { IfOk result (λ begun. IsWholePart job.now begun.0) }
+    ensures start { IfOk result (λ begun. (least : ℕ) → IsProjected begun.0 least [] begun.1) }
+{
+    let bound = whole_bound(job);
+    let (sequences, terrain) = terrain_of_all(rt, workers, alloc, job, bound)?;
+    whole_begun(alloc, job, sequences, terrain)
+}
+
+/// The same in one thread.
+pub fn begin_whole_alone<'a>(alloc: Global, job: &'a Job) -> Result<(Part<'a>, Snapshots), NoMemory>
+    ensures part { IfOk result (λ begun. IsWholePart job.now begun.0) }
+    ensures start { IfOk result (λ begun. (least : ℕ) → IsProjected begun.0 least [] begun.1) }
+{
+    let bound = whole_bound(job);
+    let (sequences, terrain) = terrain_of_all_alone(alloc, job, bound)?;
+    whole_begun(alloc, job, sequences, terrain)
+}
+
+// The bound of patterns of frequent items.
+fn whole_bound(job: &Job) -> Bound
+    ensures bound { result ≡ bound_of (length job.now.ranking.order) None }
+    ensures whole { IsWhole job.now }
+{
+    bound_by(job.ranks().count(), None)
+}
+
+// The part of this terrain of all sequences that have a pattern of frequent items, and what is kept of the
+// empty prefix.
+fn whole_begun<'a>(
+    alloc: Global,
+    job: &'a Job,
+    sequences: Vec<u32>,
+    terrain: AnyTerrain,
+) -> Result<(Part<'a>, Snapshots), NoMemory>
+    requires all { AreAll job.now (bound_of (length job.now.ranking.order) None) sequences.items }
+    requires terrain { IsTerrainOf (record {
+      problem = job.now;
+      bound = bound_of (length job.now.ranking.order) None;
+      sequences = sequences.items;
+    }) terrain }
+    ensures part { IfOk result (λ begun. IsWholePart job.now begun.0) }
+    ensures start { IfOk result (λ begun. (least : ℕ) → IsProjected begun.0 least [] begun.1) }
+{
+    let bound = whole_bound(job);
+    let starts = starts_of_all(alloc, job, sequences.as_slice())?;
+    begun_at(alloc, job, bound, sequences, terrain, starts)
+}
+
+// The part of this terrain, and what is kept of the empty prefix, which stands at these starts.
+fn begun_at<'a>(
+    alloc: Global,
+    job: &'a Job,
+    bound: Bound,
+    sequences: Vec<u32>,
+    terrain: AnyTerrain,
+    starts: Vec<Stand>,
+) -> Result<(Part<'a>, Snapshots), NoMemory>
+    requires part { IsPart (record {
+      problem = job.now;
+      bound = bound;
+      sequences = sequences.items;
+    }) }
+    requires terrain { IsTerrainOf (record {
+      problem = job.now;
+      bound = bound;
+      sequences = sequences.items;
+    }) terrain }
+    requires starts { AreStarts (record {
+      problem = job.now;
+      bound = bound;
+      sequences = sequences.items;
+    }) (length sequences.items) starts.items }
+    ensures part { IfOk result (λ begun. begun.0 ≡ record {
+      problem = job.now;
+      bound = bound;
+      sequences = sequences.items;
+    }) }
+    ensures start { IfOk result (λ begun. (least : ℕ) → IsProjected begun.0 least [] begun.1) }
+{
+    let last = starts.len();
+    let weights = weights_of(alloc, job, sequences.as_slice())?;
     let part = part_of(alloc, job, bound, sequences, terrain, weights)?;
     let run = Arc::new(alloc, starts)?;
     Ok((part, Snapshots::new(false, 0, run, 0, last)))
@@ -79,15 +178,51 @@ fn starts_of(alloc: Global, job: &Job, grids: &Grids) -> Result<Vec<Stand>, NoMe
     let mut place: usize = 0;
     for (grid, number) in grids.sequences().iter().enumerate() {
         if grids.completes(grid as u32, 0, State(0), false) {
-            starts.push(Stand {
-                place: to_place(place)?,
-                state: 0,
-                first: true,
-            })?;
+            starts.push(start_at(place)?)?;
         }
-        place += job.db().sequence(*number).len() + 1;
+        place += places_of(job, *number);
     }
     Ok(starts)
+}
+
+// The stands at the starts of these sequences, each of which has a pattern within the bound.
+fn starts_of_all(alloc: Global, job: &Job, sequences: &[u32]) -> Result<Vec<Stand>, NoMemory>
+    requires { AllByRecursion (λ i. i < length job.now.sequences) sequences.now }
+    ensures { (bound : Bounded)
+        → AllByRecursion (λ i. Completes job.now bound (items_of job.now i) 0 false) sequences.now
+        → IfOk result (λ starts. AreStarts (record {
+          problem = job.now;
+          bound = bound;
+          sequences = sequences.now;
+        }) (length sequences.now) starts.items) }
+{
+    let mut starts = Vec::with_capacity(alloc, sequences.len())?;
+    let mut place: usize = 0;
+    for number in sequences {
+        starts.push(start_at(place)?)?;
+        place += places_of(job, *number);
+    }
+    Ok(starts)
+}
+
+// The stand at the start of a sequence that begins at the place, if there is room for its number.
+fn start_at(place: usize) -> Result<Stand, NoMemory>
+    ensures { IfOk result (λ start. start ≡ record { place = place; state = 0; first = true }) }
+{
+    Ok(Stand {
+        place: to_place(place)?,
+        state: 0,
+        first: true,
+    })
+}
+
+// How many places the sequence has: one for each item, and one behind them.
+fn places_of(job: &Job, number: u32) -> usize
+    requires { number < length job.now.sequences }
+    ensures places { result ≡ length (items_of job.now number) + 1 }
+    ensures most { result ≤ most_length + 1 }
+{
+    job.db().sequence(number).len() + 1
 }
 
 // The number of a place, if it has room for it.
@@ -115,8 +250,7 @@ fn weights_of(alloc: Global, job: &Job, sequences: &[u32]) -> Result<Vec<u32>, N
     let mut weights = Vec::new(alloc);
     for number in sequences {
         let weight = job.db().weight(*number) as u32;
-        let places = job.db().sequence(*number).len() + 1;
-        push_all(&mut weights, weight, places)?;
+        push_all(&mut weights, weight, places_of(job, *number))?;
     }
     Ok(weights)
 }

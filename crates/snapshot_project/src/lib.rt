@@ -13,7 +13,7 @@ mod snapshots;
 mod supporting;
 mod terrain;
 
-pub use beginning::begin;
+pub use beginning::{begin, begin_whole, begin_whole_alone};
 pub use growing::{Grown, grow};
 pub use laws::{
     open_snapshots_are_where_longer_patterns_begin, snapshots_that_lack_nothing_are_open,

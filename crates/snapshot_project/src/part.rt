@@ -70,6 +70,13 @@ impl<'a> Part<'a> {
         })
     }
 
+    /// The numbers of its sequences, rising.
+    pub fn sequences(&self) -> &[u32]
+        ensures { result.now ≡ self.now.sequences }
+    {
+        self.ground.sequences.as_slice()
+    }
+
     /// The rank that a pattern has to hold, where there is one.
     pub(crate) fn need(&self) -> Option<u32>
         ensures need { result ≡ self.now.bound.need }

@@ -3,14 +3,15 @@
 ghost use Rattle.std.specs.Prelude.{◌≡◌, ◌≤◌, ◌<◌, length, IfOk};
 ghost use Rattle.std.specs.List.{AllByRecursion};
 ghost use Rattle.sequence_grids.specs.Successors.{AreSuccessors};
-ghost use Rattle.snapshot_project.specs.Terrains.{IsTerrain, IsTerrainOf};
+ghost use Rattle.snapshot_project.specs.Terrains.{IsTerrain, IsTerrainOf, AreAll};
 
 use mine_model::NoMemory;
-use mining_job::Job;
-use place_records::{Records, records};
+use mining_job::{Bound, Job};
+use place_records::{Records, records, records_of_all, records_of_all_alone};
 use sequence_grids::{Grids, Successors, successors_of};
 use state_bits::StateSet;
 use std::alloc::Global;
+use std::thread::Threads;
 
 /// The records of a part, and for each state those to which edges lead.
 #[derive(Drop)]
@@ -53,4 +54,96 @@ fn terrain_over<const W: usize>(
 {
     let records = records(alloc, grids)?;
     Ok(Terrain { records, rows })
+}
+
+/// The sequences that have a pattern within the bound, and their terrain.
+pub(crate) fn terrain_of_all<R: Threads + Sync>(
+    rt: &R,
+    workers: u32,
+    alloc: Global,
+    job: &Job,
+    bound: Bound,
+) -> Result<(Vec<u32>, AnyTerrain), NoMemory>
+    requires some { 1 ≤ workers }
+    ensures sequences { IfOk result (λ all. AreAll job.now bound all.0.items) }
+    ensures terrain { IfOk result (λ all. IsTerrainOf
+        (record { problem = job.now; bound = bound; sequences = all.0.items }) all.1) }
+{
+    match successors_of(alloc, job.fst())? {
+        Successors::One(rows) => {
+            let (sequences, terrain) = terrain_over_all(rt, workers, alloc, job, bound, rows)?;
+            Ok((sequences, AnyTerrain::One(terrain)))
+        }
+        Successors::Four(rows) => {
+            let (sequences, terrain) = terrain_over_all(rt, workers, alloc, job, bound, rows)?;
+            Ok((sequences, AnyTerrain::Four(terrain)))
+        }
+        Successors::Wide(rows) => {
+            let (sequences, terrain) = terrain_over_all(rt, workers, alloc, job, bound, rows)?;
+            Ok((sequences, AnyTerrain::Wide(terrain)))
+        }
+    }
+}
+
+// The same in sets of one width.
+fn terrain_over_all<R: Threads + Sync, const W: usize>(
+    rt: &R,
+    workers: u32,
+    alloc: Global,
+    job: &Job,
+    bound: Bound,
+    rows: Vec<StateSet<W>>,
+) -> Result<(Vec<u32>, Terrain<W>), NoMemory>
+    requires some { 1 ≤ workers }
+    requires width { W ≤ 17 }
+    requires rows { AreSuccessors W job.now.machine rows.items }
+    ensures sequences { IfOk result (λ all. AreAll job.now bound all.0.items) }
+    ensures terrain { IfOk result (λ all. IsTerrain
+        (record { problem = job.now; bound = bound; sequences = all.0.items }) all.1) }
+{
+    let (sequences, records) = records_of_all::<R, W>(rt, workers, alloc, job, bound)?;
+    Ok((sequences, Terrain { records, rows }))
+}
+
+/// The same as `terrain_of_all`, in one thread.
+pub(crate) fn terrain_of_all_alone(
+    alloc: Global,
+    job: &Job,
+    bound: Bound,
+) -> Result<(Vec<u32>, AnyTerrain), NoMemory>
+    ensures sequences { IfOk result (λ all. AreAll job.now bound all.0.items) }
+    ensures terrain { IfOk result (λ all. IsTerrainOf
+        (record { problem = job.now; bound = bound; sequences = all.0.items }) all.1) }
+{
+    match successors_of(alloc, job.fst())? {
+        Successors::One(rows) => {
+            let (sequences, terrain) = terrain_over_all_alone(alloc, job, bound, rows)?;
+            Ok((sequences, AnyTerrain::One(terrain)))
+        }
+        Successors::Four(rows) => {
+            let (sequences, terrain) = terrain_over_all_alone(alloc, job, bound, rows)?;
+            Ok((sequences, AnyTerrain::Four(terrain)))
+        }
+        Successors::Wide(rows) => {
+            let (sequences, terrain) = terrain_over_all_alone(alloc, job, bound, rows)?;
+            Ok((sequences, AnyTerrain::Wide(terrain)))
+        }
+    }
+}
+
+// The same in sets of one width.
+fn terrain_over_all_alone<const W: usize>(
+    alloc: Global,
+    job: &Job,
+    bound: Bound,
+    rows: Vec<StateSet<W>>,
+) -> Result<(Vec<u32>, Terrain<W>), NoMemory>
+    requires width { W ≤ 17 }
+    requires rows { AreSuccessors W job.now.machine rows.items }
+    ensures sequences { IfOk result (λ all. AreAll job.now bound all.0.items) }
+    ensures terrain { IfOk result (λ all. IsTerrain
+        (record { problem = job.now; bound = bound; sequences = all.0.items }) all.1) }
+{
+    let (sequences, records) = records_of_all_alone::<W>(alloc, job, bound)?;
+    Ok((sequences, Terrain { records, rows }))
 }

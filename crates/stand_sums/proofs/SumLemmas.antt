@@ -140,14 +140,6 @@ not-before (rank ∷ ranks) (suc k) once inside =
 pub among-more : (rank : ℕ) (ranks : List ℕ) (k : ℕ) → k < length ranks → is_among rank (take (k + 1) ranks) ≡ (is_among rank (take k ranks) || (get_or ranks k 0 == rank || false))
 among-more rank ranks k inside = ap (is_among rank) (take_more ranks k 0 inside) ∙ list_any-append (λ other. other == rank) (take k ranks) (get_or ranks k 0 ∷ [])
 
--- behind a visit that goes on and ends with none of the ranks
-pub quiet-ranks : (counted : Counted) (rank : ℕ) (ranks : List ℕ) (sum : Sum) → behind_ranks (λ _. false) (λ _. false) counted rank ranks sum ≡ sum
-quiet-ranks counted rank ranks sum = by (is_among rank ranks)
-  where
-    by : (b : Bool) → met counted (b && false) (b && false) sum ≡ sum
-    by true = refl
-    by false = refl
-
 module _ (opening ending : ℕ → Bool) (counted : Counted) (ranks : List ℕ) (apart : AllPairs (λ one other. one ≢ other) ranks) (k : ℕ) (inside : k < length ranks) (rank : ℕ) (sum : Sum) where
   -- one more, which is this rank
   pub this-rank : get_or ranks k 0 ≡ rank

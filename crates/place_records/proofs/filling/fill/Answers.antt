@@ -27,7 +27,7 @@ fill_sequence-requires g c =
     (subst (λ (v : TableValue). ArePlaces c.args.job.now c.args.bound v c.args.kinds.now c.args.kept.now (slice_index c.args.ends.now c.loop-grid.grid) (items_of c.args.job.now (slice_index c.args.sequences.now c.loop-grid.grid)))
     (sym before.table) (c.requires.kept.grids c.loop-grid.grid c.loop-grid-test.true)) in
     let first : slice_get c.loop-grid.twins.twins 0 ≡ Some dead_twin = first-kept c.args.twins.now.twins c.loop-grid.twins.twins c.requires.first before.twins in
-    let known : AreKnown c.loop-grid.twins c.loop-grid.places = c.loop-grid.invariant.filled.known in
+    let known : AreKnown c.loop-grid.twins.twins c.loop-grid.places = c.loop-grid.invariant.filled.known in
     search rules
 
 pub loop-grid-preserved : goal.loop-grid-preserved
@@ -41,10 +41,10 @@ loop-grid-preserved g c =
     let room = c.if-len-items.false in
     let count = c.len.ensures in
     let few : length c.fill_sequence.new.places < 2 ^ 32 = omega (arith, long, room, count) in
-    let here : AreHere c.args.job.now c.args.bound c.fill_sequence.new.twins c.args.kinds.now (items_of c.args.job.now (slice_index c.args.sequences.now c.loop-grid.grid)) c.fill_sequence.new.places (length c.loop-grid.places) =
-    subst (λ (xs : List Item). AreHere c.args.job.now c.args.bound c.fill_sequence.new.twins c.args.kinds.now xs c.fill_sequence.new.places (length c.loop-grid.places)) same c.in_ok-fill_sequence.ensures.here in
+    let here : AreHere c.args.job.now c.args.bound c.fill_sequence.new.twins.twins c.args.kinds.now (items_of c.args.job.now (slice_index c.args.sequences.now c.loop-grid.grid)) c.fill_sequence.new.places (length c.loop-grid.places) =
+    subst (λ (xs : List Item). AreHere c.args.job.now c.args.bound c.fill_sequence.new.twins.twins c.args.kinds.now xs c.fill_sequence.new.places (length c.loop-grid.places)) same c.in_ok-fill_sequence.ensures.here in
     record {
       twins = TwinsGrow-twice c.args.twins.now c.loop-grid.twins c.fill_sequence.new.twins before.twins c.fill_sequence.ensures.twins;
-      filled = AreFilledTo-more part c.loop-grid.twins c.fill_sequence.new.twins c.args.kinds.now c.loop-grid.places c.fill_sequence.new.places c.loop-grid.grid before.filled c.loop-grid-test.true
-          c.fill_sequence.ensures.twins c.fill_sequence.ensures.grow (omega (arith, long, as_long)) few c.in_ok-fill_sequence.ensures.known here;
+      filled = AreFilledTo-more part c.loop-grid.twins.twins c.fill_sequence.new.twins.twins c.args.kinds.now c.loop-grid.places c.fill_sequence.new.places c.loop-grid.grid before.filled c.loop-grid-test.true
+          c.fill_sequence.ensures.twins.twins c.fill_sequence.ensures.grow (omega (arith, long, as_long)) few c.in_ok-fill_sequence.ensures.known here;
     }

@@ -9,6 +9,6 @@ invariant-loop-position g l = record {
   twins : TwinsGrow l.fn.twins l.twins;
   grow : Extends l.fn.places l.places;
   long : length l.places ≡ length l.fn.places + l.position;
-  known : AreKnown l.twins l.places;
-  here : AreUpTo l.job l.bound l.twins l.kinds l.items l.places (length l.fn.places) l.position;
+  known : AreKnown l.twins.twins l.places;
+  here : AreUpTo l.job l.bound l.twins.twins l.kinds l.items l.places (length l.fn.places) l.position;
 }

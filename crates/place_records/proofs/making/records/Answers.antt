@@ -32,4 +32,4 @@ returns g c =
     let part : GridList = record { problem = c.into_parts-parts.result.job.now; bound = c.into_parts-parts.result.bound; sequences = c.as_slice-3.result.now } in
     let same : part ≡ c.args.grids = rw (from.job, from.bound, c.as_slice-3.ensures.value, from.sequences) refl in
     subst (λ (p : GridList). IfOk c.with_table.result (λ found. AreRecords p found.places found.early found.late (ranks_of found.table) (CanAskOf found.table))) same
-    (c.with_table.ensures parts.job.now parts.bound parts.tables c.as_slice-3.result.now c.make-made.ensures columns)
+    (c.with_table.ensures parts.job.now parts.bound c.as_slice-3.result.now c.make-made.ensures columns)

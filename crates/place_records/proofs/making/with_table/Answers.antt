@@ -9,12 +9,12 @@ use Rattle.place_records.proofs.FillLemmas.{AreRecords-of}
 use Rattle.place_records.proofs.making.with_table.Goals as goal
 
 pub returns-in_ok-table-in-Ok : goal.returns-in_ok-table-in-Ok
-returns-in_ok-table-in-Ok g c problem bound table sequences made columns =
-    let is = IfOk-at_ok (λ made. AreMade problem bound table c.args.kinds sequences made.places (map (move_sets {W = g.row.W}) made.early.items) (map (move_sets {W = g.row.W}) made.late.items)) c.in-Ok.is made in
+returns-in_ok-table-in-Ok g c problem bound sequences made columns =
+    let is = IfOk-at_ok (λ made. AreMade problem bound c.args.kinds sequences made.places (map (move_sets {W = g.row.W}) made.early.items) (map (move_sets {W = g.row.W}) made.late.items)) c.in-Ok.is made in
     let early : List MoveSets = map (move_sets {W = g.row.W}) c.in-Ok.made.early.items in
     let late : List MoveSets = map (move_sets {W = g.row.W}) c.in-Ok.made.late.items in
     let ranks : RanksValue = c.in_ok-table-in-Ok.table in
     let same : ranks.kinds ≡ c.args.kinds = c.in_ok-table-in-Ok.ensures.kinds in
     subst (λ (kinds : Kinds). AreRecords (record { problem = problem; bound = bound; sequences = sequences }) c.in-Ok.made.places early late
     (ranks_of (record { kinds = kinds; keeps = ranks.keeps })) (CanAskOf (record { kinds = kinds; keeps = ranks.keeps }))) (sym same)
-    (AreRecords-of (record { problem = problem; bound = bound; sequences = sequences }) is.twins c.args.kinds c.in-Ok.made.places early late columns is.filled is.first is.early_are is.late_are ranks.keeps)
+    (AreRecords-of (record { problem = problem; bound = bound; sequences = sequences }) is.twins c.args.kinds c.in-Ok.made.places early late columns is.filled is.early_are is.late_are ranks.keeps)

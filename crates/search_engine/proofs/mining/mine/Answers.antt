@@ -1,16 +1,27 @@
-use Rattle.std.proofs.Common.{List, ℕ, Bool, true, false, length, refl, sym, subst}
+use Rattle.std.proofs.Common.{◌≡◌, List, [], ◌∷◌, ℕ, Bool, true, false, map, length, All, refl, sym, ap₂, ◌∙◌, subst}
 use Rattle.mine_model.specs.declared.mined.Work.{Work}
 use Rattle.mine_model.specs.Ranks.{Ranking}
-use Rattle.mining_job.specs.Problems.{data_of}
+use Rattle.mining_job.specs.Problems.{Problem, data_of}
+use Rattle.dfs_growth.specs.Nodes.{Prefix, label_at}
+use Rattle.dfs_growth.specs.Tree.{roots_by}
 use Rattle.pivot_partition.specs.Pivots.{pivots_in}
 use Rattle.search_engine.specs.Partition.{AreAlivePivots, IsWorkFor}
 use Rattle.search_engine.specs.Searches.{tree_of}
 use Rattle.search_engine.proofs.PartitionLemmas.{all-parts-rows, all-parts-work}
-use Rattle.search_engine.proofs.SearchLemmas.{items-known, walks-work, walks-frequent, walks-within}
+use Rattle.search_engine.proofs.SearchLemmas.{items-known, roots-walked, walks-work, walks-frequent, walks-within}
 use Rattle.search_engine.proofs.mining.mine.Goals as goal
 
 pub mine_parts-requires-clause-alive : goal.mine_parts-requires-clause-alive
 mine_parts-requires-clause-alive g c κs within pivot held = (c.in_ok-seeds.ensures.alive pivot).0 held
+
+pub mined_by-requires-clause-roots : goal.mined_by-requires-clause-roots
+mined_by-requires-clause-roots g c κs within =
+    roots-walked c.args.job.now c.hierarchy.ensures.whole (0 ∷ []) (map label_at c.in_ok-roots.roots.items) c.in_ok-roots.ensures.roots
+    ∙ ap₂ roots_by (sym c.new-search.ensures.problem) (sym c.new-search.ensures.pivots)
+
+pub mined_by-requires-clause-own : goal.mined_by-requires-clause-own
+mined_by-requires-clause-own g c κs within =
+    subst (λ (p : Problem). All (λ (node : Prefix). node.problem ≡ p) c.in_ok-roots.roots.items) (sym c.new-search.ensures.problem) c.in_ok-roots.ensures.problem
 
 pub returns-then-is_split-clause-frequent : goal.returns-then-is_split-clause-frequent
 returns-then-is_split-clause-frequent g c =
@@ -31,20 +42,20 @@ pub returns-clause-frequent : goal.returns-clause-frequent
 returns-clause-frequent g c =
     let ends = rw c.hierarchy.ensures.hierarchy at c.items-items.ensures.within in
     let (labels, covers, are, work) = c.in_ok-mined-2.ensures in
-    walks-frequent c.args.job.now c.hierarchy.ensures.whole c.in_ok-search.search c.in_ok-search.ensures.problem false c.in_ok-search.ensures.pivots
+    walks-frequent c.args.job.now c.hierarchy.ensures.whole c.new-search.result c.new-search.ensures.problem false c.new-search.ensures.pivots
     labels covers ends c.in_ok-mined-2.mined.rows.items are
 
 pub returns-clause-items : goal.returns-clause-items
 returns-clause-items g c =
     let ends = rw c.hierarchy.ensures.hierarchy at c.items-items.ensures.within in
     let (labels, covers, are, work) = c.in_ok-mined-2.ensures in
-    walks-within c.args.job.now c.hierarchy.ensures.whole c.in_ok-search.search c.in_ok-search.ensures.problem false c.in_ok-search.ensures.pivots
+    walks-within c.args.job.now c.hierarchy.ensures.whole c.new-search.result c.new-search.ensures.problem false c.new-search.ensures.pivots
     labels covers ends c.in_ok-mined-2.mined.rows.items are
 
 pub returns-clause-work : goal.returns-clause-work
 returns-clause-work g c =
     let (labels, covers, are, work) = c.in_ok-mined-2.ensures in
-    let counted = walks-work c.args.job.now c.hierarchy.ensures.whole c.in_ok-search.search c.in_ok-search.ensures.problem false c.in_ok-search.ensures.pivots
-    labels covers (length labels) (length (tree_of c.in_ok-search.search).roots) refl refl in
+    let counted = walks-work c.args.job.now c.hierarchy.ensures.whole c.new-search.result c.new-search.ensures.problem false c.new-search.ensures.pivots
+    labels covers (length labels) (length (tree_of c.new-search.result).roots) refl refl in
     subst (λ (split : Bool). IsWorkFor split (data_of c.args.job.now) c.args.job.now.ranking.order c.in_ok-mined-2.mined.work) (sym c.if-is_split.false)
     (subst (λ (w : Work). IsWorkFor false (data_of c.args.job.now) c.args.job.now.ranking.order w) (sym work) counted)

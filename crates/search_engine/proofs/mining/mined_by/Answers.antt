@@ -25,14 +25,14 @@ posted-requires-clause-rows g c κs within = walks-rows c.args.job.now c.support
 pub returns : goal.returns
 returns g c =
     let search = c.args.search.now in
-    let roots : length (map label_at c.in_ok-roots.roots.items) ≡ length (tree_of search).roots = ap (λ (l : List (List ℕ)). length l) c.in_ok-roots.ensures.labels in
+    let roots : length (map label_at c.args.roots.items) ≡ length (tree_of search).roots = ap (λ (l : List (List ℕ)). length l) c.requires.roots in
     let parts : c.len-parts.result ≡ length (tree_of search).roots =
-    omega (arith, c.len-parts.ensures, c.in_ok-roots.roots.ok.0, length-map c.in_ok-roots.roots.items label_at, roots) in
+    omega (arith, c.len-parts.ensures, c.args.roots.ok.0, length-map c.args.roots.items label_at, roots) in
     let nodes : c.into_parts-rows.result.1 ≡ length (labels_of c.in_ok-board.board.posted) =
     c.into_parts-rows.ensures.count ∙ sym (length-map c.in_ok-board.board.posted (λ (m : Made). m.1)) in
     let made : ℕ → ℕ → Work = λ n p. record { nodes = n; parts = p; candidates = 0 } in (
       labels_of c.in_ok-board.board.posted,
-      subst (λ l. Covers l (tree_of search).kids (labels_of c.in_ok-board.board.posted)) c.in_ok-roots.ensures.labels c.in_ok-board.ensures.cover,
+      subst (λ l. Covers l (tree_of search).kids (labels_of c.in_ok-board.board.posted)) c.requires.roots c.in_ok-board.ensures.cover,
       c.into_parts-rows.ensures.tree search.pivots (tree_of search)
           (subst (λ (p : Problem). IsSearchTree (data_of p) p.ranking.order search.pivots (tree_of search)) (sym c.in_ok-board.ensures.problem)
           (walks-tree c.args.job.now c.support-support.ensures.whole search c.requires.problem)),

@@ -30,8 +30,8 @@ same_outputs-requires-clause-other c =
     let columns : c.len-columns.result ≡ length c.args.kinds.now.columns.heads.items = omega (arith, c.len-columns.ensures) in
     rw (c.as_slice.ensures.value, c.as_slice-then-met-kind.ensures.value, columns) c.requires.kind.rows
 
-pub returns-then-same_outputs : goal.returns-then-same_outputs
-returns-then-same_outputs c =
+pub returns-then-same_outputs-clause-kind : goal.returns-then-same_outputs-clause-kind
+returns-then-same_outputs-clause-kind c =
     let i : ℕ = c.in_ok-other.field-0.now in
     let inside : i < length c.args.kinds.now.numbers.items = omega (arith, c.if-other-len.false, c.len.ensures) in
     let (kind, found, is) = HasKind-at c.args.job.now c.args.bound c.args.tables.now.classes c.args.kinds.now c.requires.kinds i c.index-number.result.now inside

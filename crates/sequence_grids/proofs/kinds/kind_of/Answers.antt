@@ -6,7 +6,7 @@ use Rattle.sequence_grids.specs.Grids.{Reads}
 use Rattle.sequence_grids.specs.Tables.{IsClassOf}
 use Rattle.sequence_grids.specs.Kinds.{Writes, Needs, AreKinds}
 use Rattle.mine_model.proofs.ElementLemmas.{stands_last}
-use Rattle.sequence_grids.proofs.KindLemmas.{AreKinds-grow, AreKinds-more, Extends-nothing, KindsGrow-nothing, entered_below, IsClassFor-of, IsKind-of}
+use Rattle.sequence_grids.proofs.KindLemmas.{AreKinds-grow, AreKinds-more, Extends-nothing, KindsGrow-nothing, entered_below, IsClassFor-of, IsKind-of, IsMet-set, IsMet-kept}
 use Rattle.sequence_grids.proofs.kinds.kind_of.Goals as goal
 
 pub returns-in_err-push_outputs-clause-kinds : goal.returns-in_err-push_outputs-clause-kinds
@@ -54,7 +54,7 @@ returns-clause-kind c =
     let (class, found, are) = c.in_ok-class.ensures.class in
     let of : IsClassOf class c.enter.new.scratch.silent.items c.enter.new.scratch.writes.items c.enter.new.scratch.needs.items =
     rw (c.as_slice.ensures.value, c.as_slice-2.ensures.value, c.as_slice-3.ensures.value) at are in
-    let number : c.in_ok-number.number ≡ length c.args.kinds.now.kinds.items = omega (arith, c.in_ok-number.ensures, c.len.ensures) in
+    let number : c.in_ok-number.number ≡ length c.args.kinds.now.kinds.items = omega (arith, c.in_ok-number.ensures.number, c.len.ensures) in
     let base : c.len-base.result ≡ length c.args.kinds.now.ends.items = omega (arith, c.len-base.ensures) in
     let kind : Kind = record { class = c.in_ok-class.class; base = c.len-base.result } in (
       kind,
@@ -105,4 +105,16 @@ returns-in-Some-clause-kinds c =
     (record { columns = refl; kinds = Extends-nothing c.args.kinds.now.kinds.items; ends = c.push_outputs.ensures.ends; ranks = c.push_outputs.ensures.ranks }) refl in
     AreKinds-more c.args.job.now c.args.bound c.class_number.new.self.classes kinds _ c.args.t c.in-Some.number grown
     (record { columns = refl; kinds = Extends-nothing kinds.kinds.items; ends = Extends-nothing kinds.ends.items; ranks = Extends-nothing kinds.ranks.items })
-    (omega (arith, c.requires.item, c.requires.kinds.all)) refl c.in-Some.ensures
+    (omega (arith, c.requires.item, c.requires.kinds.all)) refl c.in-Some.ensures.kind
+
+pub returns-in-Some-clause-met : goal.returns-in-Some-clause-met
+returns-in-Some-clause-met c = IsMet-set c.args.kinds.now.numbers.items c.args.t.0 c.in-Some.number (omega (arith, c.requires.item, c.requires.kinds.all)) c.in-Some.ensures.some
+
+pub returns-in-Some-clause-kept : goal.returns-in-Some-clause-kept
+returns-in-Some-clause-kept c other = IsMet-kept c.args.kinds.now.numbers.items c.args.t.0 c.in-Some.number (omega (arith, c.requires.item, c.requires.kinds.all)) c.in-Some.ensures.some other.0
+
+pub returns-clause-met : goal.returns-clause-met
+returns-clause-met c = IsMet-set c.args.kinds.now.numbers.items c.args.t.0 c.in_ok-number.number (omega (arith, c.requires.item, c.requires.kinds.all)) c.in_ok-number.ensures.some
+
+pub returns-clause-kept : goal.returns-clause-kept
+returns-clause-kept c other = IsMet-kept c.args.kinds.now.numbers.items c.args.t.0 c.in_ok-number.number (omega (arith, c.requires.item, c.requires.kinds.all)) c.in_ok-number.ensures.some other.0

@@ -2,7 +2,7 @@ use Rattle.std.proofs.Common.{◌≡◌, ℕ, ◌+◌, List, length, get_or, sym
 use Rattle.mine_model.specs.declared.item.Item.{Item}
 use Rattle.mine_model.specs.Database.{sequence_at}
 use Rattle.mine_model.specs.Support.{Sequence}
-use Rattle.sequence_grids.specs.Grids.{GridList, items_at}
+use Rattle.sequence_grids.specs.Grids.{GridList}
 use Rattle.snapshot_project.proofs.BeginLemmas.{AreWeightsBefore, weights-none, weights-more, weights-all}
 use Rattle.snapshot_project.proofs.beginning.weights_of.Goals as goal
 
@@ -18,11 +18,8 @@ loop-number-preserved c = λ bound.
     let number = get_or c.args.sequences.now index 0 in
     let weight : c.weight-weight.result ≡ (sequence_at c.args.job.now.sequences number).weight = c.weight-weight.ensures.weight
     ∙ ap (λ (l : List (Sequence Item)). (sequence_at l number).weight) c.db.ensures.sequences in
-    let items : c.sequence.result.now ≡ items_at part index = c.sequence.ensures.items
-    ∙ ap (λ (l : List (Sequence Item)). (sequence_at l number).items) c.db-in-loop-number.ensures.sequences in
-    let long : length c.sequence.result.now ≡ length (items_at part index) = ap length items in
     subst (AreWeightsBefore part (index + 1)) (sym c.in_ok-push_all.ensures)
-    (weights-more part index c.loop-number.weights.items c.loop-number-test.true (c.loop-number.invariant bound) c.weight-weight.result (length c.sequence.result.now + 1) weight (omega (arith, long)))
+    (weights-more part index c.loop-number.weights.items c.loop-number-test.true (c.loop-number.invariant bound) c.weight-weight.result c.places_of.result weight c.places_of.ensures.places)
 
 pub returns : goal.returns
 returns c = λ bound.

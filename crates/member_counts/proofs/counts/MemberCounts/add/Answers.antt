@@ -1,27 +1,30 @@
-use Rattle.std.proofs.Common.{◌≡◌, ◌+◌, ◌*◌, List, ℕ, get_or, ◌∙◌, ap, sym, inl, inr, arith}
-use Rattle.std.proofs.lemmas.Bool.{cases_lt}
-use Rattle.member_counts.specs.Counts.{count_in}
-use Rattle.member_counts.proofs.CountLemmas.{get_or-counts_in, counts_in_past, has_bit, lacks_bit}
+use Rattle.std.proofs.Common.{◌+◌, arith}
+use Rattle.member_counts.proofs.CountLemmas.{wait-more, added-more, more-members, more-others, AreCounts-more}
 use Rattle.member_counts.proofs.counts.MemberCounts.add.Goals as goal
 
+pub returns-then-self-lt-WAITING-clause-members : goal.returns-then-self-lt-WAITING-clause-members
+returns-then-self-lt-WAITING-clause-members g c =
+    let was = c.self.inside in
+    more-members {W = g.row.W} was.waiting was.filled was.low was.digits.items _ (was.filled + 1) was.low was.digits.items c.args.set.now c.args.self.now
+    (wait-more {W = g.row.W} was.waiting was.filled was.low was.digits.items c.args.set.now (omega arith)) c.self.view_is
+
+pub returns-then-self-lt-WAITING-clause-others : goal.returns-then-self-lt-WAITING-clause-others
+returns-then-self-lt-WAITING-clause-others g c =
+    let was = c.self.inside in
+    more-others {W = g.row.W} was.waiting was.filled was.low was.digits.items _ (was.filled + 1) was.low was.digits.items c.args.set.now c.args.self.now
+    (wait-more {W = g.row.W} was.waiting was.filled was.low was.digits.items c.args.set.now (omega arith)) c.self.view_is
+
+pub invariant_of-self-2 : goal.invariant_of-self-2
+invariant_of-self-2 g c = AreCounts-more c.self.inside.waiting c.args.set.now c.self.invariant (omega arith) (omega arith) c.in_ok-add_eight.ensures.ok
+
 pub returns-clause-members : goal.returns-clause-members
-returns-clause-members g c q inside has =
-    let one = c.row_of.ensures q inside ∙ has_bit c.args.set.now q has in
-    get_or-counts_in {W = g.row.W} c.add_row.new.digits.items q inside
-    ∙ (c.in_ok-add_row.ensures.ok q
-    ∙ (ap (λ n. count_in c.self.inside.digits.items q + n) one
-    ∙ ap (λ n. n + 1) (sym (get_or-counts_in {W = g.row.W} c.self.inside.digits.items q inside) ∙ ap (λ (cs : List ℕ). get_or cs q 0) c.self.view_is)))
+returns-clause-members g c =
+    let was = c.self.inside in
+    more-members {W = g.row.W} was.waiting was.filled was.low was.digits.items was.waiting 0 c.add_eight.new.low c.add_eight.new.digits.items c.args.set.now c.args.self.now
+    (added-more {W = g.row.W} was.waiting was.filled was.low was.digits.items c.add_eight.new.low c.add_eight.new.digits.items c.args.set.now (omega arith) c.in_ok-add_eight.ensures.ok) c.self.view_is
 
 pub returns-clause-others : goal.returns-clause-others
-returns-clause-others g c q lacks = elim (cases_lt q (64 * g.row.W)) [
-  | inl inside ↦
-      let none = c.row_of.ensures q inside ∙ lacks_bit c.args.set.now q lacks in
-      let stays : count_in c.self.inside.digits.items q + 0 ≡ count_in c.self.inside.digits.items q = omega arith in
-      get_or-counts_in {W = g.row.W} c.add_row.new.digits.items q inside
-      ∙ (c.in_ok-add_row.ensures.ok q
-      ∙ (ap (λ n. count_in c.self.inside.digits.items q + n) none
-      ∙ (stays ∙ (sym (get_or-counts_in {W = g.row.W} c.self.inside.digits.items q inside) ∙ ap (λ (cs : List ℕ). get_or cs q 0) c.self.view_is))))
-  | inr past ↦
-      counts_in_past {W = g.row.W} c.add_row.new.digits.items q past
-      ∙ (sym (counts_in_past {W = g.row.W} c.self.inside.digits.items q past) ∙ ap (λ (cs : List ℕ). get_or cs q 0) c.self.view_is)
-]
+returns-clause-others g c =
+    let was = c.self.inside in
+    more-others {W = g.row.W} was.waiting was.filled was.low was.digits.items was.waiting 0 c.add_eight.new.low c.add_eight.new.digits.items c.args.set.now c.args.self.now
+    (added-more {W = g.row.W} was.waiting was.filled was.low was.digits.items c.add_eight.new.low c.add_eight.new.digits.items c.args.set.now (omega arith) c.in_ok-add_eight.ensures.ok) c.self.view_is

@@ -1,4 +1,4 @@
-use Rattle.std.proofs.Common.{◌≤◌, ◌<◌, ℕ, List, ◌++◌, length, refl, sym, subst, arith}
+use Rattle.std.proofs.Common.{◌≤◌, ℕ, List, ◌++◌, length, refl, sym, subst, arith}
 use Rattle.std.proofs.lemmas.List.{length-map}
 use Rattle.mine_model.specs.Limits.{most_items}
 use Rattle.mine_model.specs.Support.{Sequence}
@@ -8,16 +8,14 @@ use Rattle.sequence_reader.proofs.reading.ReadingLineVisitor.line.Goals as goal
 
 pub returns-in-Err-TooMany-clause-refused : goal.returns-in-Err-TooMany-clause-refused
 returns-in-Err-TooMany-clause-refused c =
-    let few : length c.args.self.now.db < 4194304 =
-    let count = c.sequences.ensures.count in let most = c.sequences.ensures.most in let apart = c.if-sequences-eq-MOST_SEQUENCES.false in omega (arith, count, most, apart) in
     let short : length (texts_at c.args.text.now c.in_ok-line.line.items.now) ≤ 65535 =
-    let most = c.if-line-gt-MOST_LENGTH.false in rw length-map (omega (arith, most)) in
+    let most = c.in_ok-line.ensures.short in rw length-map (omega (arith, most)) in
     let more = (rw c.in-Err-TooMany.field-0-is at c.in-Err-TooMany.ensures.too_many) refl in
     let said = c.in_ok-line.ensures.said in
     record {
       why = (
         refl,
-        few,
+        c.in_ok-line.ensures.few,
         c.in_ok-line.ensures.weighed,
         subst (λ (s : Sequence (List ℕ)). length s.items ≤ 65535) (sym said) short,
         subst (λ (s : Sequence (List ℕ)). HasMoreNames most_items (c.args.self.now.names ++ s.items)) (sym said) more,

@@ -1,0 +1,11 @@
+mod AloneLemmas
+mod PivotsLemmas
+mod WeighLemmas
+mod LoadLemmas
+mod PartLemmas
+mod RootLemmas
+mod WorkerLemmas
+mod SeedLemmas
+mod HeldLemmas
+mod MinedLemmas
+mod GroupLemmas

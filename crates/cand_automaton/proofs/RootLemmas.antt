@@ -1,0 +1,99 @@
+-- The state of a sequence's candidates, whatever pivot the part is that of.
+use Rattle.std.proofs.Common.{◌≡◌, ◌≢◌, ◌↔◌, ℕ, zero, suc, ◌≤◌, ◌<◌, Option, Some, None, List, [], ◌∷◌, length, refl, sym, ap, ◌∙◌, subst, arith}
+use Rattle.std.specs.Prelude.{IfSome, slice_get}
+use Rattle.std.proofs.lemmas.List.{length-map}
+use Rattle.std.proofs.lemmas.Option.{slice_get_within}
+use Rattle.mine_model.specs.declared.item.Item.{Item}
+use Rattle.mine_model.specs.Pivots.{IsWithin, IsWithinPivot}
+use Rattle.mine_model.proofs.RankedLemmas.{ranked-length}
+use Rattle.mining_job.specs.declared.bound.Bound.{Bound}
+use Rattle.mining_job.specs.Parts.{pivot_of}
+use Rattle.mining_job.specs.Problems.{Problem, data_of, items_of}
+use Rattle.sequence_grids.specs.Grids.{GridList, items_at}
+use Rattle.snapshot_project.specs.Snapshots.{bound_of}
+use Rattle.snapshot_project.specs.Extensions.{GeneratesWithin}
+use Rattle.automaton_model.specs.Automata.{State, Accepts}
+use Rattle.automaton_model.specs.Codes.{IsCodeOf}
+use Rattle.automaton_model.specs.Members.{IsPivotMember, IsPivotCode}
+use Rattle.automaton_model.proofs.AutomatonLemmas.{code-also}
+use Rattle.candidate_graph.specs.Graphs.{Node, Standpoint, points_of}
+use Rattle.candidate_graph.specs.Paths.{Accepts as IsPath}
+use Rattle.candidate_states.specs.Roots.{IsSomeGraph, IsRootOf}
+use Rattle.sequence_candidates.specs.Candidates.{AreCandidates}
+use Rattle.cand_automaton.specs.Roots.{IsRootFor, IsRootWithin, IsCodeWithin}
+
+-- the bound of a pivot's part is that of the pivot
+pub within-pivot : (order : List Item) (pivot : Option ℕ) → IfSome pivot (λ rank. 1 ≤ rank) → (items : List Item)
+    → IsWithin order (bound_of (length order) pivot).top (bound_of (length order) pivot).need items ↔ IsWithinPivot order (pivot_of pivot) items
+within-pivot order None least items = ((λ h. h), (λ h. h))
+within-pivot order (Some zero) least items = absurd (omega (arith, least))
+within-pivot order (Some (suc before)) least items = ((λ h. h), (λ h. h))
+
+-- the patterns within the bound are the candidates with the pivot
+member-within : (part : GridList) (items : List Item) (pivot : Option ℕ) → IfSome pivot (λ rank. 1 ≤ rank) → part.bound ≡ bound_of (length part.problem.ranking.order) pivot
+    → (list : List ℕ) → ((list ≢ []) × GeneratesWithin part list items) ↔ IsPivotMember (data_of part.problem) part.problem.ranking.order (pivot_of pivot) items list
+member-within part items pivot least bound list = (
+  (λ (some, (pattern, ranked, generated, within)). record {
+    pattern = pattern;
+    ranked = ranked;
+    generated = generated;
+    within = (within-pivot part.problem.ranking.order pivot least pattern).0 (subst (λ (b : Bound). IsWithin part.problem.ranking.order b.top b.need pattern) bound within);
+  }),
+  (λ member. (
+    (λ none. member.generated.0 (no_items member.pattern (ranked-length part.problem.ranking.order member.pattern list member.ranked ∙ ap (λ (l : List ℕ). length l) none))),
+    (
+      member.pattern,
+      member.ranked,
+      member.generated,
+      subst (λ (b : Bound). IsWithin part.problem.ranking.order b.top b.need member.pattern) (sym bound) ((within-pivot part.problem.ranking.order pivot least member.pattern).1 member.within),
+    ),
+  )),
+)
+  where
+    no_items : (xs : List Item) → length xs ≡ 0 → xs ≡ []
+    no_items [] none = refl
+    no_items (x ∷ xs) none = absurd (omega (arith, none))
+
+-- the state of a graph's root
+pub root-within : (part : GridList) (items : List Item) (nodes : List Node) (states : List State) (root : ℕ)
+    → ((list : List ℕ) → IsPath nodes 0 list ↔ ((list ≢ []) × GeneratesWithin part list items)) → IsRootOf nodes states root → IsRootWithin part items states root
+root-within part items nodes states root paths is = λ pivot least bound. record {
+  inside = is.inside;
+  language = λ list. (
+    (λ accepts. (member-within part items pivot least bound list).0 ((paths list).0 ((is.language list).0 accepts))),
+    (λ member. (is.language list).1 ((paths list).1 ((member-within part items pivot least bound list).1 member))),
+  );
+}
+
+-- the code of what a root accepts
+pub code-within : (part : GridList) (items : List Item) (states : List State) (root : ℕ) (code : List ℕ) → IsRootWithin part items states root
+    → IsCodeOf (Accepts states root) code → IsCodeWithin part items code
+code-within part items states root code is coded = λ pivot least bound.
+    code-also (Accepts states root) (IsPivotMember (data_of part.problem) part.problem.ranking.order (pivot_of pivot) items) (is pivot least bound).language code coded
+
+-- The nodes of the graph that was begun
+
+-- a part, and nodes, under other names
+pub begun-are : (part later : GridList) (begun : Option ℕ) (index : ℕ) (nodes others : List Node) → later ≡ part → begun ≡ Some index → others ≡ nodes
+    → IfSome begun (λ i. AreCandidates later (items_at later i) nodes) → AreCandidates part (items_at part index) others
+begun-are part later begun index nodes others same is also are =
+    let here : AreCandidates later (items_at later index) nodes = subst (λ (o : Option ℕ). IfSome o (λ i. AreCandidates later (items_at later i) nodes)) is are in
+    let there : AreCandidates part (items_at part index) nodes = subst (λ (p : GridList). AreCandidates p (items_at p index) nodes) same here in
+    subst (AreCandidates part (items_at part index)) (sym also) there
+
+pub some-graph : (part : GridList) (items : List Item) (nodes : List Node) → AreCandidates part items nodes → IsSomeGraph nodes
+some-graph part items nodes are = (are.courses, are.ranks, part.bound.need, are.graph)
+
+pub some-nodes : (part : GridList) (items : List Item) (nodes : List Node) → AreCandidates part items nodes → 0 < length nodes
+some-nodes part items nodes are =
+    let below : 0 < length (points_of nodes) = slice_get_within (points_of nodes) 0 are.root are.root_is in
+    omega (arith, below, length-map nodes (λ (node : Node). node.at))
+
+-- the code of the one sequence of a part
+pub code-alone : (problem : Problem) (part : GridList) (seq pivot : ℕ) → part.problem ≡ problem → part.bound ≡ bound_of (length problem.ranking.order) (Some pivot)
+    → part.sequences ≡ seq ∷ [] → 1 ≤ pivot → (code : List ℕ) → IsCodeWithin part (items_at part 0) code
+    → IsPivotCode (data_of problem) problem.ranking.order pivot code (items_of problem seq)
+code-alone problem part seq pivot one bound alone least code within =
+    let made : GridList = record { problem = problem; bound = bound_of (length problem.ranking.order) (Some pivot); sequences = seq ∷ [] } in
+    let whole : part ≡ made = (λ i. record { problem = one i; bound = bound i; sequences = alone i }) in
+    subst (λ (p : GridList). IsCodeWithin p (items_at p 0) code) whole within (Some pivot) least refl

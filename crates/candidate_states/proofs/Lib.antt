@@ -1,0 +1,5 @@
+pub mod OrderLemmas
+pub mod StateLemmas
+pub mod StageLemmas
+pub mod AskLemmas
+pub mod LinkLemmas

@@ -1,0 +1,5 @@
+-- the words of the promise
+pub mod Roots
+-- what the proofs keep
+pub mod Kept
+pub mod Stages

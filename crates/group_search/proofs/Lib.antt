@@ -1,0 +1,11 @@
+pub mod WeighLemmas
+pub mod KidLemmas
+pub mod RunLemmas
+pub mod AddedLemmas
+pub mod StackLemmas
+pub mod GrowthLemmas
+pub mod WorkLemmas
+pub mod SearchLemmas
+pub mod LawLemmas
+pub mod ShiftLemmas
+pub mod DecodeLemmas

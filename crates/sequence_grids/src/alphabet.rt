@@ -1,0 +1,90 @@
+//! The kinds of all items that occur.
+
+ghost use Rattle.std.specs.Prelude.{◌≡◌, ◌≤◌, ◌<◌, length, All, IfOk, OnOk};
+ghost use Rattle.mine_model.specs.declared.item.Item.{Item};
+ghost use Rattle.sequence_grids.specs.Tables.{Grows};
+ghost use Rattle.sequence_grids.specs.Kinds.{AreKinds, KindsGrow, IsMet, AreMet};
+ghost use Rattle.sequence_grids.specs.Places.{IsTableOf, IsAlphabetTo, IsAlphabet};
+
+use super::kinds::{Kinds, Scratch, kind_of};
+use super::tables::Tables;
+use mine_model::{Item, NoMemory};
+use mining_job::{Bound, Job};
+use std::alloc::Global;
+
+/// The kinds of all items that occur in the sequences of a job, and the tables that have their classes.
+#[derive(Drop)]
+pub struct Alphabet {
+    pub kinds: Kinds,
+    pub tables: Tables,
+}
+
+/// The kinds of all items that occur in the sequences of the job, under a bound.
+pub fn alphabet_of(alloc: Global, job: &Job, bound: Bound) -> Result<Alphabet, NoMemory>
+    ensures { IfOk result (λ all. IsAlphabet job.now bound all.tables all.kinds) }
+{
+    let mut all = no_kinds(alloc, job, bound)?;
+    meet_sequences(alloc, job, bound, &mut all)?;
+    Ok(all)
+}
+
+// No kinds yet.
+fn no_kinds(alloc: Global, job: &Job, bound: Bound) -> Result<Alphabet, NoMemory>
+    ensures { IfOk result (λ none. IsAlphabetTo job.now bound none.tables none.kinds 0) }
+{
+    let _bound = bound;
+    Ok(Alphabet {
+        kinds: Kinds::new(alloc, job.fst(), job.hierarchy().items())?,
+        tables: Tables::new(alloc, job.fst())?,
+    })
+}
+
+// Finds the kinds of the items of all sequences.
+fn meet_sequences(
+    alloc: Global,
+    job: &Job,
+    bound: Bound,
+    all: &mut Alphabet,
+) -> Result<(), NoMemory>
+    requires none { IsAlphabetTo job.now bound all.old.tables all.old.kinds 0 }
+    ensures all { OnOk result (IsAlphabet job.now bound all.new.tables all.new.kinds) }
+{
+    let mut scratch = Scratch::new(alloc);
+    for number in 0..job.db().sequences() {
+        let items = job.db().sequence(number);
+        meet_all(
+            job,
+            bound,
+            &mut all.tables,
+            &mut all.kinds,
+            &mut scratch,
+            items,
+        )?;
+    }
+    Ok(())
+}
+
+/// Finds the kinds of those of the items that were not yet met.
+pub(crate) fn meet_all(
+    job: &Job,
+    bound: Bound,
+    tables: &mut Tables,
+    kinds: &mut Kinds,
+    scratch: &mut Scratch,
+    items: &[Item],
+) -> Result<(), NoMemory>
+    requires table { IsTableOf job.now tables.old }
+    requires kinds { AreKinds job.now bound tables.old.classes kinds.old }
+    requires items { All (λ t. t.0 < job.now.hierarchy.items) items.now }
+    ensures table { IsTableOf job.now tables.new }
+    ensures kinds { AreKinds job.now bound tables.new.classes kinds.new }
+    ensures tables_grow { Grows tables.old tables.new }
+    ensures kinds_grow { KindsGrow kinds.old kinds.new }
+    ensures kept { (t : Item) → IsMet kinds.old t → IsMet kinds.new t }
+    ensures met { OnOk result (AreMet kinds.new items.now) }
+{
+    for t in items {
+        kind_of(job, bound, tables, kinds, scratch, *t)?;
+    }
+    Ok(())
+}
