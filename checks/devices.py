@@ -756,7 +756,7 @@ def signals():
                     ("writes", ["--support", "1", *search, "(a)*", long])]
             if "--split" not in search:
                 runs.append(("mines made input", [*mines, "--generated", "1000000"]))
-            if search[1] != "count" and "--split" not in search:
+            if search[1] in ("dfs", "pivot") and "--split" not in search:
                 runs.append(("mines simulated", [*mines, "--simulate", "7", many]))
             for when, words in runs:
                 stopped(number, when, words, below, f"{name} while it {when}, {by}")
