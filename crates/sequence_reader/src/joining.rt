@@ -37,7 +37,7 @@ pub(crate) fn append_all(
         all: Vec::new(alloc),
     };
     'readings: for reading in readings {
-        if !append(all, known, &reading, &mut numbers)? {
+        if !append(all, known, reading, &mut numbers)? {
             return Ok(false);
         }
     }
@@ -56,14 +56,14 @@ struct Numbers {
 fn append(
     all: &mut Reading,
     known: u32,
-    piece: &Reading,
+    piece: Reading,
     numbers: &mut Numbers,
 ) -> Result<bool, NoMemory>
     requires { AllByRecursion (λ sequence. AllByRecursion
-        (λ item. item.0 < known + length piece.now.names) sequence.items) piece.now.db }
+        (λ item. item.0 < known + length piece.names) sequence.items) piece.db }
     ensures joined { result ≡ Ok true → (names earlier lines : List (List ℕ)) (weighted : Bool)
         → length names ≡ known → IsTaken names weighted earlier all.old
-        → IsTaken names weighted lines (behind names piece.now)
+        → IsTaken names weighted lines (behind names piece)
         → IsTaken names weighted (earlier ++ lines) all.new }
     ensures kept { (added : List (List ℕ)) × (all.new.names ≡ all.old.names ++ added) }
     ensures same { all.new.weighted ≡ all.old.weighted }
@@ -79,7 +79,7 @@ fn append(
     number_all(known, numbers.own.as_slice(), &mut numbers.all)?;
     append_sequences(
         &mut all.db,
-        &piece.db,
+        piece.db,
         numbers.all.as_slice(),
         &mut all.items,
     )?;
@@ -101,19 +101,19 @@ fn number_all(known: u32, own: &[Item], numbers: &mut Vec<Item>) -> Result<(), N
 /// Appends sequences whose items get these numbers. `items` is where the items of a sequence are collected.
 fn append_sequences(
     db: &mut Db,
-    more: &Db,
+    more: Db,
     numbers: &[Item],
     items: &mut Vec<Item>,
 ) -> Result<(), NoMemory>
     requires within { AllByRecursion
-        (λ sequence. AllByRecursion (λ item. item.0 < length numbers.now) sequence.items) more.now }
-    requires room { length db.old + length more.now ≤ most_sequences }
-    ensures { OnOk result (db.new ≡ db.old ++ map (sequence_by (renumbered numbers.now)) more.now) }
+        (λ sequence. AllByRecursion (λ item. item.0 < length numbers.now) sequence.items) more }
+    requires room { length db.old + length more ≤ most_sequences }
+    ensures { OnOk result (db.new ≡ db.old ++ map (sequence_by (renumbered numbers.now)) more) }
 {
     if are_kept(numbers) {
-        append_as_they_are(db, more)
+        append_kept(db, more)
     } else {
-        append_renumbered(db, more, numbers, items)
+        append_renumbered(db, &more, numbers, items)
     }
 }
 
@@ -130,7 +130,19 @@ fn are_kept(numbers: &[Item]) -> bool
     true
 }
 
-/// Appends sequences.
+/// Appends sequences. Where there are none before, they are taken as they lie in memory.
+fn append_kept(db: &mut Db, more: Db) -> Result<(), NoMemory>
+    requires { length db.old + length more ≤ most_sequences }
+    ensures { OnOk result (db.new ≡ db.old ++ more) }
+{
+    if db.sequences() == 0 {
+        *db = more;
+        return Ok(());
+    }
+    append_as_they_are(db, &more)
+}
+
+/// Appends sequences one by one.
 fn append_as_they_are(db: &mut Db, more: &Db) -> Result<(), NoMemory>
     requires { length db.old + length more.now ≤ most_sequences }
     ensures { OnOk result (db.new ≡ db.old ++ more.now) }
