@@ -11,9 +11,9 @@ pub loop-index-preserved : goal.loop-index-preserved
 loop-index-preserved c =
     let k = c.loop-index.index in
     let stands : List Stand = c.args.stands.now in
-    let stand : Stand = c.get.result in
-    let inside : k < length stands = slice_get_within stands k stand c.get.ensures in
-    let is : get_or stands k stand ≡ stand = get_or_from_slice_get stands k stand stand c.get.ensures in
+    let stand : Stand = c.get-stand.result in
+    let inside : k < length stands = slice_get_within stands k stand c.get-stand.ensures in
+    let is : get_or stands k stand ≡ stand = get_or_from_slice_get stands k stand stand c.get-stand.ensures in
     let flag : ℕ = if c.args.seen then 1 else 0 in
     let small : stand.state < 65536 = search rules in
     let more : take (k + 1) stands ≡ take k stands ++ stand ∷ [] = subst (λ (s : Stand). take (k + 1) stands ≡ take k stands ++ s ∷ []) is (take_more stands k stand inside) in
