@@ -14,7 +14,7 @@ use super::finding::{file, find, walk};
 use super::nodes::Nodes;
 use super::rooms::Rooms;
 use mine_model::NoMemory;
-use place_walk::{Stand, Visits};
+use place_walk::{Stand, Stands, Visits};
 use stand_sums::{Aim, NextRank, Outputs};
 use walk_memo::Memo;
 use walk_places::Places;
@@ -60,14 +60,14 @@ pub(crate) fn expand<const W: usize, T: Outputs>(
         found.as_slice(),
         &mut rooms.files,
     )?;
-    push_edges(aim, found.as_slice(), run.as_slice(), nodes, edges)
+    push_edges(aim, found.as_slice(), &run.stands(), nodes, edges)
 }
 
 /// Appends an edge for each of the ranks, whose stands are pieces of the run.
 fn push_edges(
     aim: Aim,
     found: &[NextRank],
-    run: &[Stand],
+    run: &Stands,
     nodes: &mut Nodes,
     edges: &mut Vec<Edge>,
 ) -> Result<(), NoMemory>
@@ -83,7 +83,7 @@ fn push_edges(
         (length edges.old.items) edges.new.items) }
 {
     for next in found {
-        let number = nodes.number(sees(aim, next.rank), stands_of(run, *next))?;
+        let number = nodes.number(sees(aim, next.rank), &stands_of(run, *next))?;
         edges.push(Edge {
             rank: next.rank,
             ends: next.support >= 1,
@@ -104,13 +104,13 @@ fn sees(aim: Aim, rank: u32) -> bool
 }
 
 /// The stands of the rank.
-fn stands_of(run: &[Stand], next: NextRank) -> &[Stand]
+fn stands_of<'a>(run: &Stands<'a>, next: NextRank) -> Stands<'a>
     requires { next.first < next.last → next.last ≤ length run.now }
-    ensures { result.now ≡ slice_range run.now next.first next.last }
+    ensures { result ≡ slice_range run.now next.first next.last }
 {
     if next.first < next.last {
-        &run[next.first..next.last]
+        run.piece(next.first, next.last)
     } else {
-        &run[..0]
+        run.piece(0, 0)
     }
 }

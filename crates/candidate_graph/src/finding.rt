@@ -10,8 +10,8 @@ ghost use Rattle.candidate_graph.specs.Courses.{AreStandsOn};
 ghost use Rattle.candidate_graph.specs.Kept.{AreFound, AreInRun};
 
 use mine_model::NoMemory;
-use place_walk::{Stand, Visit, Visits, walk_some};
-use stand_sums::{Aim, Files, NextRank, Outputs, Sums};
+use place_walk::{Stand, Stands, Visit, Visits, walk_some};
+use stand_sums::{Aim, Files, NextRank, Outputs, Run, Sums};
 use std::alloc::Global;
 use walk_memo::Memo;
 use walk_places::Places;
@@ -32,7 +32,7 @@ pub(crate) fn walk<const W: usize>(
     ensures moves { memo.new.moves ≡ memo.old.moves }
     ensures visits { OnOk result (AreVisits (course_of memo.old places.now) stands.now visits.new) }
 {
-    walk_some(memo, places, stands, 0, visits)?;
+    walk_some(memo, places, &Stands::of(stands), 0, visits)?;
     Ok(())
 }
 
@@ -64,18 +64,18 @@ pub(crate) fn file<T: Outputs>(
     visits: &[Visit],
     found: &[NextRank],
     files: &mut Files,
-) -> Result<Vec<Stand>, NoMemory>
+) -> Result<Run, NoMemory>
     requires readable { All (IsReadable (T.ranks table.now) (T.CanAsk table.now) files.old.room) visits.now }
     requires marked { IsSequence visits.now }
     requires found { AreFound (T.ranks table.now) aim files.old.room visits.now found.now }
     ensures room { files.new.room ≡ files.old.room }
-    ensures run { IfOk result (λ run. AreInRun (T.ranks table.now) aim visits.now found.now run.items) }
+    ensures run { IfOk result (λ run. AreInRun (T.ranks table.now) aim visits.now found.now run.stands) }
 {
     if !has_places(found) {
-        return Ok(Vec::new(alloc));
+        return Ok(Run::new(alloc));
     }
     files.begin(alloc, found)?;
-    files.file(table, aim, visits);
+    files.file(alloc, table, aim, visits)?;
     Ok(files.finish(alloc))
 }
 

@@ -11,7 +11,7 @@ use super::nodes::Nodes;
 use super::rooms::Rooms;
 use super::span::{Span, set_span, span_at};
 use mine_model::NoMemory;
-use place_walk::{Stand, Visits};
+use place_walk::{Stand, Stands, Visits};
 use stand_sums::{Aim, Files, Outputs, Sums};
 use std::alloc::Global;
 use std::marker::Model;
@@ -79,7 +79,7 @@ impl Graph {
         self.nodes.clear();
         self.spans.clear();
         self.edges.clear();
-        let root = self.nodes.number(seen, stands)?;
+        let root = self.nodes.number(seen, &Stands::of(stands))?;
         Ok(root)
     }
 

@@ -7,7 +7,7 @@ ghost use Rattle.candidate_graph.specs.Graphs.{Standpoint};
 use super::words::{first_place, is_seen, read_stands, write_key};
 use mine_model::NoMemory;
 use pattern_counts::PatternCounts;
-use place_walk::Stand;
+use place_walk::{Stand, Stands};
 use std::alloc::Global;
 use std::marker::Model;
 
@@ -61,7 +61,7 @@ impl Nodes {
     }
 
     /// The number of a standpoint, which is added if it is new.
-    pub(crate) fn number(&mut self, seen: bool, stands: &[Stand]) -> Result<u32, NoMemory>
+    pub(crate) fn number(&mut self, seen: bool, stands: &Stands) -> Result<u32, NoMemory>
         requires { IsMarked stands.now }
         ensures grows { (self.new ≡ self.old)
             ⊎ (self.new ≡ self.old ++ record { seen = seen; stands = stands.now } ∷ []) }

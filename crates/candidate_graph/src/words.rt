@@ -4,16 +4,17 @@ ghost use Rattle.std.specs.Prelude.{◌≡◌, ◌<◌, [], length, All, OnOk, s
 ghost use Rattle.candidate_graph.specs.Words.{key_of, point_of};
 
 use mine_model::NoMemory;
-use place_walk::Stand;
+use place_walk::{Stand, Stands};
 
 /// The words of the standpoint, in place of those before.
-pub(crate) fn write_key(words: &mut Vec<u32>, seen: bool, stands: &[Stand]) -> Result<(), NoMemory>
+pub(crate) fn write_key(words: &mut Vec<u32>, seen: bool, stands: &Stands) -> Result<(), NoMemory>
     ensures written { OnOk result (words.new.items ≡ key_of (record { seen = seen; stands = stands.now })) }
     ensures small { OnOk result (All (λ stand. stand.state < 65536) stands.now) }
 {
     words.clear();
     words.push(if seen { 1 } else { 0 })?;
-    for stand in stands {
+    for index in 0..stands.len() {
+        let stand = stands.get(index);
         words.push(stand.place)?;
         words.push(u32::from(stand.state))?;
     }

@@ -15,7 +15,7 @@ ghost use Rattle.level_ahead.specs.Kept.{HasGathered};
 use super::gathered::Gathered;
 use mask_sums::Masks;
 use mine_model::NoMemory;
-use place_walk::{Stand, Visit, Visits, walk_some};
+use place_walk::{Stand, Stands, Visit, Visits, walk_some};
 use state_bits::StateSet;
 use walk_memo::Memo;
 use walk_places::Places;
@@ -103,7 +103,7 @@ fn walk_behind<const W: usize>(
         state: visit.action.state,
         first: true,
     }];
-    walk_some(memo, places, &stands, 0, room)?;
+    walk_some(memo, places, &Stands::of(&stands), 0, room)?;
     Ok(())
 }
 

@@ -3,3 +3,4 @@ pub mod VisitLemmas
 pub mod JoinLemmas
 pub mod WayLemmas
 pub mod GroupLemmas
+pub mod PieceLemmas

@@ -5,7 +5,7 @@ ghost use Rattle.state_bits.specs.Members.{Has};
 ghost use Rattle.place_walk.specs.declared.stand.Stand.{Stand as Standing};
 ghost use Rattle.place_walk.specs.Ways.{AreTaken, Joins};
 
-use super::stand::Stand;
+use super::stands::Stands;
 use mine_model::NoMemory;
 use walk_memo::Memo;
 
@@ -20,7 +20,7 @@ pub(crate) struct Joined {
 #[inline]
 pub(crate) fn join<const W: usize>(
     memo: &mut Memo<W>,
-    group: &[Stand],
+    group: &Stands,
     taken: usize,
     place: u32,
     set: u32,
@@ -36,6 +36,8 @@ pub(crate) fn join<const W: usize>(
     ensures states { IfOk result (λ joined. (state : ℕ) → Has (slice_index memo.new.sets joined.set) state
         ↔ (Has (slice_index memo.old.sets set) state ⊎ Joins group.now taken joined.taken state)) }
 {
+    // For the proof alone: all indices are below a number of this type.
+    let _count = group.len();
     let mut number = set;
     let mut next = taken;
     'stands: while let Some(state) = state_at(group, next, place) {
@@ -50,13 +52,16 @@ pub(crate) fn join<const W: usize>(
 
 /// The state of a stand, where there is one that is before the place or an earlier one.
 #[inline]
-fn state_at(group: &[Stand], index: usize, place: u32) -> Option<u32>
+fn state_at(group: &Stands, index: usize, place: u32) -> Option<u32>
     ensures some { IfSome result (λ state. (stand : Standing) × (slice_get group.now index ≡ Some stand)
         × (stand.place ≤ place) × (stand.state ≡ state)) }
     ensures none { IfNone result ((stand : Standing) → slice_get group.now index ≡ Some stand
         → place < stand.place) }
 {
-    let stand = group.get(index)?;
+    if index >= group.len() {
+        return None;
+    }
+    let stand = group.get(index);
     if stand.place <= place {
         Some(u32::from(stand.state))
     } else {

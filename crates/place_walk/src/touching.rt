@@ -2,7 +2,7 @@
 
 ghost use Rattle.std.specs.Prelude.{◌<◌, ◌≤◌, length, All};
 
-use super::stand::Stand;
+use super::stands::Stands;
 use walk_places::Places;
 
 // For so many stands at a time the records are read early.
@@ -10,7 +10,7 @@ const TOUCHED: usize = 64;
 
 /// Reads the records of the next stands, one after another with nothing between, so that they come to the
 /// processor side by side; the walk then finds them near. Up to which stand.
-pub(crate) fn touch(places: &Places, stands: &[Stand], from: usize, touched: &mut u32) -> usize
+pub(crate) fn touch(places: &Places, stands: &Stands, from: usize, touched: &mut u32) -> usize
     requires from { from ≤ length stands.now }
     requires places { All (λ stand. stand.place < length places.now) stands.now }
     ensures { result ≤ length stands.now }
@@ -21,7 +21,7 @@ pub(crate) fn touch(places: &Places, stands: &[Stand], from: usize, touched: &mu
         from + TOUCHED
     };
     for index in from..end {
-        let entry = places.get(stands[index].place);
+        let entry = places.get(stands.get(index).place);
         *touched ^= entry.kind ^ entry.of;
     }
     end

@@ -10,7 +10,7 @@ ghost use Rattle.place_walk.specs.Ways.{IsNextAt, with_first};
 
 use super::grouping::group_end;
 use super::joining::join;
-use super::stand::Stand;
+use super::stands::Stands;
 use super::stepping::step;
 use super::touching::touch;
 use super::visit::Visit;
@@ -29,7 +29,7 @@ const MANY_VISITS: usize = 524_288;
 pub fn walk_some<const W: usize>(
     memo: &mut Memo<W>,
     places: &Places,
-    stands: &[Stand],
+    stands: &Stands,
     from: usize,
     visits: &mut Visits,
 ) -> Result<usize, NoMemory>
@@ -63,7 +63,7 @@ pub fn walk_some<const W: usize>(
 fn walk_list<const W: usize>(
     memo: &mut Memo<W>,
     places: &Places,
-    stands: &[Stand],
+    stands: &Stands,
     from: usize,
     visits: &mut Vec<Visit>,
     touched: &mut u32,
@@ -92,7 +92,7 @@ fn walk_list<const W: usize>(
             near = touch(places, stands, next, touched);
         }
         let end = group_end(stands, next);
-        walk_group(memo, places, &stands[next..end], visits)?;
+        walk_group(memo, places, &stands.piece(next, end), visits)?;
         next = end;
     }
     Ok(next)
@@ -102,7 +102,7 @@ fn walk_list<const W: usize>(
 fn walk_group<const W: usize>(
     memo: &mut Memo<W>,
     places: &Places,
-    group: &[Stand],
+    group: &Stands,
     visits: &mut Vec<Visit>,
 ) -> Result<(), NoMemory>
     requires width { W ≤ 17 }
@@ -126,7 +126,7 @@ fn walk_group<const W: usize>(
 fn walk_sequence<const W: usize>(
     memo: &mut Memo<W>,
     places: &Places,
-    group: &[Stand],
+    group: &Stands,
     visits: &mut Vec<Visit>,
 ) -> Result<(), NoMemory>
     requires width { W ≤ 17 }
@@ -158,7 +158,7 @@ fn walk_sequence<const W: usize>(
 #[inline]
 fn next_place<const W: usize>(
     memo: &Memo<W>,
-    group: &[Stand],
+    group: &Stands,
     taken: usize,
     place: u32,
     end: usize,
@@ -170,7 +170,10 @@ fn next_place<const W: usize>(
         × ((stand : Standing) → slice_get group.now taken ≡ Some stand → end ≤ stand.place))) }
 {
     let at = if memo.is_empty(set) {
-        group.get(taken)?.place
+        if taken >= group.len() {
+            return None;
+        }
+        group.get(taken).place
     } else {
         place
     };

@@ -20,6 +20,7 @@ use mine_model::NoMemory;
 use mining_job::{Bound, Job};
 use place_walk::Stand;
 use sequence_grids::Grids;
+use stand_sums::Run;
 use std::alloc::Global;
 use std::sync::Arc;
 use std::thread::Threads;
@@ -50,7 +51,7 @@ pub fn begin<'a>(
     let weights = weights_of(alloc, job, sequences.as_slice())?;
     let terrain = terrain_of(alloc, job, grids)?;
     let part = part_of(alloc, job, bound, sequences, terrain, weights)?;
-    let run = Arc::new(alloc, starts)?;
+    let run = Arc::new(alloc, Run::of(alloc, starts))?;
     Ok((part, Snapshots::new(false, 0, run, 0, last)))
 }
 
@@ -145,7 +146,7 @@ fn begun_at<'a>(
     let last = starts.len();
     let weights = weights_of(alloc, job, sequences.as_slice())?;
     let part = part_of(alloc, job, bound, sequences, terrain, weights)?;
-    let run = Arc::new(alloc, starts)?;
+    let run = Arc::new(alloc, Run::of(alloc, starts))?;
     Ok((part, Snapshots::new(false, 0, run, 0, last)))
 }
 

@@ -32,8 +32,8 @@ use super::terrain::{AnyTerrain, Terrain};
 use level_ahead::{Ahead, NextOf};
 use mask_sums::Masks;
 use mine_model::NoMemory;
-use place_walk::{Stand, walk_some};
-use stand_sums::{Aim, NextRank as Counted};
+use place_walk::{Stands, walk_some};
+use stand_sums::{Aim, NextRank as Counted, Run};
 use std::alloc::Global;
 use std::sync::Arc;
 use walk_memo::Memo;
@@ -77,13 +77,14 @@ pub fn grow<'a>(
     if let Some(next) = snapshots.next() {
         return told_before(alloc, aim, next);
     }
-    if snapshots.stands().is_empty() {
+    let stands = snapshots.stands();
+    if stands.len() == 0 {
         return Ok(Grown {
             next: Vec::new(alloc),
             longer: Vec::new(alloc),
         });
     }
-    let found = find(alloc, aim, snapshots.stands(), least, room)?;
+    let found = find(alloc, aim, &stands, least, room)?;
     let next = told(alloc, found.ranks.as_slice())?;
     let longer = longer_by(alloc, aim, found)?;
     Ok(Grown { next, longer })
@@ -101,7 +102,7 @@ fn told_before(alloc: Global, aim: Aim, next: &[NextOf]) -> Result<Grown, NoMemo
     if next.is_empty() {
         return Ok(grown);
     }
-    let none = Arc::new(alloc, Vec::new(alloc))?;
+    let none = Arc::new(alloc, Run::new(alloc))?;
     for known in next {
         grown.next.push(NextRank {
             rank: known.rank,
@@ -130,7 +131,7 @@ fn sees(aim: Aim, rank: u32) -> bool
 #[derive(Drop)]
 struct Found {
     ranks: Vec<Counted>,
-    run: Vec<Stand>,
+    run: Run,
     longer: Option<Vec<Snapshots>>,
 }
 
@@ -138,7 +139,7 @@ struct Found {
 fn find(
     alloc: Global,
     aim: Aim,
-    stands: &[Stand],
+    stands: &Stands,
     least: u64,
     room: &mut Room,
 ) -> Result<Found, NoMemory>
@@ -148,13 +149,13 @@ fn find(
     ensures room { room.new ≡ room.old }
     ensures found { IfOk result (λ found. (part : GridList) → room.old.part ≡ Some part
         → IsFoundIn part aim least (room.old.ranks + 1) stands.now found.ranks.items
-        found.run.items (items_if found.longer)) }
+        found.run.stands (items_if found.longer)) }
 {
     let Some(ground) = &room.known else {
         // One is known, so there is no such answer.
         return Ok(Found {
             ranks: Vec::new(alloc),
-            run: Vec::new(alloc),
+            run: Run::new(alloc),
             longer: None,
         });
     };
@@ -204,7 +205,7 @@ fn find_over<const W: usize>(
     over: &Terrain<W>,
     weights: &[u32],
     aim: Aim,
-    stands: &[Stand],
+    stands: &Stands,
     least: u64,
     few: bool,
     memos: &mut Memos<W>,
@@ -222,7 +223,7 @@ fn find_over<const W: usize>(
     ensures found { IfOk result (λ found.
         AreFound (course_over over.now.rows.items over.now.records aim) (ranks_of over.now.records.table)
         aim weights.now least (length tables.old.sums) stands.now found.ranks.items
-        found.run.items (items_if found.longer)) }
+        found.run.stands (items_if found.longer)) }
 {
     if goes_on(aim) {
         find_by(
@@ -264,7 +265,7 @@ fn find_by<const W: usize>(
     over: &Terrain<W>,
     weights: &[u32],
     aim: Aim,
-    stands: &[Stand],
+    stands: &Stands,
     least: u64,
     few: bool,
     memo: &mut Memo<W>,
@@ -284,7 +285,7 @@ fn find_by<const W: usize>(
     ensures found { IfOk result (λ found.
         AreFound (course_of memo.old over.now.records.places) (ranks_of over.now.records.table)
         aim weights.now least (length tables.old.sums) stands.now found.ranks.items
-        found.run.items (items_if found.longer)) }
+        found.run.stands (items_if found.longer)) }
 {
     let next = count_all(over, memo, weights, aim, stands, tables)?;
     let ranks = tables.sums.reaching(alloc, least, least)?;
@@ -295,7 +296,7 @@ fn find_by<const W: usize>(
     if longer.is_some() {
         return Ok(Found {
             ranks,
-            run: Vec::new(alloc),
+            run: Run::new(alloc),
             longer,
         });
     }
@@ -331,7 +332,7 @@ fn look_ahead<const W: usize>(
     memo: &mut Memo<W>,
     weights: &[u32],
     aim: Aim,
-    stands: &[Stand],
+    stands: &Stands,
     next: usize,
     found: &[Counted],
     least: u64,
@@ -375,7 +376,7 @@ fn count_ahead<const W: usize>(
     over: &Terrain<W>,
     memo: &mut Memo<W>,
     aim: Aim,
-    stands: &[Stand],
+    stands: &Stands,
     next: usize,
     tables: &mut Tables,
 ) -> Result<bool, NoMemory>
@@ -415,7 +416,7 @@ fn count_again<const W: usize>(
     over: &Terrain<W>,
     memo: &mut Memo<W>,
     aim: Aim,
-    stands: &[Stand],
+    stands: &Stands,
     tables: &mut Tables,
 ) -> Result<bool, NoMemory>
     requires width { W ≤ 17 }
@@ -471,7 +472,7 @@ fn longer_ahead(
     requires { asked_of ahead.now ≡ map (λ next. next.rank) (filter has_room found.now) }
     ensures { IfOk result (λ longer. AllZip (IsKeptAhead aim least ahead.now) found.now longer.items) }
 {
-    let none = Arc::new(alloc, Vec::new(alloc))?;
+    let none = Arc::new(alloc, Run::new(alloc))?;
     let mut longer = Vec::with_capacity(alloc, found.len())?;
     let mut entry = 0;
     for next in found {
@@ -494,11 +495,11 @@ fn stands_behind<const W: usize>(
     over: &Terrain<W>,
     memo: &mut Memo<W>,
     aim: Aim,
-    stands: &[Stand],
+    stands: &Stands,
     next: usize,
     found: &[Counted],
     tables: &mut Tables,
-) -> Result<Vec<Stand>, NoMemory>
+) -> Result<Run, NoMemory>
     requires width { W ≤ 17 }
     requires ready { IsReady over.now aim stands.now tables.old.files.room }
     requires rows { memo.old.rows ≡ over.now.rows.items }
@@ -519,10 +520,10 @@ fn stands_behind<const W: usize>(
     ensures run { IfOk result (λ run. (groups : List (List Standing)) (sequences : List (List Visited))
         → AreGroups stands.now groups
         → AllZip (AreVisits (course_of memo.old over.now.records.places)) groups sequences
-        → AreInRun (ranks_of over.now.records.table) aim sequences found.now run.items) }
+        → AreInRun (ranks_of over.now.records.table) aim sequences found.now run.stands) }
 {
     tables.files.begin(alloc, found)?;
-    file_stands(over, memo, aim, stands, next, found, tables)?;
+    file_stands(alloc, over, memo, aim, stands, next, found, tables)?;
     Ok(tables.files.finish(alloc))
 }
 
@@ -532,7 +533,7 @@ fn count_all<const W: usize>(
     memo: &mut Memo<W>,
     weights: &[u32],
     aim: Aim,
-    stands: &[Stand],
+    stands: &Stands,
     tables: &mut Tables,
 ) -> Result<usize, NoMemory>
     requires width { W ≤ 17 }
@@ -562,10 +563,11 @@ fn count_all<const W: usize>(
 // Files the stands behind what the paths write, where the ranks have places: from the buffer of visits, if
 // those of all stands are in it.
 fn file_stands<const W: usize>(
+    alloc: Global,
     over: &Terrain<W>,
     memo: &mut Memo<W>,
     aim: Aim,
-    stands: &[Stand],
+    stands: &Stands,
     next: usize,
     found: &[Counted],
     tables: &mut Tables,
@@ -596,11 +598,10 @@ fn file_stands<const W: usize>(
         return Ok(());
     }
     if next < stands.len() {
-        return file_again(over, memo, aim, stands, found, tables);
+        return file_again(alloc, over, memo, aim, stands, found, tables);
     }
     let visits = tables.visits.as_slice();
-    tables.files.file(over.records.table(), aim, visits);
-    Ok(())
+    tables.files.file(alloc, over.records.table(), aim, visits)
 }
 
 // Counts what the paths write that stand there, from this stand on, in one walk. The first stand that is
@@ -610,7 +611,7 @@ fn count_some<const W: usize>(
     memo: &mut Memo<W>,
     weights: &[u32],
     aim: Aim,
-    stands: &[Stand],
+    stands: &Stands,
     from: usize,
     tables: &mut Tables,
 ) -> Result<usize, NoMemory>
@@ -653,7 +654,7 @@ fn count_rest<const W: usize>(
     memo: &mut Memo<W>,
     weights: &[u32],
     aim: Aim,
-    stands: &[Stand],
+    stands: &Stands,
     from: usize,
     tables: &mut Tables,
 ) -> Result<(), NoMemory>
@@ -682,10 +683,11 @@ fn count_rest<const W: usize>(
 
 // Files the stands behind what the paths write, in walks of their own.
 fn file_again<const W: usize>(
+    alloc: Global,
     over: &Terrain<W>,
     memo: &mut Memo<W>,
     aim: Aim,
-    stands: &[Stand],
+    stands: &Stands,
     found: &[Counted],
     tables: &mut Tables,
 ) -> Result<(), NoMemory>
@@ -720,7 +722,7 @@ fn file_again<const W: usize>(
         )?;
         tables
             .files
-            .file(over.records.table(), aim, tables.visits.as_slice());
+            .file(alloc, over.records.table(), aim, tables.visits.as_slice())?;
     }
     Ok(())
 }
@@ -737,9 +739,9 @@ fn has_places(found: &[Counted]) -> bool
 
 // What is kept of the prefixes with the ranks that were found.
 fn longer_by(alloc: Global, aim: Aim, found: Found) -> Result<Vec<Snapshots>, NoMemory>
-    requires { items_if found.longer ≡ None → All (IsWithin found.run.items) found.ranks.items }
+    requires { items_if found.longer ≡ None → All (IsWithin found.run.stands) found.ranks.items }
     ensures stands { IfOk result (λ longer. items_if found.longer ≡ None
-        → longer.items ≡ map (kept_of aim found.run.items) found.ranks.items) }
+        → longer.items ≡ map (kept_of aim found.run.stands) found.ranks.items) }
     ensures ahead { IfOk result (λ longer. IfSome (items_if found.longer) (λ ahead. longer.items ≡ ahead)) }
 {
     let Found { ranks, run, longer } = found;
@@ -754,10 +756,10 @@ fn longer_in(
     alloc: Global,
     aim: Aim,
     found: &[Counted],
-    run: Vec<Stand>,
+    run: Run,
 ) -> Result<Vec<Snapshots>, NoMemory>
-    requires { All (IsWithin run.items) found.now }
-    ensures { IfOk result (λ longer. longer.items ≡ map (kept_of aim run.items) found.now) }
+    requires { All (IsWithin run.stands) found.now }
+    ensures { IfOk result (λ longer. longer.items ≡ map (kept_of aim run.stands) found.now) }
 {
     let shared = Arc::new(alloc, run)?;
     let mut longer = Vec::with_capacity(alloc, found.len())?;
@@ -768,9 +770,9 @@ fn longer_in(
 }
 
 // What is kept of the prefix with the rank.
-fn piece(aim: Aim, next: Counted, run: Arc<Vec<Stand>>) -> Snapshots
-    requires { IsWithin (arc_value run).items next }
-    ensures { result ≡ kept_of aim (arc_value run).items next }
+fn piece(aim: Aim, next: Counted, run: Arc<Run>) -> Snapshots
+    requires { IsWithin (arc_value run).stands next }
+    ensures { result ≡ kept_of aim (arc_value run).stands next }
 {
     let seen = sees(aim, next.rank);
     if next.first < next.last {

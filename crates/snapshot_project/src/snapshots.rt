@@ -3,7 +3,8 @@ ghost use Rattle.std.specs.Arc.{arc_value};
 ghost use Rattle.snapshot_project.specs.Ahead.{next_of};
 
 use level_ahead::NextOf;
-use place_walk::Stand;
+use place_walk::Stands;
+use stand_sums::Run;
 use std::marker::Model;
 use std::sync::Arc;
 
@@ -14,7 +15,7 @@ use std::sync::Arc;
 pub struct Snapshots {
     seen: bool,
     support: u64,
-    run: Arc<Vec<Stand>>,
+    run: Arc<Run>,
     first: usize,
     last: usize,
     // The ranks that follow, where these are known.
@@ -33,11 +34,11 @@ impl Model for Snapshots {
     ghost view = { λ s. record {
       seen = s.seen;
       support = s.support;
-      stands = slice_range (arc_value s.run).items s.first s.last;
+      stands = slice_range (arc_value s.run).stands s.first s.last;
       next = option_map (λ next. map next_of next.items) s.next;
     } };
 
-    ghost invariant = { λ s. (s.first ≤ s.last) × (s.last ≤ length (arc_value s.run).items) };
+    ghost invariant = { λ s. (s.first ≤ s.last) × (s.last ≤ length (arc_value s.run).stands) };
 }
 
 impl Snapshots {
@@ -45,16 +46,16 @@ impl Snapshots {
     pub(crate) fn new(
         seen: bool,
         support: u64,
-        run: Arc<Vec<Stand>>,
+        run: Arc<Run>,
         first: usize,
         last: usize,
     ) -> Snapshots
         requires ordered { first ≤ last }
-        requires within { last ≤ length (arc_value run).items }
+        requires within { last ≤ length (arc_value run).stands }
         ensures { result ≡ record {
           seen = seen;
           support = support;
-          stands = slice_range (arc_value run).items first last;
+          stands = slice_range (arc_value run).stands first last;
           next = None;
         } }
     {
@@ -69,16 +70,11 @@ impl Snapshots {
     }
 
     /// What follows, and no stands.
-    pub(crate) fn told(
-        seen: bool,
-        support: u64,
-        run: Arc<Vec<Stand>>,
-        next: Vec<NextOf>,
-    ) -> Snapshots
+    pub(crate) fn told(seen: bool, support: u64, run: Arc<Run>, next: Vec<NextOf>) -> Snapshots
         ensures { result ≡ record {
           seen = seen;
           support = support;
-          stands = slice_range (arc_value run).items 0 0;
+          stands = slice_range (arc_value run).stands 0 0;
           next = Some (map next_of next.items);
         } }
     {
@@ -107,10 +103,10 @@ impl Snapshots {
     }
 
     /// The stands.
-    pub(crate) fn stands(&self) -> &[Stand]
-        ensures { result.now ≡ self.now.stands }
+    pub(crate) fn stands(&self) -> Stands<'_>
+        ensures { result ≡ self.now.stands }
     {
-        &self.run[self.first..self.last]
+        self.run.piece(self.first, self.last)
     }
 
     /// What follows the prefix, where it is known.

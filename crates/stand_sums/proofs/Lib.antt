@@ -6,3 +6,4 @@ pub mod FileLemmas
 pub mod ShelfLemmas
 pub mod LawLemmas
 pub mod GroupLemmas
+pub mod RunLemmas

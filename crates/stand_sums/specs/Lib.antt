@@ -4,5 +4,6 @@ pub mod Writings
 pub mod Sequences
 pub mod Sums
 pub mod Files
+pub mod Runs
 -- what the proofs keep
 pub mod Kept

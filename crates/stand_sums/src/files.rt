@@ -9,9 +9,10 @@ use super::aim::Aim;
 use super::filing::{file_all, run_end, shelves_for};
 use super::next_rank::NextRank;
 use super::outputs::Outputs;
+use super::run::{Run, all_fit};
 use super::shelf::Shelf;
 use mine_model::NoMemory;
-use place_walk::{Stand, Visit};
+use place_walk::Visit;
 use std::alloc::Global;
 use std::marker::Model;
 
@@ -22,7 +23,10 @@ pub struct Files {
     // Where the shelf of each rank is. It counts only where that shelf has the rank, so none is cleared.
     places: Vec<u32>,
     shelves: Vec<Shelf>,
-    run: Vec<Stand>,
+    run: Run,
+    // Whether the last run that was begun came to hold a stand that does not fit into four bytes: the next one
+    // will most likely, too.
+    wide: bool,
 }
 
 impl Model for Files {
@@ -34,10 +38,10 @@ impl Model for Files {
 
     ghost view = { λ f. record {
       room = length f.places.items;
-      filed = map (filed_in f.run.items) f.shelves.items;
+      filed = map (filed_in f.run.stands) f.shelves.items;
     } };
 
-    ghost invariant = { λ f. AreFiles f.places.items f.shelves.items f.run.items };
+    ghost invariant = { λ f. AreFiles f.places.items f.shelves.items f.run.stands };
 }
 
 impl Files {
@@ -48,7 +52,8 @@ impl Files {
         Ok(Files {
             places: vec![in alloc; 0; ranks]?,
             shelves: Vec::new(alloc),
-            run: Vec::new(alloc),
+            run: Run::new(alloc),
+            wide: false,
         })
     }
 
@@ -63,20 +68,31 @@ impl Files {
     {
         self.shelves.clear();
         let end = run_end(next);
-        self.run = vec![in alloc; NOWHERE; end]?;
+        self.run = Run::with_places(alloc, end, !self.wide)?;
         shelves_for(next, &mut self.places, &mut self.shelves)
     }
 
     /// Files the visits of some whole sequences behind what was filed, for each rank that has places: behind
-    /// each visit that writes the rank and goes on, where it stands.
-    pub fn file<T: Outputs>(&mut self, table: &T, aim: Aim, visits: &[Visit])
+    /// each visit that writes the rank and goes on, where it stands. Memory is asked for only where a stand does
+    /// not fit into four bytes and none before did.
+    pub fn file<T: Outputs>(
+        &mut self,
+        alloc: Global,
+        table: &T,
+        aim: Aim,
+        visits: &[Visit],
+    ) -> Result<(), NoMemory>
         requires readable { All (IsReadable (T.ranks table.now) (T.CanAsk table.now) self.old.room)
             visits.now }
         requires room { All (HasRoom (T.ranks table.now) aim visits.now) self.old.filed }
         ensures room { self.new.room ≡ self.old.room }
-        ensures filed { (sequences : List (List Visited)) → AreSequences visits.now sequences
-            → self.new.filed ≡ map (with_more (T.ranks table.now) aim sequences) self.old.filed }
+        ensures filed { OnOk result ((sequences : List (List Visited)) → AreSequences visits.now sequences
+            → self.new.filed ≡ map (with_more (T.ranks table.now) aim sequences) self.old.filed) }
     {
+        if self.run.is_narrow() && !all_fit(visits) {
+            self.run.widen(alloc)?;
+            self.wide = true;
+        }
         file_all(
             table,
             aim,
@@ -84,25 +100,19 @@ impl Files {
             self.places.as_slice(),
             &mut self.shelves,
             &mut self.run,
-        )
+        );
+        Ok(())
     }
 
     /// The run, in which each rank has its stands at its places. Nothing is filed then.
-    pub fn finish(&mut self, alloc: Global) -> Vec<Stand>
+    pub fn finish(&mut self, alloc: Global) -> Run
         requires full { All IsFull self.old.filed }
         ensures room { self.new.room ≡ self.old.room }
         ensures empty { self.new.filed ≡ [] }
-        ensures stands { All (λ filed. slice_range result.items filed.first filed.last ≡ filed.stands)
+        ensures stands { All (λ filed. slice_range result.stands filed.first filed.last ≡ filed.stands)
             self.old.filed }
     {
         self.shelves.clear();
-        std::mem::replace(&mut self.run, Vec::new(alloc))
+        std::mem::replace(&mut self.run, Run::new(alloc))
     }
 }
-
-// What stands at a place where none was filed.
-const NOWHERE: Stand = Stand {
-    place: 0,
-    state: 0,
-    first: false,
-};

@@ -1,10 +1,12 @@
 //! Visits are filed as stands, sequence after sequence.
 
-ghost use Rattle.std.specs.Prelude.{◌≡◌, ℕ, ◌-◌, ◌^◌, ◌<◌, List, [], ◌∷◌, length, map, slice_get, slice_index, All, AllPairs, Some, IfSome, IfNone, IfOk, OnOk, OnErr};
+ghost use Rattle.std.specs.Prelude.{◌≡◌, ℕ, ◌-◌, ◌^◌, ◌<◌, List, [], ◌∷◌, length, map, slice_get, slice_index, All, AllPairs, Some, IsTrue, IfSome, IfNone, IfOk, OnOk, OnErr};
 ghost use Rattle.place_walk.specs.declared.visit.Visit.{Visit as Visited};
+ghost use Rattle.place_walk.specs.Codes.{Fits};
 ghost use Rattle.stand_sums.specs.declared.shelf.Shelf.{Shelf as Shelved};
 ghost use Rattle.stand_sums.specs.Writings.{IsReadable};
 ghost use Rattle.stand_sums.specs.Sequences.{AreSequences};
+ghost use Rattle.stand_sums.specs.Runs.{HavePlaces};
 ghost use Rattle.stand_sums.specs.Sums.{AreLaidOut};
 ghost use Rattle.stand_sums.specs.Files.{with_more, HasRoom};
 ghost use Rattle.stand_sums.specs.Kept.{empty_shelf, older, filled, filed_in, filings_in, filed_for, filed_behind, filed_behind_all, HasRoomFor, ArePlaced, AreFiles};
@@ -12,6 +14,7 @@ ghost use Rattle.stand_sums.specs.Kept.{empty_shelf, older, filled, filed_in, fi
 use super::aim::Aim;
 use super::next_rank::NextRank;
 use super::outputs::Outputs;
+use super::run::Run;
 use super::sequences::sequence_end;
 use super::shelf::Shelf;
 use mine_model::NoMemory;
@@ -94,18 +97,20 @@ pub(crate) fn file_all<T: Outputs>(
     visits: &[Visit],
     places: &[u32],
     shelves: &mut Vec<Shelf>,
-    run: &mut Vec<Stand>,
+    run: &mut Run,
 )
     requires readable { All (IsReadable (T.ranks table.now) (T.CanAsk table.now) (length places.now))
         visits.now }
-    requires files { AreFiles places.now shelves.old.items run.old.items }
+    requires files { AreFiles places.now shelves.old.items run.old.stands }
     requires room { All (HasRoom (T.ranks table.now) aim visits.now)
-        (map (filed_in run.old.items) shelves.old.items) }
-    ensures files { AreFiles places.now shelves.new.items run.new.items }
+        (map (filed_in run.old.stands) shelves.old.items) }
+    requires fits { HavePlaces run.old.narrow visits.now }
+    ensures form { run.new.narrow ≡ run.old.narrow }
+    ensures files { AreFiles places.now shelves.new.items run.new.stands }
     ensures filed { (sequences : List (List Visited)) → AreSequences visits.now sequences
-        → map (filed_in run.new.items) shelves.new.items
+        → map (filed_in run.new.stands) shelves.new.items
         ≡ map (with_more (T.ranks table.now) aim sequences)
-        (map (filed_in run.old.items) shelves.old.items) }
+        (map (filed_in run.old.stands) shelves.old.items) }
 {
     make_older(shelves);
     let mut from = 0;
@@ -133,17 +138,19 @@ fn file_sequence<T: Outputs>(
     end: usize,
     places: &[u32],
     shelves: &mut Vec<Shelf>,
-    run: &mut Vec<Stand>,
+    run: &mut Run,
 )
     requires readable { All (IsReadable (T.ranks table.now) (T.CanAsk table.now) (length places.now))
         visits.now }
-    requires files { AreFiles places.now shelves.old.items run.old.items }
+    requires files { AreFiles places.now shelves.old.items run.old.stands }
     requires room { All (HasRoom (T.ranks table.now) aim visits.now)
-        (map (filed_in run.old.items) shelves.old.items) }
-    ensures files { AreFiles places.now shelves.new.items run.new.items }
-    ensures filed { filings_in run.new.items shelves.new.items
+        (map (filed_in run.old.stands) shelves.old.items) }
+    requires fits { HavePlaces run.old.narrow visits.now }
+    ensures form { run.new.narrow ≡ run.old.narrow }
+    ensures files { AreFiles places.now shelves.new.items run.new.stands }
+    ensures filed { filings_in run.new.stands shelves.new.items
         ≡ map (filed_behind_all (T.ranks table.now) aim end visits.now)
-        (filings_in run.old.items shelves.old.items) }
+        (filings_in run.old.stands shelves.old.items) }
 {
     for visit in visits {
         file_visit(table, aim, *visit, end, places, shelves, run);
@@ -159,16 +166,18 @@ fn file_visit<T: Outputs>(
     end: usize,
     places: &[u32],
     shelves: &mut Vec<Shelf>,
-    run: &mut Vec<Stand>,
+    run: &mut Run,
 )
     requires readable { IsReadable (T.ranks table.now) (T.CanAsk table.now) (length places.now) visit }
-    requires files { AreFiles places.now shelves.old.items run.old.items }
+    requires files { AreFiles places.now shelves.old.items run.old.stands }
     requires room { All (HasRoom (T.ranks table.now) aim (visit ∷ []))
-        (map (filed_in run.old.items) shelves.old.items) }
-    ensures files { AreFiles places.now shelves.new.items run.new.items }
-    ensures filed { filings_in run.new.items shelves.new.items
+        (map (filed_in run.old.stands) shelves.old.items) }
+    requires fits { IsTrue run.old.narrow → Fits visit.place visit.action.state }
+    ensures form { run.new.narrow ≡ run.old.narrow }
+    ensures files { AreFiles places.now shelves.new.items run.new.stands }
+    ensures filed { filings_in run.new.stands shelves.new.items
         ≡ map (λ filing. filed_behind (T.ranks table.now) aim end filing visit)
-        (filings_in run.old.items shelves.old.items) }
+        (filings_in run.old.stands shelves.old.items) }
 {
     if !visit.action.more && !visit.action.unseen {
         return;
@@ -189,23 +198,26 @@ fn file_rank(
     end: usize,
     places: &[u32],
     shelves: &mut Vec<Shelf>,
-    run: &mut Vec<Stand>,
+    run: &mut Run,
 )
     requires rank { rank < length places.now }
-    requires files { AreFiles places.now shelves.old.items run.old.items }
+    requires files { AreFiles places.now shelves.old.items run.old.stands }
     requires room { All (HasRoomFor rank) shelves.old.items }
-    ensures files { AreFiles places.now shelves.new.items run.new.items }
-    ensures filed { filings_in run.new.items shelves.new.items
-        ≡ map (filed_for rank visit end) (filings_in run.old.items shelves.old.items) }
+    requires fits { IsTrue run.old.narrow → Fits visit.place visit.action.state }
+    ensures form { run.new.narrow ≡ run.old.narrow }
+    ensures files { AreFiles places.now shelves.new.items run.new.stands }
+    ensures filed { filings_in run.new.stands shelves.new.items
+        ≡ map (filed_for rank visit end) (filings_in run.old.stands shelves.old.items) }
 {
     if let Some(place) = shelf_at(rank, places, shelves.as_slice()) {
         let _room = run.len();
         let shelf = shelves[place];
-        run[shelf.next] = Stand {
+        let stand = Stand {
             place: visit.place,
             state: visit.action.state,
             first: shelf.end != end,
         };
+        run.set(shelf.next, stand);
         fill(&mut shelves[place], end);
     }
 }

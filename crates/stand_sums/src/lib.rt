@@ -11,6 +11,7 @@ mod laws;
 mod next_rank;
 mod outputs;
 mod reaching;
+mod run;
 mod sequences;
 mod shelf;
 mod sum;
@@ -24,4 +25,5 @@ pub use laws::{
 };
 pub use next_rank::NextRank;
 pub use outputs::Outputs;
+pub use run::Run;
 pub use sums::Sums;

@@ -38,32 +38,32 @@ module _ (g : Over) (c : In_ok-run g) where
   found-are : AreFound (g.T.Outputs.ranks c.args.table.now) c.args.aim (length c.args.rooms.now.sums) c.walk.new.visits c.in_ok-found.found.items
   found-are = subst (λ (l : List Visit). AreFound (g.T.Outputs.ranks c.args.table.now) c.args.aim (length c.args.rooms.now.sums) l c.in_ok-found.found.items) c.as_slice.ensures c.in_ok-found.ensures.found
 
-  run-is : AreInRun (g.T.Outputs.ranks c.args.table.now) c.args.aim c.walk.new.visits c.in_ok-found.found.items c.in_ok-run.run'.items
+  run-is : AreInRun (g.T.Outputs.ranks c.args.table.now) c.args.aim c.walk.new.visits c.in_ok-found.found.items c.in_ok-run.run'.stands
   run-is =
-      subst (λ (l : List Visit). AreInRun (g.T.Outputs.ranks c.args.table.now) c.args.aim l c.in_ok-found.found.items c.in_ok-run.run'.items) c.as_slice-2.ensures
-      (subst (λ (l : List NextRank). AreInRun (g.T.Outputs.ranks c.args.table.now) c.args.aim c.as_slice-2.result.now l c.in_ok-run.run'.items) c.as_slice-3.ensures.value c.in_ok-run.ensures.run)
+      subst (λ (l : List Visit). AreInRun (g.T.Outputs.ranks c.args.table.now) c.args.aim l c.in_ok-found.found.items c.in_ok-run.run'.stands) c.as_slice-2.ensures
+      (subst (λ (l : List NextRank). AreInRun (g.T.Outputs.ranks c.args.table.now) c.args.aim c.as_slice-2.result.now l c.in_ok-run.run'.stands) c.as_slice-3.ensures.value c.in_ok-run.ensures.run)
 
 pub push_edges-requires-clause-marked : goal.push_edges-requires-clause-marked
 push_edges-requires-clause-marked g c =
     let at = (goal.at.push_edges-requires-clause-marked g c).In_ok-run in
-    rw (c.as_slice-4.ensures.value, c.as_slice-5.ensures.value)
-    (run-marked (g.T.Outputs.ranks c.args.table.now) c.args.aim (length c.args.rooms.now.sums) c.walk.new.visits c.in_ok-found.found.items c.in_ok-run.run'.items (found-are g at) (run-is g at))
+    rw (c.as_slice-4.ensures.value, c.stands.ensures)
+    (run-marked (g.T.Outputs.ranks c.args.table.now) c.args.aim (length c.args.rooms.now.sums) c.walk.new.visits c.in_ok-found.found.items c.in_ok-run.run'.stands (found-are g at) (run-is g at))
 
 pub push_edges-requires-clause-within : goal.push_edges-requires-clause-within
 push_edges-requires-clause-within g c =
     let at = (goal.at.push_edges-requires-clause-within g c).In_ok-run in
-    rw (c.as_slice-4.ensures.value, c.as_slice-5.ensures.value)
-    (run-within (g.T.Outputs.ranks c.args.table.now) c.args.aim (length c.args.rooms.now.sums) c.walk.new.visits c.in_ok-found.found.items c.in_ok-run.run'.items (found-are g at) (run-is g at))
+    rw (c.as_slice-4.ensures.value, c.stands.ensures)
+    (run-within (g.T.Outputs.ranks c.args.table.now) c.args.aim (length c.args.rooms.now.sums) c.walk.new.visits c.in_ok-found.found.items c.in_ok-run.run'.stands (found-are g at) (run-is g at))
 
 pub returns-clause-points : goal.returns-clause-points
 returns-clause-points g c =
     let at = (goal.at.returns-clause-points g c).In_ok-run in
-    let (more, is, each) = rw (c.as_slice-4.ensures.value, c.as_slice-5.ensures.value) at c.push_edges.ensures.points in (
+    let (more, is, each) = rw (c.as_slice-4.ensures.value, c.stands.ensures) at c.push_edges.ensures.points in (
       more,
       is,
       (λ point held.
           let (next, among, same) = each point held in
-          points-on (g.T.Outputs.ranks c.args.table.now) c.args.aim (length c.args.rooms.now.sums) c.walk.new.visits c.in_ok-found.found.items c.in_ok-run.run'.items (found-are g at) (run-is g at)
+          points-on (g.T.Outputs.ranks c.args.table.now) c.args.aim (length c.args.rooms.now.sums) c.walk.new.visits c.in_ok-found.found.items c.in_ok-run.run'.stands (found-are g at) (run-is g at)
           (course_of c.args.memo.now c.args.places.now) c.args.stands.now c.in_ok-walk.ensures.visits (g.T.Outputs.CanAsk c.args.table.now) c.args.rooms.now.files.room c.requires.ground point next among same),
     )
 
@@ -71,9 +71,9 @@ pub returns-clause-edges : goal.returns-clause-edges
 returns-clause-edges g c =
     let at = (goal.at.returns-clause-edges g c).In_ok-run in
     let found = c.in_ok-found.found.items in
-    let run = c.in_ok-run.run'.items in
+    let run = c.in_ok-run.run'.stands in
     let base = length c.args.edges.now.items in
-    let made = rw (c.as_slice-4.ensures.value, c.as_slice-5.ensures.value) at c.push_edges.ensures.made in
+    let made = rw (c.as_slice-4.ensures.value, c.stands.ensures) at c.push_edges.ensures.made in
     on_ok_weaker c.push_edges.result
     (λ are.
     edges-are (g.T.Outputs.ranks c.args.table.now) c.args.aim (length c.args.rooms.now.sums) c.walk.new.visits found run (found-are g at) (run-is g at) c.push_edges.new.nodes base c.push_edges.new.edges.items are

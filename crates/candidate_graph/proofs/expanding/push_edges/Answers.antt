@@ -21,27 +21,27 @@ stands_of-requires c = c.requires.within (get_or c.args.found.now c.loop-next.ne
 pub returns-in_err-push-clause-points : goal.returns-in_err-push-clause-points
 returns-in_err-push-clause-points c =
     let next : NextRank = get_or c.args.found.now c.loop-next.next-index nowhere in
-    let here : Standpoint = record { seen = c.sees.result; stands = c.stands_of.result.now } in
+    let here : Standpoint = record { seen = c.sees.result; stands = c.stands_of.result } in
     grown-more (λ (at : Standpoint). (next : NextRank) × Contains c.args.found.now next × (at ≡ point_in c.args.aim c.args.run.now next)) c.args.nodes.now c.loop-next.nodes c.number.new.self here
     c.loop-next.invariant.points c.number.ensures.grows (
       next,
       held-at c.args.found.now c.loop-next.next-index c.loop-next-test.true,
-      point-made c.args.aim c.args.run.now next c.sees.result c.stands_of.result.now c.sees.ensures c.stands_of.ensures,
+      point-made c.args.aim c.args.run.now next c.sees.result c.stands_of.result c.sees.ensures c.stands_of.ensures,
     )
 
 pub loop-next-preserved : goal.loop-next-preserved
 loop-next-preserved c =
     let next : NextRank = get_or c.args.found.now c.loop-next.next-index nowhere in
-    let here : Standpoint = record { seen = c.sees.result; stands = c.stands_of.result.now } in
+    let here : Standpoint = record { seen = c.sees.result; stands = c.stands_of.result } in
     let (more, kept) = c.loop-next.invariant.kept in
-    let is = made-one c.number.new.self c.args.aim c.args.run.now next c.in_ok-number.number c.sees.result c.stands_of.result.now c.sees.ensures c.stands_of.ensures c.in_ok-number.ensures.number in
+    let is = made-one c.number.new.self c.args.aim c.args.run.now next c.in_ok-number.number c.sees.result c.stands_of.result c.sees.ensures c.stands_of.ensures c.in_ok-number.ensures.number in
     let edge : Edge = record { rank = next.rank; ends = nat_le 1 next.support; next = c.in_ok-number.number } in
     record {
       points = grown-more (λ (at : Standpoint). (next : NextRank) × Contains c.args.found.now next × (at ≡ point_in c.args.aim c.args.run.now next)) c.args.nodes.now c.loop-next.nodes c.number.new.self here
           c.loop-next.invariant.points c.number.ensures.grows (
             next,
             held-at c.args.found.now c.loop-next.next-index c.loop-next-test.true,
-            point-made c.args.aim c.args.run.now next c.sees.result c.stands_of.result.now c.sees.ensures c.stands_of.ensures,
+            point-made c.args.aim c.args.run.now next c.sees.result c.stands_of.result c.sees.ensures c.stands_of.ensures,
           );
       kept = (more ++ edge ∷ [], c.in_ok-push.ensures.items ∙ ap (λ (l : List Edge). l ++ edge ∷ []) kept ∙ append_assoc c.args.edges.now.items more (edge ∷ []));
       made = subst (AreMade c.number.new.self c.args.aim c.args.run.now c.args.found.now (c.loop-next.next-index + 1) (length c.args.edges.now.items)) (sym c.in_ok-push.ensures.items)

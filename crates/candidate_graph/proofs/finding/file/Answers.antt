@@ -1,6 +1,7 @@
 use Rattle.std.proofs.Common.{◌≡◌, ◌∙◌, [], ◌∷◌, map, sym, ap, subst}
 use Rattle.std.specs.List.{All, slice_range}
 use Rattle.stand_sums.specs.Files.{Filed, unfiled, with_more, HasRoom, IsFull}
+use Rattle.stand_sums.specs.Runs.{RunValue}
 use Rattle.candidate_graph.specs.Kept.{AreInRun}
 use Rattle.candidate_graph.proofs.FoundLemmas.{one-sequence, files-within, files-room, files-full, files-run, no-run}
 use Rattle.candidate_graph.proofs.finding.file.Goals as goal
@@ -19,7 +20,7 @@ finish-requires g c =
     let ranks = g.T.Outputs.ranks c.args.table.now in
     let visits = c.args.visits.now in
     let filed : c.file.new.self.filed ≡ map (with_more ranks c.args.aim (visits ∷ [])) (map unfiled c.args.found.now) =
-    c.file.ensures.filed (visits ∷ []) (one-sequence visits c.requires.marked) ∙ ap (map (with_more ranks c.args.aim (visits ∷ []))) c.in_ok-begin.ensures.begun in
+    c.in_ok-file.ensures.filed (visits ∷ []) (one-sequence visits c.requires.marked) ∙ ap (map (with_more ranks c.args.aim (visits ∷ []))) c.in_ok-begin.ensures.begun in
     record { full = subst (All IsFull) (sym filed) (files-full ranks c.args.aim visits c.args.files.now.room c.args.found.now c.requires.found) }
 
 pub returns-clause-run : goal.returns-clause-run
@@ -27,12 +28,12 @@ returns-clause-run g c =
     let ranks = g.T.Outputs.ranks c.args.table.now in
     let visits = c.args.visits.now in
     let filed : c.file.new.self.filed ≡ map (with_more ranks c.args.aim (visits ∷ [])) (map unfiled c.args.found.now) =
-    c.file.ensures.filed (visits ∷ []) (one-sequence visits c.requires.marked) ∙ ap (map (with_more ranks c.args.aim (visits ∷ []))) c.in_ok-begin.ensures.begun in
-    files-run ranks c.args.aim visits c.args.files.now.room c.args.found.now c.requires.found c.finish.result.items
-    (subst (All (λ (filed : Filed). slice_range c.finish.result.items filed.first filed.last ≡ filed.stands)) filed c.finish.ensures.stands)
+    c.in_ok-file.ensures.filed (visits ∷ []) (one-sequence visits c.requires.marked) ∙ ap (map (with_more ranks c.args.aim (visits ∷ []))) c.in_ok-begin.ensures.begun in
+    files-run ranks c.args.aim visits c.args.files.now.room c.args.found.now c.requires.found c.finish.result.stands
+    (subst (All (λ (filed : Filed). slice_range c.finish.result.stands filed.first filed.last ≡ filed.stands)) filed c.finish.ensures.stands)
 
 pub returns-then-not-has_places-clause-run : goal.returns-then-not-has_places-clause-run
 returns-then-not-has_places-clause-run g c =
     let ranks = g.T.Outputs.ranks c.args.table.now in
-    subst (AreInRun ranks c.args.aim c.args.visits.now c.args.found.now) (sym c.new.ensures.items)
+    subst (AreInRun ranks c.args.aim c.args.visits.now c.args.found.now) (sym (ap (λ (v : RunValue). v.stands) c.new.ensures))
     (no-run ranks c.args.aim c.args.visits.now c.args.files.now.room c.args.found.now c.requires.found (c.has_places.ensures c.if-not-has_places.true))

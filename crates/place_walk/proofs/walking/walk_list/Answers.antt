@@ -41,6 +41,8 @@ groups-preserved g c =
     let within = c.group_end-end.ensures.within in
     let forward = c.groups.invariant.forward in
     let (here, cut, are) = c.in_ok-walk_group.ensures.visits in
+    let of_group : AreVisits (course_of c.groups.memo c.args.places.now) (slice_range c.args.stands.now c.groups.next c.group_end-end.result) here =
+    subst (λ (group : List Stand). AreVisits (course_of c.groups.memo c.args.places.now) group here) c.piece.ensures are in
     let same = same-course c.groups.memo c.args.memo.now c.args.places.now c.groups.invariant.rows c.groups.invariant.moves in
     record {
       rows = c.walk_group.ensures.rows ∙ c.groups.invariant.rows;
@@ -52,5 +54,5 @@ groups-preserved g c =
           rw cut
           (walked-more (course_of c.args.memo.now c.args.places.now) groups c.args.stands.now c.groups.next c.group_end-end.result c.groups.visits.items here
           (c.groups.invariant.walked groups groups_are) c.group_end-end.ensures
-          (subst (λ (course : Course). AreVisits course (slice_range c.args.stands.now c.groups.next c.group_end-end.result) here) same are));
+          (subst (λ (course : Course). AreVisits course (slice_range c.args.stands.now c.groups.next c.group_end-end.result) here) same of_group));
     }

@@ -1,5 +1,6 @@
 use Rattle.std.proofs.Common.{◌≡◌, ℕ, ◌-◌, false, None, List, length, ap, ◌∙◌, subst, arith}
 use Rattle.std.specs.Arc.{arc_value}
+use Rattle.stand_sums.specs.Runs.{RunValue}
 use Rattle.std.specs.List.{slice_range}
 use Rattle.std.proofs.lemmas.List.{take_all}
 use Rattle.sequence_grids.specs.Grids.{GridList}
@@ -24,9 +25,9 @@ pub returns-clause-start : goal.returns-clause-start
 returns-clause-start c =
     let part : GridList = record { problem = c.args.job.now; bound = c.args.bound; sequences = c.args.sequences.items } in
     let starts : List Stand = c.args.starts.items in
-    let run : (arc_value c.in_ok-run.run').items ≡ starts = ap (λ v. v.items) c.in_ok-run.ensures.ok in
+    let run : (arc_value c.in_ok-run.run').stands ≡ starts = ap (λ (v : RunValue). v.stands) (c.in_ok-run.ensures.ok ∙ c.of.ensures) in
     let last : c.len-last.result ≡ length starts = omega (arith, c.len-last.ensures, c.args.starts.ok) in
-    let whole : slice_range (arc_value c.in_ok-run.run').items 0 c.len-last.result ≡ starts =
+    let whole : slice_range (arc_value c.in_ok-run.run').stands 0 c.len-last.result ≡ starts =
     ap (λ (l : List Stand). slice_range l 0 c.len-last.result) run ∙ take_all (c.len-last.result - 0) starts (omega arith) in
     let list : c.new-2.result ≡ record { seen = false; support = 0; stands = starts; next = None } = c.new-2.ensures
     ∙ ap (λ (l : List Stand). record { seen = false; support = 0; stands = l; next = None }) whole in

@@ -86,7 +86,7 @@ walks-preserved g c =
           let filed = c.walks.invariant.filed groups are in
           filed-more course (ranks_of c.args.over.now.records.table) c.args.aim c.args.found.now groups left further c.walks.tables.files.filed filed c.walk_some.new.visits
           (subst (λ (course : Course). AreWalkedOnce course filed.rest further c.walk_some.new.visits) same (c.in_ok-from.ensures.walked filed.rest filed.left_are))
-          c.file.new.self.filed (rw (sym c.table.ensures, sym c.as_slice.ensures) c.file.ensures.filed);
+          c.file.new.self.filed (rw (sym c.table.ensures, sym c.as_slice.ensures) c.in_ok-file.ensures.filed);
     }
 
 pub returns-clause-filed : goal.returns-clause-filed

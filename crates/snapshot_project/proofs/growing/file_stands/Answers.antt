@@ -1,5 +1,6 @@
 use Rattle.std.proofs.Common.{◌≡◌, ◌∙◌, ℕ, false, List, map, sym, ap, subst, arith, rules}
 use Rattle.std.specs.List.{All}
+use Rattle.std.proofs.lemmas.Result.{on_ok_weaker}
 use Rattle.place_walk.specs.declared.visit.Visit.{Visit}
 use Rattle.place_walk.specs.Courses.{Course, course_of}
 use Rattle.stand_sums.specs.Files.{HasRoom, with_more}
@@ -40,10 +41,13 @@ file-requires-clause-room g c =
     rw (c.table.ensures, c.as_slice-visits.ensures) room
 
 pub returns-clause-filed : goal.returns-clause-filed
-returns-clause-filed g c groups sequences are visited =
+returns-clause-filed g c =
+    on_ok_weaker c.file.result
+    (λ filed groups sequences are visited.
     let course : Course = course_of c.args.memo.now c.args.over.now.records.places in
     let cut : AreSequences c.args.tables.now.visits sequences =
     walked-sequences course groups c.args.tables.now.visits (c.requires.visits (omega (arith, c.if-next-stands.false)) groups are) sequences visited in
-    let filed : c.file.new.self.filed ≡ map (with_more (ranks_of c.args.over.now.records.table) c.args.aim sequences) c.args.tables.now.files.filed =
-    rw (sym c.table.ensures) (c.file.ensures.filed sequences (subst (λ (visits : List Visit). AreSequences visits sequences) (sym c.as_slice-visits.ensures) cut)) in
-    filed ∙ ap (map (with_more (ranks_of c.args.over.now.records.table) c.args.aim sequences)) c.requires.begun
+    let more : c.file.new.self.filed ≡ map (with_more (ranks_of c.args.over.now.records.table) c.args.aim sequences) c.args.tables.now.files.filed =
+    rw (sym c.table.ensures) (filed sequences (subst (λ (visits : List Visit). AreSequences visits sequences) (sym c.as_slice-visits.ensures) cut)) in
+    more ∙ ap (map (with_more (ranks_of c.args.over.now.records.table) c.args.aim sequences)) c.requires.begun)
+    c.file.ensures.filed

@@ -20,7 +20,7 @@ use Rattle.snapshot_project.proofs.growing.grow.Goals as goal
 pub returns-then-is_empty-clause-next : goal.returns-then-is_empty-clause-next
 returns-then-is_empty-clause-next c ranks projected =
     let none : length c.args.snapshots.now.stands ≡ 0 =
-    ap length (sym c.stands.ensures) ∙ eqb-true (length c.stands.result.now) 0 (sym c.is_empty.ensures ∙ c.if-is_empty.true) in
+    ap length (sym c.stands.ensures) ∙ eqb-true (length c.stands.result) 0 (sym c.is_empty.ensures ∙ c.if-is_empty.true) in
     rw c.new.ensures.items (empty-next c.args.part.now c.need.ensures.part c.args.least c.requires.least ranks c.args.snapshots.now projected c.in_default.ensures.none none)
 
 pub find-requires-clause-known : goal.find-requires-clause-known
@@ -28,15 +28,15 @@ find-requires-clause-known c =
     let part : GridList = c.args.part.now in
     let kept : StandList = c.args.snapshots.now in
     let aim : Aim = record { seen = c.seen.result; need = c.need.result } in
-    let filled : length c.stands.result.now ≢ 0 = false-eqb (length c.stands.result.now) 0 (sym c.if-is_empty.false ∙ c.is_empty.ensures) in
-    let same : length c.stands.result.now ≡ length kept.stands = ap length c.stands.ensures in
+    let filled : length c.stands.result ≢ 0 = false-eqb (length c.stands.result) 0 (sym c.if-is_empty.false ∙ c.is_empty.ensures) in
+    let same : length c.stands.result ≡ length kept.stands = ap length c.stands.ensures in
     let any : 0 < length kept.stands = omega (arith, filled, same) in
     let room : length part.problem.ranking.order ≤ c.enter.new.self.ranks = omega (arith, c.requires.room, c.enter.ensures.ranks) in
     let (ranks, projected) = c.requires.projected in (
       part,
       c.in_ok-enter.ensures.part,
       room,
-      stands-for part c.need.ensures.part c.args.least c.requires.least ranks kept projected c.in_default.ensures.none aim c.seen.ensures c.need.ensures.need c.stands-2.result.now c.stands-2.ensures any,
+      stands-for part c.need.ensures.part c.args.least c.requires.least ranks kept projected c.in_default.ensures.none aim c.seen.ensures c.need.ensures.need c.stands.result c.stands.ensures any,
     )
 
 pub longer_by-requires : goal.longer_by-requires
@@ -44,52 +44,52 @@ longer_by-requires c filed =
     let part : GridList = c.args.part.now in
     let kept : StandList = c.args.snapshots.now in
     let aim : Aim = record { seen = c.seen.result; need = c.need.result } in
-    let filled : length c.stands.result.now ≢ 0 = false-eqb (length c.stands.result.now) 0 (sym c.if-is_empty.false ∙ c.is_empty.ensures) in
-    let same : length c.stands.result.now ≡ length kept.stands = ap length c.stands.ensures in
+    let filled : length c.stands.result ≢ 0 = false-eqb (length c.stands.result) 0 (sym c.if-is_empty.false ∙ c.is_empty.ensures) in
+    let same : length c.stands.result ≡ length kept.stands = ap length c.stands.ensures in
     let any : 0 < length kept.stands = omega (arith, filled, same) in
     let most : length part.problem.ranking.order < c.enter.new.self.ranks + 1 = omega (arith, c.requires.room, c.enter.ensures.ranks) in
     let found = c.in_ok-found.found in
-    let is_found : IsFoundIn part aim c.args.least (c.enter.new.self.ranks + 1) kept.stands found.ranks.items found.run.items (items_if found.longer) =
-    subst (λ (l : List Stand). IsFoundIn part aim c.args.least (c.enter.new.self.ranks + 1) l found.ranks.items found.run.items (items_if found.longer)) c.stands-2.ensures
+    let is_found : IsFoundIn part aim c.args.least (c.enter.new.self.ranks + 1) kept.stands found.ranks.items found.run.stands (items_if found.longer) =
+    subst (λ (l : List Stand). IsFoundIn part aim c.args.least (c.enter.new.self.ranks + 1) l found.ranks.items found.run.stands (items_if found.longer)) c.stands.ensures
     (c.in_ok-found.ensures.found part c.in_ok-enter.ensures.part) in
     let (ranks, projected) = c.requires.projected in
     grown-within part c.need.ensures.part c.args.least c.requires.least (c.enter.new.self.ranks + 1) most ranks kept projected aim c.seen.ensures c.need.ensures.need c.in_default.ensures.none any
-    found.ranks.items found.run.items (items_if found.longer) is_found filed
+    found.ranks.items found.run.stands (items_if found.longer) is_found filed
 
 pub returns-clause-next : goal.returns-clause-next
 returns-clause-next c ranks projected =
     let part : GridList = c.args.part.now in
     let kept : StandList = c.args.snapshots.now in
     let aim : Aim = record { seen = c.seen.result; need = c.need.result } in
-    let filled : length c.stands.result.now ≢ 0 = false-eqb (length c.stands.result.now) 0 (sym c.if-is_empty.false ∙ c.is_empty.ensures) in
-    let same : length c.stands.result.now ≡ length kept.stands = ap length c.stands.ensures in
+    let filled : length c.stands.result ≢ 0 = false-eqb (length c.stands.result) 0 (sym c.if-is_empty.false ∙ c.is_empty.ensures) in
+    let same : length c.stands.result ≡ length kept.stands = ap length c.stands.ensures in
     let any : 0 < length kept.stands = omega (arith, filled, same) in
     let most : length part.problem.ranking.order < c.enter.new.self.ranks + 1 = omega (arith, c.requires.room, c.enter.ensures.ranks) in
     let found = c.in_ok-found.found in
-    let is_found : IsFoundIn part aim c.args.least (c.enter.new.self.ranks + 1) kept.stands found.ranks.items found.run.items (items_if found.longer) =
-    subst (λ (l : List Stand). IsFoundIn part aim c.args.least (c.enter.new.self.ranks + 1) l found.ranks.items found.run.items (items_if found.longer)) c.stands-2.ensures
+    let is_found : IsFoundIn part aim c.args.least (c.enter.new.self.ranks + 1) kept.stands found.ranks.items found.run.stands (items_if found.longer) =
+    subst (λ (l : List Stand). IsFoundIn part aim c.args.least (c.enter.new.self.ranks + 1) l found.ranks.items found.run.stands (items_if found.longer)) c.stands.ensures
     (c.in_ok-found.ensures.found part c.in_ok-enter.ensures.part) in
     rw (c.in_ok-next.ensures, c.as_slice.ensures.value)
     (grown-next part c.need.ensures.part c.args.least c.requires.least (c.enter.new.self.ranks + 1) most ranks kept projected aim c.seen.ensures c.need.ensures.need c.in_default.ensures.none any
-    found.ranks.items found.run.items (items_if found.longer) is_found)
+    found.ranks.items found.run.stands (items_if found.longer) is_found)
 
 pub returns-clause-all : goal.returns-clause-all
 returns-clause-all c =
     let part : GridList = c.args.part.now in
     let kept : StandList = c.args.snapshots.now in
     let aim : Aim = record { seen = c.seen.result; need = c.need.result } in
-    let filled : length c.stands.result.now ≢ 0 = false-eqb (length c.stands.result.now) 0 (sym c.if-is_empty.false ∙ c.is_empty.ensures) in
-    let same : length c.stands.result.now ≡ length kept.stands = ap length c.stands.ensures in
+    let filled : length c.stands.result ≢ 0 = false-eqb (length c.stands.result) 0 (sym c.if-is_empty.false ∙ c.is_empty.ensures) in
+    let same : length c.stands.result ≡ length kept.stands = ap length c.stands.ensures in
     let any : 0 < length kept.stands = omega (arith, filled, same) in
     let most : length part.problem.ranking.order < c.enter.new.self.ranks + 1 = omega (arith, c.requires.room, c.enter.ensures.ranks) in
     let found = c.in_ok-found.found in
-    let is_found : IsFoundIn part aim c.args.least (c.enter.new.self.ranks + 1) kept.stands found.ranks.items found.run.items (items_if found.longer) =
-    subst (λ (l : List Stand). IsFoundIn part aim c.args.least (c.enter.new.self.ranks + 1) l found.ranks.items found.run.items (items_if found.longer)) c.stands-2.ensures
+    let is_found : IsFoundIn part aim c.args.least (c.enter.new.self.ranks + 1) kept.stands found.ranks.items found.run.stands (items_if found.longer) =
+    subst (λ (l : List Stand). IsFoundIn part aim c.args.least (c.enter.new.self.ranks + 1) l found.ranks.items found.run.stands (items_if found.longer)) c.stands.ensures
     (c.in_ok-found.ensures.found part c.in_ok-enter.ensures.part) in
     let (ranks, projected) = c.requires.projected in
     let nexts : c.in_ok-next.next.items ≡ map told_of found.ranks.items = c.in_ok-next.ensures ∙ ap (map told_of) c.as_slice.ensures.value in
     grown-count part c.need.ensures.part c.args.least c.requires.least (c.enter.new.self.ranks + 1) most ranks kept projected aim c.seen.ensures c.need.ensures.need c.in_default.ensures.none any
-    found.ranks.items found.run.items (items_if found.longer) is_found c.in_ok-longer.longer.items c.in_ok-longer.ensures.stands c.in_ok-longer.ensures.ahead
+    found.ranks.items found.run.stands (items_if found.longer) is_found c.in_ok-longer.longer.items c.in_ok-longer.ensures.stands c.in_ok-longer.ensures.ahead
     ∙ sym (length-map found.ranks.items told_of) ∙ sym (ap length nexts)
 
 pub returns-clause-each : goal.returns-clause-each
@@ -97,17 +97,17 @@ returns-clause-each c ranks projected =
     let part : GridList = c.args.part.now in
     let kept : StandList = c.args.snapshots.now in
     let aim : Aim = record { seen = c.seen.result; need = c.need.result } in
-    let filled : length c.stands.result.now ≢ 0 = false-eqb (length c.stands.result.now) 0 (sym c.if-is_empty.false ∙ c.is_empty.ensures) in
-    let same : length c.stands.result.now ≡ length kept.stands = ap length c.stands.ensures in
+    let filled : length c.stands.result ≢ 0 = false-eqb (length c.stands.result) 0 (sym c.if-is_empty.false ∙ c.is_empty.ensures) in
+    let same : length c.stands.result ≡ length kept.stands = ap length c.stands.ensures in
     let any : 0 < length kept.stands = omega (arith, filled, same) in
     let most : length part.problem.ranking.order < c.enter.new.self.ranks + 1 = omega (arith, c.requires.room, c.enter.ensures.ranks) in
     let found = c.in_ok-found.found in
-    let is_found : IsFoundIn part aim c.args.least (c.enter.new.self.ranks + 1) kept.stands found.ranks.items found.run.items (items_if found.longer) =
-    subst (λ (l : List Stand). IsFoundIn part aim c.args.least (c.enter.new.self.ranks + 1) l found.ranks.items found.run.items (items_if found.longer)) c.stands-2.ensures
+    let is_found : IsFoundIn part aim c.args.least (c.enter.new.self.ranks + 1) kept.stands found.ranks.items found.run.stands (items_if found.longer) =
+    subst (λ (l : List Stand). IsFoundIn part aim c.args.least (c.enter.new.self.ranks + 1) l found.ranks.items found.run.stands (items_if found.longer)) c.stands.ensures
     (c.in_ok-found.ensures.found part c.in_ok-enter.ensures.part) in
     let nexts : c.in_ok-next.next.items ≡ map told_of found.ranks.items = c.in_ok-next.ensures ∙ ap (map told_of) c.as_slice.ensures.value in
     grown-longer part c.need.ensures.part c.args.least c.requires.least (c.enter.new.self.ranks + 1) most ranks kept projected aim c.seen.ensures c.need.ensures.need c.in_default.ensures.none any
-    found.ranks.items found.run.items (items_if found.longer) is_found c.in_ok-next.next.items c.in_ok-longer.longer.items nexts c.in_ok-longer.ensures.stands c.in_ok-longer.ensures.ahead
+    found.ranks.items found.run.stands (items_if found.longer) is_found c.in_ok-next.next.items c.in_ok-longer.longer.items nexts c.in_ok-longer.ensures.stands c.in_ok-longer.ensures.ahead
 
 pub returns-in-Some-clause-each : goal.returns-in-Some-clause-each
 returns-in-Some-clause-each c =

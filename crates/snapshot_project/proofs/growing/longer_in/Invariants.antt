@@ -5,4 +5,4 @@ use Rattle.snapshot_project.proofs.growing.longer_in.Given as goal
 
 -- the prefixes so far are kept
 abbrev pub invariant-loop-next : goal.invariant-loop-next
-invariant-loop-next l = l.longer.items ≡ map (kept_of l.aim (arc_value l.shared).items) (take l.next-index l.found)
+invariant-loop-next l = l.longer.items ≡ map (kept_of l.aim (arc_value l.shared).stands) (take l.next-index l.found)

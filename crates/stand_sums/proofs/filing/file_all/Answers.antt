@@ -1,4 +1,4 @@
-use Rattle.std.proofs.Common.{◌≡◌, ◌-◌, ◌<◌, ◌≤◌, ◌++◌, ℕ, Some, List, map, drop, length, sym, subst, arith}
+use Rattle.std.proofs.Common.{◌≡◌, ◌-◌, ◌<◌, ◌≤◌, ◌++◌, ℕ, Some, List, map, drop, length, refl, sym, ◌∙◌, subst, arith}
 use Rattle.std.specs.List.{All, slice_get, slice_range}
 use Rattle.std.proofs.lemmas.List.Elements.{All-take, All-drop}
 use Rattle.place_walk.specs.declared.visit.Visit.{Visit}
@@ -14,11 +14,12 @@ use Rattle.stand_sums.proofs.filing.file_all.Goals as goal
 pub sequences-init : goal.sequences-init
 sequences-init g c =
     let ranks = g.T.Outputs.ranks c.args.table.now in
-    let run : List Stand = c.args.run.now.items in
+    let run : List Stand = c.args.run.now.stands in
     let shelves : List Shelf = c.args.shelves.now.items in
     let same : c.make_older.new.shelves.items ≡ map older shelves = c.make_older.ensures in
     let filed : map (filed_in run) (map older shelves) ≡ map (filed_in run) shelves = older-filed run shelves in
     record {
+      form = refl;
       files = subst (λ (l : List Shelf). AreFiles c.args.places.now l run) (sym same) (older-files c.args.places.now shelves run c.requires.files);
       within = omega arith;
       filed = λ sequences are.
@@ -43,11 +44,11 @@ file_sequence-requires-clause-room g c =
     let ranks = g.T.Outputs.ranks c.args.table.now in
     let here : List Visit = slice_range c.args.visits.now c.sequences.from c.sequence_end-end.result in
     let behind : List Visit = drop c.sequence_end-end.result c.args.visits.now in
-    let filings : List Filing = filings_in c.sequences.run.items c.sequences.shelves.items in
+    let filings : List Filing = filings_in c.sequences.run.stands c.sequences.shelves.items in
     let forward = c.sequence_end-end.ensures.some in
     let split = drop-range c.args.visits.now c.sequences.from c.sequence_end-end.result (omega arith) in
     let room : HaveRoom ranks c.args.aim (here ++ behind) filings = subst (λ (l : List Visit). HaveRoom ranks c.args.aim l filings) split c.sequences.invariant.room in
-    room-all ranks c.args.aim here c.sequences.run.items c.sequences.shelves.items (room-front ranks c.args.aim here behind filings room)
+    room-all ranks c.args.aim here c.sequences.run.stands c.sequences.shelves.items (room-front ranks c.args.aim here behind filings room)
 
 pub sequences-preserved : goal.sequences-preserved
 sequences-preserved g c =
@@ -58,26 +59,27 @@ sequences-preserved g c =
     let end : ℕ = c.sequence_end-end.result in
     let here : List Visit = slice_range visits from end in
     let behind : List Visit = drop end visits in
-    let filings : List Filing = filings_in c.sequences.run.items c.sequences.shelves.items in
+    let filings : List Filing = filings_in c.sequences.run.stands c.sequences.shelves.items in
     let ends = c.sequence_end-end.ensures in
     let forward : from < end = ends.some in
     let split = drop-range visits from end (omega arith) in
     let room : HaveRoom ranks aim (here ++ behind) filings = subst (λ (l : List Visit). HaveRoom ranks aim l filings) split c.sequences.invariant.room in
     record {
+      form = c.file_sequence.ensures.form ∙ c.sequences.invariant.form;
       files = c.file_sequence.ensures.files;
       within = ends.within;
       filed = λ sequences are.
-          filed-more ranks aim visits sequences (map (filed_in c.args.run.now.items) c.args.shelves.now.items) from end
-          (map (filed_in c.sequences.run.items) c.sequences.shelves.items) (map (filed_in c.file_sequence.new.run.items) c.file_sequence.new.shelves.items)
+          filed-more ranks aim visits sequences (map (filed_in c.args.run.now.stands) c.args.shelves.now.items) from end
+          (map (filed_in c.sequences.run.stands) c.sequences.shelves.items) (map (filed_in c.file_sequence.new.run.stands) c.file_sequence.new.shelves.items)
           (c.sequences.invariant.filed sequences are) ends
-          (shelves-filed ranks aim end here c.sequences.run.items c.file_sequence.new.run.items c.sequences.shelves.items c.file_sequence.new.shelves.items c.file_sequence.ensures.filed
+          (shelves-filed ranks aim end here c.sequences.run.stands c.file_sequence.new.run.stands c.sequences.shelves.items c.file_sequence.new.shelves.items c.file_sequence.ensures.filed
           (λ j filing at. let most : filing.end ≤ from = c.sequences.invariant.ends j filing at in omega arith));
       room = subst (HaveRoom ranks aim behind) (sym c.file_sequence.ensures.filed) (room-left ranks aim end here behind filings room);
-      ends = ends-filed ranks aim end here filings (filings_in c.file_sequence.new.run.items c.file_sequence.new.shelves.items) c.file_sequence.ensures.filed
+      ends = ends-filed ranks aim end here filings (filings_in c.file_sequence.new.run.stands c.file_sequence.new.shelves.items) c.file_sequence.ensures.filed
           (λ j filing at. let most : filing.end ≤ from = c.sequences.invariant.ends j filing at in omega arith);
     }
 
 pub returns-clause-filed : goal.returns-clause-filed
 returns-clause-filed g c sequences are =
-    filed-all (g.T.Outputs.ranks c.args.table.now) c.args.aim c.args.visits.now sequences (map (filed_in c.args.run.now.items) c.args.shelves.now.items) c.sequences.from
-    (map (filed_in c.sequences.run.items) c.sequences.shelves.items) (c.sequences.invariant.filed sequences are) c.sequences-test.false
+    filed-all (g.T.Outputs.ranks c.args.table.now) c.args.aim c.args.visits.now sequences (map (filed_in c.args.run.now.stands) c.args.shelves.now.items) c.sequences.from
+    (map (filed_in c.sequences.run.stands) c.sequences.shelves.items) (c.sequences.invariant.filed sequences are) c.sequences-test.false

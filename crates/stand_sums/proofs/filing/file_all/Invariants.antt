@@ -8,12 +8,13 @@ use Rattle.stand_sums.proofs.filing.file_all.Given as goal
 
 abbrev pub invariant-sequences : goal.invariant-sequences
 invariant-sequences g l = record {
-  files : AreFiles l.places l.shelves.items l.run.items;
+  form : l.run.narrow ≡ l.fn.run.narrow;
+  files : AreFiles l.places l.shelves.items l.run.stands;
   within : l.from ≤ length l.visits;
   filed : (sequences : List (List Visit)) → AreSequences l.visits sequences
-      → AreFiledTo (g.T.Outputs.ranks l.table) l.aim l.visits l.from sequences (map (filed_in l.fn.run.items) l.fn.shelves.items) (map (filed_in l.run.items) l.shelves.items);
-  room : HaveRoom (g.T.Outputs.ranks l.table) l.aim (drop l.from l.visits) (filings_in l.run.items l.shelves.items);
-  ends : (j : ℕ) (filing : Filing) → slice_get (filings_in l.run.items l.shelves.items) j ≡ Some filing → filing.end ≤ l.from;
+      → AreFiledTo (g.T.Outputs.ranks l.table) l.aim l.visits l.from sequences (map (filed_in l.fn.run.stands) l.fn.shelves.items) (map (filed_in l.run.stands) l.shelves.items);
+  room : HaveRoom (g.T.Outputs.ranks l.table) l.aim (drop l.from l.visits) (filings_in l.run.stands l.shelves.items);
+  ends : (j : ℕ) (filing : Filing) → slice_get (filings_in l.run.stands l.shelves.items) j ≡ Some filing → filing.end ≤ l.from;
 }
 
 abbrev pub decreases-sequences : goal.decreases-sequences

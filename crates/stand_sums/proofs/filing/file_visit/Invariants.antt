@@ -5,7 +5,8 @@ use Rattle.stand_sums.proofs.filing.file_visit.Given as goal
 
 abbrev pub invariant-loop-rank : goal.invariant-loop-rank
 invariant-loop-rank g l = record {
-  files : AreFiles l.places l.shelves.items l.run.items;
-  filed : filings_in l.run.items l.shelves.items
-      ≡ map (filed_among l.aim l.visit l.end (take l.rank-index l.ranks)) (filings_in l.initial.run.items l.initial.shelves.items);
+  form : l.run.narrow ≡ l.initial.run.narrow;
+  files : AreFiles l.places l.shelves.items l.run.stands;
+  filed : filings_in l.run.stands l.shelves.items
+      ≡ map (filed_among l.aim l.visit l.end (take l.rank-index l.ranks)) (filings_in l.initial.run.stands l.initial.shelves.items);
 }
