@@ -1,0 +1,4 @@
+-- the words of the promise
+pub mod Buckets
+pub mod Hashes
+pub mod Sieves
