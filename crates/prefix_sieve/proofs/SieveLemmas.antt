@@ -1,7 +1,7 @@
 -- Lemmas on levels of a sieve, and on what the sums of a level hold.
-use Rattle.std.proofs.Common.{◌≡◌, ℕ, zero, suc, ◌+◌, ◌-◌, ◌%◌, ◌≤◌, ◌<◌, min, ◌⊎◌, inl, inr, Bool, true, IsTrue, Option, Some, None, List, [], ◌∷◌, ◌++◌, length, map, take, get_or, slice_get, refl, sym, ap, subst, ◌∙◌, arith, append_assoc, length-append}
-use Rattle.std.proofs.lemmas.List.{append-nil, length-map, length-take, get_or-map, get_or-take, get_or_past}
-use Rattle.std.proofs.lemmas.Option.{slice_get_past, slice_get_within, slice_get_cases, slice_get-get_or, get_or_from_slice_get}
+use Rattle.std.proofs.Common.{◌≡◌, ℕ, zero, suc, ◌+◌, ◌-◌, ◌%◌, ◌≤◌, ◌<◌, min, ◌⊎◌, inl, inr, Bool, true, IsTrue, Option, Some, List, [], ◌∷◌, ◌++◌, length, take, get_or, slice_get, refl, sym, ap, subst, ◌∙◌, arith, append_assoc, length-append}
+use Rattle.std.proofs.lemmas.List.{append-nil, length-map, length-take, get_or-take}
+use Rattle.std.proofs.lemmas.Option.{slice_get_cases, slice_get-get_or}
 use Rattle.std.proofs.lemmas.Bool.{le-leb}
 use Rattle.mine_model.specs.declared.item.Item.{Item}
 use Rattle.mine_model.specs.Answer.{Data}
@@ -39,9 +39,19 @@ module _ (Has : List Item → Type 0) where
     others_weigh : WeighAtLeast Has others theirs
     enough : n ≤ mine + theirs
 
-  weigh_first : (s : Sequence Item) (rest : List (Sequence Item)) (n : ℕ) → Has s.items → WeighAtLeast Has rest n → WeighAtLeast Has (s ∷ rest) (n + s.weight)
-  weigh_first s rest n has weigh =
-      let back : n ≡ n + s.weight - s.weight = omega arith in inl (has, subst (WeighAtLeast Has rest) back weigh)
+  -- with one sequence more among them
+  weigh_past : (before behind : List (Sequence Item)) (s : Sequence Item) (n : ℕ) → WeighAtLeast Has (before ++ behind) n → WeighAtLeast Has (before ++ s ∷ behind) n
+  weigh_past [] behind s n weigh = inr weigh
+  weigh_past (x ∷ before) behind s n (inl p) = inl (p.0, weigh_past before behind s (n - x.weight) p.1)
+  weigh_past (x ∷ before) behind s n (inr p) = inr (weigh_past before behind s n p)
+
+  weigh_with : (before behind : List (Sequence Item)) (s : Sequence Item) (n : ℕ) → Has s.items → WeighAtLeast Has (before ++ behind) n
+      → WeighAtLeast Has (before ++ s ∷ behind) (n + s.weight)
+  weigh_with [] behind s n has weigh = let back : n ≡ n + s.weight - s.weight = omega arith in inl (has, subst (WeighAtLeast Has behind) back weigh)
+  weigh_with (x ∷ before) behind s n has (inl p) =
+      let all : WeighAtLeast Has (before ++ s ∷ behind) (n - x.weight + s.weight) = weigh_with before behind s (n - x.weight) has p.1 in
+      inl (p.0, WeighAtLeast-less Has (before ++ s ∷ behind) (n - x.weight + s.weight) (n + s.weight - x.weight) (omega arith) all)
+  weigh_with (x ∷ before) behind s n has (inr p) = inr (weigh_with before behind s n has p)
 
   weigh_dealt : (all some others : List (Sequence Item)) (n : ℕ) → AreDealt all some others → WeighAtLeast Has all n → HaveBoth some others n
   weigh_dealt [] some others n dealt weigh = record {
@@ -52,40 +62,40 @@ module _ (Has : List Item → Type 0) where
     enough = omega (arith, weigh);
   }
   weigh_dealt (s ∷ all) some others n (inl d) (inl w) =
-      let both : HaveBoth d.0 others (n - s.weight) = weigh_dealt all d.0 others (n - s.weight) d.2 w.1 in
+      let both : HaveBoth (d.0 ++ d.1) others (n - s.weight) = weigh_dealt all (d.0 ++ d.1) others (n - s.weight) d.3 w.1 in
       record {
         mine = both.mine + s.weight;
         theirs = both.theirs;
-        some_weigh = subst (λ (xs : List (Sequence Item)). WeighAtLeast Has xs (both.mine + s.weight)) (sym d.1) (weigh_first s d.0 both.mine w.0 both.some_weigh);
+        some_weigh = subst (λ (xs : List (Sequence Item)). WeighAtLeast Has xs (both.mine + s.weight)) (sym d.2) (weigh_with d.0 d.1 s both.mine w.0 both.some_weigh);
         others_weigh = both.others_weigh;
         enough = omega (arith, both.enough);
       }
   weigh_dealt (s ∷ all) some others n (inl d) (inr w) =
-      let both : HaveBoth d.0 others n = weigh_dealt all d.0 others n d.2 w in
+      let both : HaveBoth (d.0 ++ d.1) others n = weigh_dealt all (d.0 ++ d.1) others n d.3 w in
       record {
         mine = both.mine;
         theirs = both.theirs;
-        some_weigh = subst (λ (xs : List (Sequence Item)). WeighAtLeast Has xs both.mine) (sym d.1) (inr both.some_weigh);
+        some_weigh = subst (λ (xs : List (Sequence Item)). WeighAtLeast Has xs (both.mine)) (sym d.2) (weigh_past d.0 d.1 s both.mine both.some_weigh);
         others_weigh = both.others_weigh;
-        enough = both.enough;
+        enough = omega (arith, both.enough);
       }
   weigh_dealt (s ∷ all) some others n (inr d) (inl w) =
-      let both : HaveBoth some d.0 (n - s.weight) = weigh_dealt all some d.0 (n - s.weight) d.2 w.1 in
+      let both : HaveBoth some (d.0 ++ d.1) (n - s.weight) = weigh_dealt all some (d.0 ++ d.1) (n - s.weight) d.3 w.1 in
       record {
         mine = both.mine;
         theirs = both.theirs + s.weight;
         some_weigh = both.some_weigh;
-        others_weigh = subst (λ (xs : List (Sequence Item)). WeighAtLeast Has xs (both.theirs + s.weight)) (sym d.1) (weigh_first s d.0 both.theirs w.0 both.others_weigh);
+        others_weigh = subst (λ (xs : List (Sequence Item)). WeighAtLeast Has xs (both.theirs + s.weight)) (sym d.2) (weigh_with d.0 d.1 s both.theirs w.0 both.others_weigh);
         enough = omega (arith, both.enough);
       }
   weigh_dealt (s ∷ all) some others n (inr d) (inr w) =
-      let both : HaveBoth some d.0 n = weigh_dealt all some d.0 n d.2 w in
+      let both : HaveBoth some (d.0 ++ d.1) n = weigh_dealt all some (d.0 ++ d.1) n d.3 w in
       record {
         mine = both.mine;
         theirs = both.theirs;
         some_weigh = both.some_weigh;
-        others_weigh = subst (λ (xs : List (Sequence Item)). WeighAtLeast Has xs both.theirs) (sym d.1) (inr both.others_weigh);
-        enough = both.enough;
+        others_weigh = subst (λ (xs : List (Sequence Item)). WeighAtLeast Has xs (both.theirs)) (sym d.2) (weigh_past d.0 d.1 s both.theirs both.others_weigh);
+        enough = omega (arith, both.enough);
       }
 
 -- Sums

@@ -2,3 +2,5 @@
 pub mod Buckets
 pub mod Hashes
 pub mod Sieves
+-- what the proofs keep
+pub mod Bits

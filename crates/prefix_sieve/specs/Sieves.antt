@@ -60,12 +60,14 @@ pub record HasRaised (d : Data Item) (order : List Item) (hash : List ℕ → �
       → HasBehind d order prefix sequence.items
       → capped (sum_of before (hash prefix)) sequence.weight ≤ sum_of after (hash prefix)
 
--- each of the sequences is dealt to one of two workers, who keep them in order
+-- each of the sequences is dealt to one of two workers, who may take them in any order
 abbrev pub AreDealt : List (Sequence Item) → List (Sequence Item) → List (Sequence Item) → Type 0
 AreDealt [] some others = (some ≡ []) × (others ≡ [])
 AreDealt (sequence ∷ all) some others =
-    ((rest : List (Sequence Item)) × (some ≡ sequence ∷ rest) × AreDealt all rest others)
-    ⊎ ((rest : List (Sequence Item)) × (others ≡ sequence ∷ rest) × AreDealt all some rest)
+    ((before : List (Sequence Item)) × (behind : List (Sequence Item)) × (some ≡ before ++ sequence ∷ behind)
+    × AreDealt all (before ++ behind) others)
+    ⊎ ((before : List (Sequence Item)) × (behind : List (Sequence Item))
+    × (others ≡ before ++ sequence ∷ behind) × AreDealt all some (before ++ behind))
 
 -- Each level is that of sums over all sequences in which nothing was lost, by a pass behind some of the levels
 -- before it.

@@ -1,8 +1,9 @@
 //! Sums by bucket.
 
 ghost use Rattle.std.specs.Prelude.{◌≡◌, ℕ, ◌%◌, ◌^◌, ◌≤◌, ◌<◌, length, replicate, IfOk};
-ghost use Rattle.prefix_sieve.specs.Buckets.{capped, sum_of, raised, reaches, AreJoined};
+ghost use Rattle.prefix_sieve.specs.Buckets.{capped, sum_of, raised, reaches, flags_of, AreJoined};
 
+use super::level::{Level, level_of};
 use mine_model::NoMemory;
 use std::alloc::Global;
 use std::marker::Model;
@@ -15,19 +16,20 @@ pub struct Buckets {
 }
 
 impl Model for Buckets {
-    ghost use Rattle.std.specs.Prelude.{◌≡◌, ℕ, ◌^◌, List, length};
+    ghost use Rattle.std.specs.Prelude.{◌≡◌, ℕ, ◌+◌, ◌^◌, List, length};
 
     ghost Value = { List ℕ };
 
     ghost view = { λ b. b.sums.items };
 
-    ghost invariant = { λ b. (bits : ℕ) × (length b.sums.items ≡ 2 ^ bits) };
+    ghost invariant = { λ b. (bits : ℕ) × (length b.sums.items ≡ 2 ^ (bits + 6)) };
 }
 
 impl Buckets {
     /// Buckets for so many bits of a hash, all empty.
     pub fn new(alloc: Global, bits: u32) -> Result<Buckets, NoMemory>
-        requires { bits ≤ 31 }
+        requires least { 6 ≤ bits }
+        requires most { bits ≤ 31 }
         ensures { IfOk result (λ buckets. buckets ≡ replicate (2 ^ bits) 0) }
     {
         let count: usize = 1 << bits;
@@ -62,6 +64,13 @@ impl Buckets {
         reaches(threshold, self.sums[bucket])
     }
 
+    /// Which buckets reach the threshold. It takes a bit for each.
+    pub fn level(&self, alloc: Global, threshold: u64) -> Result<Level, NoMemory>
+        ensures { IfOk result (λ level. level ≡ flags_of threshold self.now) }
+    {
+        level_of(alloc, self.sums.as_slice(), threshold)
+    }
+
     /// Empties all buckets, for the next pass.
     pub fn clear(&mut self)
         ensures { self.new ≡ replicate (length self.old) 0 }
@@ -94,7 +103,7 @@ fn capped(sum: u32, weight: u64) -> u32
 
 // Whether the sum reaches the threshold, or stopped before it.
 #[inline]
-fn reaches(threshold: u64, sum: u32) -> bool
+pub(crate) fn reaches(threshold: u64, sum: u32) -> bool
     ensures { result ≡ reaches threshold sum }
 {
     u64::from(sum) >= threshold || sum == u32::MAX

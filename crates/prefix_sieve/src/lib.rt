@@ -7,7 +7,11 @@
 mod buckets;
 mod hashes;
 mod laws;
+mod level;
+mod sieve;
 
 pub use buckets::Buckets;
 pub use hashes::{START, hash_behind};
 pub use laws::{each_prefix_of_a_frequent_pattern_passes, one_more_sequence, shares_join};
+pub use level::Level;
+pub use sieve::Sieve;

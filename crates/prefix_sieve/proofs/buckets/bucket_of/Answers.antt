@@ -1,4 +1,4 @@
-use Rattle.std.proofs.Common.{◌≡◌, ℕ, ◌%◌, ◌-◌, ◌^◌, subst, sym, bit_and}
+use Rattle.std.proofs.Common.{◌≡◌, ℕ, ◌%◌, ◌-◌, subst, sym, bit_and}
 use Rattle.std.proofs.lemmas.Nat.{and_mask}
 use Rattle.prefix_sieve.proofs.buckets.bucket_of.Goals as goal
 

@@ -1,5 +1,5 @@
-use Rattle.std.proofs.Common.{◌≡◌, ℕ, List, [], ◌∷◌, ◌++◌, ap, sym, ◌∙◌}
-use Rattle.prefix_sieve.specs.Hashes.{start, mixed, hash_of}
+use Rattle.std.proofs.Common.{ℕ, ap, sym, ◌∙◌}
+use Rattle.prefix_sieve.specs.Hashes.{start, mixed}
 use Rattle.prefix_sieve.proofs.HashLemmas.{mixed_behind}
 use Rattle.prefix_sieve.proofs.hashes.hash_behind.Goals as goal
 
