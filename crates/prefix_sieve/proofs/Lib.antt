@@ -1,3 +1,4 @@
 mod BitLemmas
+mod FrontLemmas
 mod HashLemmas
 mod SieveLemmas

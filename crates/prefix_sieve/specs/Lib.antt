@@ -2,5 +2,6 @@
 pub mod Buckets
 pub mod Hashes
 pub mod Sieves
+pub mod Fronts
 -- what the proofs keep
 pub mod Bits

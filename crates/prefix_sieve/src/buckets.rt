@@ -41,7 +41,9 @@ impl Buckets {
     /// Adds the weight to the bucket of the hash.
     #[inline]
     pub fn add(&mut self, hash: u64, weight: u64)
-        ensures { self.new ≡ raised self.old hash weight }
+        ensures raised { self.new ≡ raised self.old hash weight }
+        ensures here { sum_of self.new hash ≡ capped (sum_of self.old hash) weight }
+        ensures never_less { (other : ℕ) → sum_of self.old other ≤ sum_of self.new other }
     {
         let bucket = bucket_of(self.sums.len(), hash);
         self.sums[bucket] = capped(self.sums[bucket], weight);

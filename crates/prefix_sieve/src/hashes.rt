@@ -18,7 +18,7 @@ pub fn hash_behind(hash: u64, rank: u32) -> u64
 }
 
 #[inline]
-fn mixed(hash: u64, rank: u32) -> u64
+pub(crate) fn mixed(hash: u64, rank: u32) -> u64
     ensures { result ≡ mixed hash rank }
 {
     folded_multiply(hash ^ u64::from(rank), MULTIPLIER)

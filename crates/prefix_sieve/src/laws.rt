@@ -1,14 +1,17 @@
 //! Laws over the definitions. Each is the contract of a function that does nothing. The hash may be any
 //! function of lists of ranks: nothing rests on what it is.
 
-ghost use Rattle.std.specs.Prelude.{◌≡◌, ℕ, ◌≤◌, Bool, [], ◌∷◌, ◌++◌, List};
+ghost use Rattle.std.specs.Prelude.{◌≡◌, ℕ, ◌+◌, ◌≤◌, Bool, [], ◌∷◌, ◌++◌, List, length};
 ghost use Rattle.mine_model.specs.declared.item.Item.{Item};
 ghost use Rattle.mine_model.specs.Answer.{Data};
 ghost use Rattle.mine_model.specs.Candidates.{IsCandidate};
 ghost use Rattle.mine_model.specs.Growth.{WeighAtLeast};
 ghost use Rattle.mine_model.specs.Ranks.{AreRanked};
 ghost use Rattle.mine_model.specs.Support.{Sequence, Counts};
+ghost use Rattle.candidate_graph.specs.Graphs.{Node};
 ghost use Rattle.prefix_sieve.specs.Buckets.{AreJoined};
+ghost use Rattle.prefix_sieve.specs.Hashes.{hash_of};
+ghost use Rattle.prefix_sieve.specs.Fronts.{IsPassed, LeadsToAll};
 ghost use Rattle.prefix_sieve.specs.Sieves.{HasBehind, PassesAll, HasEnough, HasRaised, AreDealt, AreLevels};
 
 /// Where each level comes from sums in which nothing was lost, a list of ranks passes with all its prefixes
@@ -41,4 +44,12 @@ pub fn shares_join()
         → AreDealt all some others → HasEnough d order hash levels longest some mine
         → HasEnough d order hash levels longest others theirs → AreJoined mine theirs sums
         → HasEnough d order hash levels longest all sums }
+{}
+
+/// A pass over a sequence raises what it has to, where the edges of its graph tell what follows.
+pub fn a_pass_raises_what_it_has_to()
+    ensures { (d : Data Item) (order : List Item) (levels : List (List Bool)) (sequence : Sequence Item)
+        (nodes : List Node) (before after : List ℕ) → LeadsToAll d order sequence.items nodes
+        → IsPassed levels sequence.weight nodes before after
+        → HasRaised d order hash_of levels (length levels + 1) sequence before after }
 {}
