@@ -1,5 +1,5 @@
 -- Steps of a pass.
-use Rattle.std.proofs.Common.{◌≡◌, ℕ, zero, suc, ◌+◌, ◌≤◌, ◌<◌, ◌⊎◌, inl, inr, Bool, IsTrue, Option, Some, List, [], ◌∷◌, ◌++◌, length, get_or, slice_get, refl, sym, ap, subst, ◌∙◌, arith, append_assoc, length-append}
+use Rattle.std.proofs.Common.{◌≡◌, ℕ, zero, suc, ◌+◌, ◌≤◌, ◌<◌, ◌⊎◌, inl, inr, Bool, IsTrue, Option, Some, List, [], ◌∷◌, ◌++◌, length, slice_get, refl, sym, ap, subst, ◌∙◌, arith, append_assoc, length-append}
 use Rattle.std.specs.List.{Contains}
 use Rattle.std.proofs.lemmas.Bool.{cases_lt}
 use Rattle.std.proofs.lemmas.List.{nil_from_length}
@@ -13,7 +13,7 @@ use Rattle.candidate_graph.specs.declared.edge.Edge.{Edge}
 use Rattle.candidate_graph.specs.Graphs.{Node, IsExpanded, Grows}
 use Rattle.candidate_graph.specs.Paths.{HasEdge}
 use Rattle.prefix_sieve.specs.declared.fronts.Front.{Front}
-use Rattle.prefix_sieve.specs.Buckets.{top, capped, sum_of}
+use Rattle.prefix_sieve.specs.Buckets.{capped, sum_of}
 use Rattle.prefix_sieve.specs.Hashes.{start, mixed, hash_of}
 use Rattle.prefix_sieve.specs.Sieves.{HasCandidate, HasBehind, lets_pass, PassesAll, HasRaised}
 use Rattle.prefix_sieve.specs.Fronts.{Reaches, IsPassed, LeadsToAll, root_front, front_behind, IsAdded, AreAdded, IsGone, AreWithin, HasGone, AreGone, AreFronts, AreRaised, HasRaisedBehind, HaveRaised}

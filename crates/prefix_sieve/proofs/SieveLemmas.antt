@@ -11,7 +11,7 @@ use Rattle.mine_model.specs.Ranks.{AreRanked}
 use Rattle.mine_model.specs.Support.{Sequence, Counts}
 use Rattle.mine_model.proofs.AliveLemmas.{WeighAtLeast-counted, WeighAtLeast-less, WeighAtLeast-weaker}
 use Rattle.prefix_sieve.specs.Buckets.{top, capped, sum_of, reaches, flags_of, flag_of, AreJoined}
-use Rattle.prefix_sieve.specs.Sieves.{HasBehind, lets_pass, PassesAll, IsLookedAt, HasEnough, HasRaised, AreDealt, AreLevels}
+use Rattle.prefix_sieve.specs.Sieves.{HasCandidate, HasBehind, lets_pass, PassesAll, IsLookedAt, HasEnough, HasRaised, AreDealt, AreLevels}
 
 -- Weights
 
@@ -216,4 +216,14 @@ passes_frequent d order hash levels are pattern list ranked support counted enou
     passes_all d order hash levels are list
     (WeighAtLeast-weaker Has (HasBehind d order list)
     (λ items has. ([], (pattern, has, subst (AreRanked order pattern) (sym (append-nil list)) ranked)))
+    d.sequences d.threshold weigh)
+
+pub passes_counted : (d : Data Item) (order : List Item) (hash : List ℕ → ℕ) (levels : List (List Bool)) → AreLevels d order hash levels
+    → (list : List ℕ) (n : ℕ) → Counts (HasCandidate d order list) d.sequences n → d.threshold ≤ n → PassesAll hash levels list
+passes_counted d order hash levels are list n counted enough =
+    let Has : List Item → Type 0 = HasCandidate d order list in
+    let weigh : WeighAtLeast Has d.sequences d.threshold = (WeighAtLeast-counted Has d.sequences n d.threshold counted).1 enough in
+    passes_all d order hash levels are list
+    (WeighAtLeast-weaker Has (HasBehind d order list)
+    (λ items has. ([], (has.0, has.1, subst (AreRanked order has.0) (sym (append-nil list)) has.2)))
     d.sequences d.threshold weigh)

@@ -1,5 +1,5 @@
 -- What a pass over the candidates of one sequence goes along, and what it leaves behind.
-use Rattle.std.specs.Prelude.{◌≡◌, ℕ, ◌≤◌, ◌<◌, ◌⊎◌, Bool, IsTrue, Option, List, [], ◌∷◌, ◌++◌, length, slice_get, Contains}
+use Rattle.std.specs.Prelude.{◌≡◌, ℕ, ◌≤◌, ◌<◌, ◌⊎◌, Bool, IsTrue, Option, List, [], ◌∷◌, ◌++◌, length, Contains}
 use Rattle.mine_model.specs.declared.item.Item.{Item}
 use Rattle.mine_model.specs.Answer.{Data}
 use Rattle.candidate_graph.specs.declared.edge.Edge.{Edge}

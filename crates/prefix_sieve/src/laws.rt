@@ -12,7 +12,7 @@ ghost use Rattle.candidate_graph.specs.Graphs.{Node};
 ghost use Rattle.prefix_sieve.specs.Buckets.{AreJoined};
 ghost use Rattle.prefix_sieve.specs.Hashes.{hash_of};
 ghost use Rattle.prefix_sieve.specs.Fronts.{IsPassed, LeadsToAll};
-ghost use Rattle.prefix_sieve.specs.Sieves.{HasBehind, PassesAll, HasEnough, HasRaised, AreDealt, AreLevels};
+ghost use Rattle.prefix_sieve.specs.Sieves.{HasCandidate, HasBehind, PassesAll, HasEnough, HasRaised, AreDealt, AreLevels};
 
 /// Where each level comes from sums in which nothing was lost, a list of ranks passes with all its prefixes
 /// if the sequences that have a candidate behind it weigh enough; so do all prefixes of a frequent pattern.
@@ -20,6 +20,9 @@ pub fn each_prefix_of_a_frequent_pattern_passes()
     ensures alive { (d : Data Item) (order : List Item) (hash : List ℕ → ℕ) (levels : List (List Bool))
         → AreLevels d order hash levels → (list : List ℕ)
         → WeighAtLeast (HasBehind d order list) d.sequences d.threshold → PassesAll hash levels list }
+    ensures counted { (d : Data Item) (order : List Item) (hash : List ℕ → ℕ) (levels : List (List Bool))
+        → AreLevels d order hash levels → (list : List ℕ) (n : ℕ)
+        → Counts (HasCandidate d order list) d.sequences n → d.threshold ≤ n → PassesAll hash levels list }
     ensures frequent { (d : Data Item) (order : List Item) (hash : List ℕ → ℕ) (levels : List (List Bool))
         → AreLevels d order hash levels → (pattern : List Item) (list : List ℕ) → AreRanked order pattern list
         → (support : ℕ) → Counts (λ items. IsCandidate d items pattern) d.sequences support

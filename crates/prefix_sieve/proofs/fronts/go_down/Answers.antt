@@ -1,6 +1,6 @@
-use Rattle.std.proofs.Common.{◌≡◌, ℕ, ◌+◌, ◌<◌, ◌∷◌, ◌++◌, [], List, Some, Vec, Global, length, get_or, refl, sym, ap, subst, ◌∙◌, arith}
+use Rattle.std.proofs.Common.{◌≡◌, ℕ, ◌+◌, ◌<◌, List, Vec, Global, length, sym, subst, arith}
 use Rattle.std.specs.List.{slice_get, Contains}
-use Rattle.candidate_graph.specs.Graphs.{Node, Grows}
+use Rattle.candidate_graph.specs.Graphs.{Node}
 use Rattle.prefix_sieve.specs.declared.fronts.Front.{Front}
 use Rattle.prefix_sieve.specs.Fronts.{AreFronts, AreGone}
 use Rattle.prefix_sieve.proofs.FrontLemmas.{grows-same, grows-both, fronts-first, fronts-next}

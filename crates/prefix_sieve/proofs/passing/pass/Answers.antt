@@ -1,6 +1,6 @@
-use Rattle.std.proofs.Common.{◌≡◌, ℕ, ◌+◌, ◌<◌, ◌∷◌, ◌++◌, [], List, Some, Vec, Global, length, get_or, refl, sym, ap, subst, ◌∙◌, arith}
-use Rattle.std.specs.List.{slice_get, Contains}
-use Rattle.candidate_graph.specs.Graphs.{Node, Grows}
+use Rattle.std.proofs.Common.{◌<◌, List, length, refl, sym, subst}
+use Rattle.std.specs.List.{Contains}
+use Rattle.candidate_graph.specs.Graphs.{Node}
 use Rattle.prefix_sieve.specs.declared.fronts.Front.{Front}
 use Rattle.prefix_sieve.specs.Fronts.{HaveRaised}
 use Rattle.prefix_sieve.proofs.FrontLemmas.{grows-both, passed}

@@ -1,8 +1,6 @@
-use Rattle.std.proofs.Common.{◌≡◌, ℕ, ◌+◌, ◌<◌, ◌∷◌, ◌++◌, [], List, Some, length, get_or, refl, sym, ap, subst, ◌∙◌, arith}
-use Rattle.std.specs.List.{slice_get, Contains}
+use Rattle.std.proofs.Common.{◌≡◌, Some, get_or}
+use Rattle.std.specs.List.{slice_get}
 use Rattle.std.proofs.lemmas.Option.{slice_get-get_or}
-use Rattle.candidate_graph.specs.declared.edge.Edge.{Edge}
-use Rattle.candidate_graph.specs.Graphs.{Node, Grows}
 use Rattle.prefix_sieve.specs.declared.fronts.Front.{Front}
 use Rattle.prefix_sieve.proofs.FrontLemmas.{held_at, grows-same, grows-both, grows-within, have-none, have-more, have-all}
 use Rattle.prefix_sieve.proofs.raising.raise_all.Goals as goal

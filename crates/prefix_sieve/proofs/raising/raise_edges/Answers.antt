@@ -1,9 +1,6 @@
-use Rattle.std.proofs.Common.{◌≡◌, ℕ, ◌+◌, ◌∷◌, ◌++◌, [], List, Some, false, length, get_or, refl, sym, ap, subst, ◌∙◌, arith}
-use Rattle.std.specs.List.{slice_get, Contains}
+use Rattle.std.proofs.Common.{◌≡◌, ℕ, false, get_or, subst}
 use Rattle.std.proofs.lemmas.Option.{slice_get-get_or}
 use Rattle.candidate_graph.specs.declared.edge.Edge.{Edge}
-use Rattle.candidate_graph.specs.Graphs.{Node, Grows}
-use Rattle.prefix_sieve.specs.declared.fronts.Front.{Front}
 use Rattle.prefix_sieve.specs.Hashes.{mixed}
 use Rattle.prefix_sieve.specs.Buckets.{capped, sum_of}
 use Rattle.prefix_sieve.proofs.FrontLemmas.{raised-none, raised-more, raised-all}
