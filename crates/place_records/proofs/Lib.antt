@@ -3,3 +3,4 @@ pub mod NumberLemmas
 pub mod RecordLemmas
 pub mod FillLemmas
 pub mod BlockLemmas
+pub mod SpanLemmas

@@ -7,3 +7,4 @@ pub mod Twins
 pub mod Numbers
 pub mod Filled
 pub mod Blocks
+pub mod Spans

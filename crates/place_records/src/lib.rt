@@ -3,7 +3,9 @@
 #![tactic(auto)]
 
 mod block;
+mod blocks;
 mod filling;
+mod joining;
 mod making;
 mod moves;
 mod part_records;

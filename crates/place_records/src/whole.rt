@@ -10,6 +10,8 @@ ghost use Rattle.place_records.specs.Ranks.{CanAskOf, ranks_of};
 ghost use Rattle.place_records.specs.Filled.{AreMade};
 
 use super::block::{Block, block_of};
+use super::blocks::join_all;
+use super::joining::{Joined, no_blocks};
 use super::making::{Made, is_plain, with_moves, with_table, without_numbers};
 use super::part_records::Records;
 use mine_model::NoMemory;
@@ -38,9 +40,15 @@ pub fn records_of_all<R: Threads + Sync, const W: usize>(
         (record { problem = job.now; bound = bound; sequences = all.0.items })
         all.1.places all.1.early all.1.late (ranks_of all.1.table) (CanAskOf all.1.table)) }
 {
-    let _rt = rt;
-    let _workers = workers;
-    records_of_all_alone(alloc, job, bound)
+    if workers == 1 {
+        return records_of_all_alone(alloc, job, bound);
+    }
+    let alphabet = alphabet_of(alloc, job, bound)?;
+    let mut sequences = Vec::new(alloc);
+    let made = made_by_threads(rt, workers, alloc, job, bound, &alphabet, &mut sequences)?;
+    let kinds = without_numbers(alloc, alphabet.kinds);
+    let records = with_table(alloc, Ok(made), kinds, is_plain(bound))?;
+    Ok((sequences, records))
 }
 
 /// The same by the thread that calls.
@@ -90,6 +98,38 @@ fn made_alone<const W: usize>(
         sequences: found,
         places,
     } = block_of(alloc, job, bound, tables, kinds, 0, count)?;
+    let made = with_moves(alloc, twins.as_slice(), places)?;
+    *sequences = found;
+    Ok(made)
+}
+
+// The same by so many threads.
+fn made_by_threads<R: Threads + Sync, const W: usize>(
+    rt: &R,
+    workers: u32,
+    alloc: Global,
+    job: &Job,
+    bound: Bound,
+    alphabet: &Alphabet,
+    sequences: &mut Vec<u32>,
+) -> Result<Made<W>, NoMemory>
+    requires width { W ≤ 17 }
+    requires room { length job.now.machine.labels < 64 * W }
+    requires some { 1 ≤ workers }
+    requires alphabet { IsAlphabet job.now bound alphabet.now.tables alphabet.now.kinds }
+    ensures rising { OnOk result (AllPairs (λ low high. low < high) sequences.new.items) }
+    ensures exact { OnOk result ((i : ℕ) → Contains sequences.new.items i
+        ↔ ((i < length job.now.sequences) × Completes job.now bound (items_of job.now i) 0 false)) }
+    ensures made { IfOk result (λ made. AreMade job.now bound alphabet.now.kinds sequences.new.items
+        made.places (map move_sets made.early.items) (map move_sets made.late.items)) }
+{
+    let mut joined = no_blocks(alloc);
+    join_all(rt, workers, alloc, job, bound, alphabet, &mut joined)?;
+    let Joined {
+        twins,
+        sequences: found,
+        places,
+    } = joined;
     let made = with_moves(alloc, twins.as_slice(), places)?;
     *sequences = found;
     Ok(made)
