@@ -1,6 +1,6 @@
 -- The records of those sequences of a range that complete, one sequence after another.
 use Rattle.std.proofs.Common.{◌≡◌, ℕ, suc, ◌+◌, ◌^◌, ◌<◌, ◌≤◌, ◌-◌, inl, inr, false, List, [], ◌∷◌, ◌++◌, map, length, take, drop, arith, refl, sym, ap, ◌∙◌, subst, Some}
-use Rattle.std.specs.List.{AllPairs, Contains, slice_get, slice_index, sum_by}
+use Rattle.std.specs.List.{Contains, slice_get, slice_index, sum_by}
 use Rattle.std.proofs.Math.Seq.{get_or-append_seam, take-append-add, take-length}
 use Rattle.std.proofs.lemmas.List.{length-append, length-map, take-append-le, get_or_append_left, get_or-append-add}
 use Rattle.std.proofs.lemmas.List.Sums.{sum_by-append}

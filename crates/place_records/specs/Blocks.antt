@@ -4,7 +4,7 @@ use Rattle.mining_job.specs.declared.bound.Bound.{Bound}
 use Rattle.mining_job.specs.Problems.{Problem, items_of}
 use Rattle.sequence_grids.specs.declared.kinds.Kinds.{Kinds}
 use Rattle.sequence_grids.specs.Grids.{Completes}
-use Rattle.sequence_grids.specs.Kinds.{AreKinds, AreMet}
+use Rattle.sequence_grids.specs.Kinds.{AreKinds}
 use Rattle.sequence_grids.specs.Places.{IsTableOf}
 use Rattle.walk_places.specs.declared.places.Record.{Record}
 use Rattle.place_records.specs.Records.{goes_with}

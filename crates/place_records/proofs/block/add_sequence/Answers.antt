@@ -1,5 +1,5 @@
-use Rattle.std.proofs.Common.{rules, ◌≡◌, ◌∙◌, ◌<◌, ◌+◌, ◌^◌, ◌++◌, ◌∷◌, [], ℕ, List, Bool, true, false, length, arith, ap, sym, subst, true≢false}
-use Rattle.std.specs.List.{All, slice_get}
+use Rattle.std.proofs.Common.{rules, ◌≡◌, ◌∙◌, ◌<◌, ◌+◌, ◌^◌, ℕ, List, true, false, length, arith, ap, sym, subst, true≢false}
+use Rattle.std.specs.List.{All}
 use Rattle.mine_model.specs.declared.item.Item.{Item}
 use Rattle.mine_model.specs.Support.{Sequence}
 use Rattle.mine_model.specs.Database.{sequence_at}
@@ -8,7 +8,6 @@ use Rattle.sequence_grids.specs.Grids.{Completes}
 use Rattle.sequence_grids.specs.Kinds.{AreMet, Extends}
 use Rattle.sequence_grids.specs.Places.{ArePlaces}
 use Rattle.sequence_grids.proofs.GridLemmas.{items_within}
-use Rattle.walk_places.specs.declared.places.Record.{Record}
 use Rattle.place_records.specs.Twins.{TwinSets}
 use Rattle.place_records.specs.Filled.{AreHere, AreKnown}
 use Rattle.place_records.specs.Blocks.{IsOver, IsBlock}

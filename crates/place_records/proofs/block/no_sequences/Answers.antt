@@ -1,5 +1,3 @@
-use Rattle.std.proofs.Common.{◌≡◌, ◌∙◌, [], ap}
-use Rattle.place_records.specs.Blocks.{IsOver}
 use Rattle.place_records.proofs.BlockLemmas.{IsOver-none, IsBlock-none}
 use Rattle.place_records.proofs.block.no_sequences.Goals as goal
 

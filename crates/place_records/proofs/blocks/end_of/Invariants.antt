@@ -1,4 +1,4 @@
-use Rattle.std.proofs.Common.{◌≤◌, ◌<◌, ◌-◌, ◌≡◌, length}
+use Rattle.std.proofs.Common.{◌≤◌, ◌-◌, ◌≡◌, length}
 use Rattle.place_records.proofs.blocks.end_of.Given as goal
 
 abbrev pub invariant-loop-to : goal.invariant-loop-to

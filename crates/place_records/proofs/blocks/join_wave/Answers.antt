@@ -1,4 +1,4 @@
-use Rattle.std.proofs.Common.{rules, ◌≡◌, map, sym, subst, List}
+use Rattle.std.proofs.Common.{rules, map}
 use Rattle.std.specs.List.{All}
 use Rattle.place_records.specs.declared.blocks.Piece.{Piece}
 use Rattle.place_records.specs.Twins.{twin_sets}

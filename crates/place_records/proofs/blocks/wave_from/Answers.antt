@@ -1,5 +1,4 @@
-use Rattle.std.proofs.Common.{◌≡◌, ◌<◌, ◌≤◌, ◌+◌, inl, inr, length, arith, ap}
-use Rattle.std.proofs.lemmas.Bool.{cases_lt}
+use Rattle.std.proofs.Common.{◌<◌, length, arith, ap}
 use Rattle.place_records.proofs.SpanLemmas.{AreSpans-more}
 use Rattle.place_records.proofs.blocks.wave_from.Goals as goal
 

@@ -1,5 +1,5 @@
-use Rattle.std.proofs.Common.{◌≡◌, ◌+◌, ◌<◌, ◌^◌, ◌++◌, List, map, length, ap, subst, arith}
-use Rattle.place_records.specs.Twins.{TwinSets, twin_sets}
+use Rattle.std.proofs.Common.{◌+◌, ◌<◌, ◌^◌, map, length, ap, subst, arith}
+use Rattle.place_records.specs.Twins.{twin_sets}
 use Rattle.place_records.specs.Blocks.{AreNames}
 use Rattle.place_records.proofs.BlockLemmas.{IsBlock-join}
 use Rattle.place_records.proofs.joining.join.Goals as goal

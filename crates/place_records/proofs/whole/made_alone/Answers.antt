@@ -1,4 +1,4 @@
-use Rattle.std.proofs.Common.{◌≡◌, ◌<◌, ◌≤◌, length, ap, arith}
+use Rattle.std.proofs.Common.{◌≡◌, length, ap, arith}
 use Rattle.place_records.proofs.whole.made_alone.Goals as goal
 
 pub returns-clause-exact : goal.returns-clause-exact

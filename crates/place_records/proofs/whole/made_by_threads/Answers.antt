@@ -1,9 +1,7 @@
-use Rattle.std.proofs.Common.{rules, ◌≡◌, ◌∙◌, ◌<◌, ◌≤◌, ◌*◌, true, false, List, map, length, ap, sym, subst, arith}
+use Rattle.std.proofs.Common.{rules, ◌∙◌, true, false, List, map, ap, sym, subst, arith}
 use Rattle.walk_places.specs.declared.places.Record.{Record}
-use Rattle.sequence_grids.specs.Places.{IsAlphabet}
 use Rattle.place_records.specs.Twins.{twin_sets, move_in}
 use Rattle.place_records.specs.Filled.{AreFilled}
-use Rattle.place_records.specs.Blocks.{IsBlock}
 use Rattle.place_records.proofs.whole.made_by_threads.Goals as goal
 
 pub returns-clause-exact : goal.returns-clause-exact
@@ -26,3 +24,12 @@ returns-clause-made g c =
       early_are = early ∙ ap (λ ts. map (move_in false) (map (twin_sets {W = g.row.W}) ts)) c.as_slice.ensures.keys;
       late_are = late ∙ ap (λ ts. map (move_in true) (map (twin_sets {W = g.row.W}) ts)) c.as_slice.ensures.keys;
     }
+
+pub join_all-requires-after_bounds : goal.join_all-requires-after_bounds
+join_all-requires-after_bounds g c =
+    let width = c.requires.width in
+    let room = c.requires.room in
+    let some = c.requires.some in
+    let alphabet = c.requires.alphabet in
+    let none = c.no_blocks-joined.ensures c.args.job.now c.args.bound c.args.alphabet.now.kinds in
+    search rules

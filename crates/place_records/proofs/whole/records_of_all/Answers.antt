@@ -1,4 +1,3 @@
-use Rattle.std.proofs.Common.{◌≡◌}
 use Rattle.std.proofs.lemmas.Result.{IfOk-at_ok}
 use Rattle.sequence_grids.specs.Columns.{AreColumns}
 use Rattle.place_records.specs.Records.{AreRecords}
