@@ -74,8 +74,8 @@ impl<'a> Stands<'a> {
     }
 }
 
-/// Whether a stand before this place, in this state, can be held in four bytes: whether the place fits into 25
-/// bits and the state into six.
+/// Whether a stand before this place, in this state, can be held in four bytes: whether the place fits into
+/// 25 bits and the state into six.
 #[inline]
 pub fn fits(place: u32, state: u16) -> bool
     ensures { IsTrue result ↔ Fits place state }

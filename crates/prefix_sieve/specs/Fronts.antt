@@ -54,7 +54,8 @@ pub record IsAdded (passes : Bool) (front : Front) (before after : List Front) :
   pub here : IsTrue passes → Contains after front
 
 -- so those behind the front by these edges
-pub record AreAdded (level : Option (List Bool)) (front : Front) (edges : List Edge) (before after : List Front)
+pub record AreAdded (level : Option (List Bool)) (front : Front) (edges : List Edge)
+    (before after : List Front)
     : Type 0 where
   pub keeps : (other : Front) → Contains before other → Contains after other
   pub others : (other : Front) → Contains after other
@@ -72,7 +73,8 @@ pub record IsGone (level : Option (List Bool)) (nodes : List Node) (front : Fron
 abbrev pub AreWithin : List Node → List Front → Type 0
 AreWithin nodes fronts = (front : Front) → Contains fronts front → front.node < length nodes
 
-pub record HasGone (level : Option (List Bool)) (nodes : List Node) (front : Front) (before after : List Front)
+pub record HasGone (level : Option (List Bool)) (nodes : List Node) (front : Front)
+    (before after : List Front)
     : Type 0 where
   pub keeps : (other : Front) → Contains before other → Contains after other
   pub within : AreWithin nodes before → AreWithin nodes after

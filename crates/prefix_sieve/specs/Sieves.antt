@@ -1,5 +1,5 @@
--- A sieve of prefixes, level by level: which prefixes pass, and what the sums of a level hold. A prefix is the
--- beginning of the list of ranks of a candidate, and never empty.
+-- A sieve of prefixes, level by level: which prefixes pass, and what the sums of a level hold. A prefix is
+-- the beginning of the list of ranks of a candidate, and never empty.
 use Rattle.std.specs.Prelude.{◌≡◌, ℕ, ◌+◌, ◌≤◌, ◌<◌, ◌⊎◌, Bool, true, IsTrue, Option, Some, None, List, [], ◌∷◌, ◌++◌, length, take, slice_get}
 use Rattle.mine_model.specs.declared.item.Item.{Item}
 use Rattle.mine_model.specs.Answer.{Data}
@@ -69,8 +69,8 @@ AreDealt (sequence ∷ all) some others =
     ⊎ ((before : List (Sequence Item)) × (behind : List (Sequence Item))
     × (others ≡ before ++ sequence ∷ behind) × AreDealt all some (before ++ behind))
 
--- Each level is that of sums over all sequences in which nothing was lost, by a pass behind some of the levels
--- before it.
+-- Each level is that of sums over all sequences in which nothing was lost, by a pass behind some of the
+-- levels before it.
 abbrev pub AreLevels : Data Item → List Item → (List ℕ → ℕ) → List (List Bool) → Type 0
 AreLevels d order hash levels = (number : ℕ) (flags : List Bool) → slice_get levels number ≡ Some flags
     → (known : ℕ) × (sums : List ℕ) × (known ≤ number) × (flags ≡ flags_of d.threshold sums)

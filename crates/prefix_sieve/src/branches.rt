@@ -5,8 +5,8 @@ ghost use Rattle.candidate_graph.specs.Graphs.{Node, IsExpanded, Grows};
 use candidate_graph::Edge;
 use mine_model::NoMemory;
 
-/// The graph of the candidates of one sequence, whose nodes get their edges when they are asked for. Its first
-/// node is that of the empty prefix.
+/// The graph of the candidates of one sequence, whose nodes get their edges when they are asked for. Its
+/// first node is that of the empty prefix.
 pub trait Branches {
     // Its nodes, by number.
     ghost nodes: { Self → List Node };

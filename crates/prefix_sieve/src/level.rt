@@ -10,8 +10,8 @@ use mine_model::NoMemory;
 use std::alloc::Global;
 use std::marker::Model;
 
-/// Which buckets reached the threshold, over all workers: a bit for each, so that a level of a million buckets
-/// stays in the caches. A contract sees a flag for each bucket.
+/// Which buckets reached the threshold, over all workers: a bit for each, so that a level of a million
+/// buckets stays in the caches. A contract sees a flag for each bucket.
 #[derive(Drop)]
 pub struct Level {
     words: Vec<u64>,

@@ -1,7 +1,7 @@
 //! A sieve of prefixes, level by level. The candidates of all sequences are too many to be counted; of their
-//! prefixes each adds the weights of its sequences to the bucket of its hash, and one whose bucket stays below
-//! the threshold is cut, with all candidates behind it. A bucket has at least what its prefixes weigh, so no
-//! prefix of a frequent pattern is cut, whatever the hash.
+//! prefixes each adds the weights of its sequences to the bucket of its hash, and one whose bucket stays
+//! below the threshold is cut, with all candidates behind it. A bucket has at least what its prefixes weigh,
+//! so no prefix of a frequent pattern is cut, whatever the hash.
 #![tactic(auto)]
 
 mod branches;

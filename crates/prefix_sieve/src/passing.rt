@@ -28,10 +28,10 @@ impl Room {
     }
 }
 
-/// The pass over one sequence for the next level of the sieve: adds the weight to the bucket of each prefix that
-/// has one rank more than there are levels, behind prefixes that passed. The prefixes of one length are gone
-/// through together, so nothing is taken from the stack of the thread. Where memory is wanting, some may have
-/// been added.
+/// The pass over one sequence for the next level of the sieve: adds the weight to the bucket of each prefix
+/// that has one rank more than there are levels, behind prefixes that passed. The prefixes of one length are
+/// gone through together, so nothing is taken from the stack of the thread. Where memory is wanting, some may
+/// have been added.
 pub fn pass<B: Branches>(
     branches: &mut B,
     sieve: &Sieve,

@@ -24,8 +24,8 @@ pub struct Files {
     places: Vec<u32>,
     shelves: Vec<Shelf>,
     run: Run,
-    // Whether the last run that was begun came to hold a stand that does not fit into four bytes: the next one
-    // will most likely, too.
+    // Whether the last run that was begun came to hold a stand that does not fit into four bytes: the next
+    // one will most likely, too.
     wide: bool,
 }
 
@@ -73,8 +73,8 @@ impl Files {
     }
 
     /// Files the visits of some whole sequences behind what was filed, for each rank that has places: behind
-    /// each visit that writes the rank and goes on, where it stands. Memory is asked for only where a stand does
-    /// not fit into four bytes and none before did.
+    /// each visit that writes the rank and goes on, where it stands. Memory is asked for only where a stand
+    /// does not fit into four bytes and none before did.
     pub fn file<T: Outputs>(
         &mut self,
         alloc: Global,
