@@ -26,7 +26,7 @@ add-requires g c =
     let course : Course = course_of c.args.memo.now c.args.over.now.records.places in
     let here : course_of c.args.memo.now c.places.result.now ≡ course = rw c.places.ensures refl in
     let known = course-same c.args.memo.now c.args.over.now.rows.items c.args.over.now.records c.args.aim c.requires.rows c.requires.moves in
-    let walked = c.requires.visits c.if-next-stands.false in
+    let walked = c.requires.visits (omega (arith, c.if-next-len.false, c.len.ensures)) in
     let readable : All (IsReadable (ranks_of c.args.over.now.records.table) (CanAskOf c.args.over.now.records.table) room) c.args.tables.now.visits =
     buffer-readable c.args.over.now c.args.aim c.args.stands.now room c.requires.ready course known c.args.tables.now.visits walked in
     let few : length c.places.result.now < 2 ^ 32 = rw c.places.ensures (ready-few c.args.over.now c.args.aim c.args.stands.now room c.requires.ready) in
@@ -67,7 +67,7 @@ returns-clause-counted g c =
     → AllZip (AreVisits course) groups sequences → AreAllAdded course ranks sequences c.args.tables.now.ahead c.add.new.self)
     (λ ended counted is groups sequences are visited.
     let cut : AreSequences c.args.tables.now.visits sequences =
-    walked-sequences course groups c.args.tables.now.visits (c.requires.visits c.if-next-stands.false groups are) sequences visited in
+    walked-sequences course groups c.args.tables.now.visits (c.requires.visits (omega (arith, c.if-next-len.false, c.len.ensures)) groups are) sequences visited in
     subst (λ (w : Course). AreAllAdded w ranks sequences c.args.tables.now.ahead c.add.new.self) here
     (subst (λ (t : RanksValue). AreAllAdded (course_of c.args.memo.now c.places.result.now) (ranks_of t) sequences c.args.tables.now.ahead c.add.new.self) c.table-table.ensures
     (counted is sequences (subst (λ (l : List Visit). AreSequences l sequences) (sym c.as_slice-visits.ensures) cut))))

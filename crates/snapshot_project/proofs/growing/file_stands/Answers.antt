@@ -27,7 +27,7 @@ file-requires-clause-readable g c =
     let readable : All (IsReadable (ranks_of c.args.over.now.records.table) (CanAskOf c.args.over.now.records.table) c.args.tables.now.files.room) c.args.tables.now.visits =
     buffer-readable c.args.over.now c.args.aim c.args.stands.now c.args.tables.now.files.room c.requires.ready course
     (course-same c.args.memo.now c.args.over.now.rows.items c.args.over.now.records c.args.aim c.requires.rows c.requires.moves) c.args.tables.now.visits
-    (c.requires.visits (omega (arith, c.if-next-stands.false))) in
+    (c.requires.visits (omega (arith, c.if-next-len.false, c.len.ensures))) in
     rw (c.table.ensures, c.as_slice-visits.ensures) readable
 
 pub file-requires-clause-room : goal.file-requires-clause-room
@@ -37,7 +37,7 @@ file-requires-clause-room g c =
     let (all, visited, places) = c.requires.places groups are in
     let room : All (HasRoom (ranks_of c.args.over.now.records.table) c.args.aim c.args.tables.now.visits) c.args.tables.now.files.filed =
     buffer-room course groups (ranks_of c.args.over.now.records.table) c.args.aim c.args.found.now c.args.tables.now.files.filed c.requires.begun c.args.tables.now.visits
-    (c.requires.visits (omega (arith, c.if-next-stands.false)) groups are) all visited places in
+    (c.requires.visits (omega (arith, c.if-next-len.false, c.len.ensures)) groups are) all visited places in
     rw (c.table.ensures, c.as_slice-visits.ensures) room
 
 pub returns-clause-filed : goal.returns-clause-filed
@@ -46,7 +46,7 @@ returns-clause-filed g c =
     (λ filed groups sequences are visited.
     let course : Course = course_of c.args.memo.now c.args.over.now.records.places in
     let cut : AreSequences c.args.tables.now.visits sequences =
-    walked-sequences course groups c.args.tables.now.visits (c.requires.visits (omega (arith, c.if-next-stands.false)) groups are) sequences visited in
+    walked-sequences course groups c.args.tables.now.visits (c.requires.visits (omega (arith, c.if-next-len.false, c.len.ensures)) groups are) sequences visited in
     let more : c.file.new.self.filed ≡ map (with_more (ranks_of c.args.over.now.records.table) c.args.aim sequences) c.args.tables.now.files.filed =
     rw (sym c.table.ensures) (filed sequences (subst (λ (visits : List Visit). AreSequences visits sequences) (sym c.as_slice-visits.ensures) cut)) in
     more ∙ ap (map (with_more (ranks_of c.args.over.now.records.table) c.args.aim sequences)) c.requires.begun)

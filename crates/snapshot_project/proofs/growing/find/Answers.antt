@@ -25,12 +25,12 @@ returns-in-One-clause-found c =
     let is : made.terrain ≡ One over = ap (λ (m : Ground). m.terrain) (sym c.deref-2.ensures) ∙ c.in-One.is in
     let room : sums ≡ c.args.room.now.ranks + 1 = omega (arith, ap (λ (r : RoomValue). r.ranks) c.room.view_is, some) in
     IfOk-weaker c.find_over.result
-    (λ found. AreFound (course_over over.rows.items over.records c.args.aim) (ranks_of over.records.table) c.args.aim weights c.args.least sums c.args.stands.now found.ranks.items found.run.items (items_if found.longer))
-    (λ found. (part : GridList) → c.args.room.now.part ≡ Some part → IsFoundIn part c.args.aim c.args.least (c.args.room.now.ranks + 1) c.args.stands.now found.ranks.items found.run.items (items_if found.longer))
+    (λ found. AreFound (course_over over.rows.items over.records c.args.aim) (ranks_of over.records.table) c.args.aim weights c.args.least sums c.args.stands.now found.ranks.items found.run.stands (items_if found.longer))
+    (λ found. (part : GridList) → c.args.room.now.part ≡ Some part → IsFoundIn part c.args.aim c.args.least (c.args.room.now.ranks + 1) c.args.stands.now found.ranks.items found.run.stands (items_if found.longer))
     (λ found are part knows.
     let same : part_on made ≡ part = known-is (λ it. arc_value it) c.room.inside.known c.in-Some.ground c.in-Some.is c.args.room.now (sums - 1) c.room.view_is part knows in
     let (floor, weigh) = kept-here (part_on made) part same made.terrain (One over) is made.weights.items weights told known.kept in
-    found-in 1 part over.rows.items over.records floor weights weigh c.args.aim c.args.least sums (c.args.room.now.ranks + 1) room c.args.stands.now found.ranks.items found.run.items (items_if found.longer) are)
+    found-in 1 part over.rows.items over.records floor weights weigh c.args.aim c.args.least sums (c.args.room.now.ranks + 1) room c.args.stands.now found.ranks.items found.run.stands (items_if found.longer) are)
     c.find_over.ensures.found
 
 pub returns-in-Four-clause-found : goal.returns-in-Four-clause-found
@@ -46,12 +46,12 @@ returns-in-Four-clause-found c =
     let is : made.terrain ≡ Four over = ap (λ (m : Ground). m.terrain) (sym c.deref-2.ensures) ∙ c.in-Four.is in
     let room : sums ≡ c.args.room.now.ranks + 1 = omega (arith, ap (λ (r : RoomValue). r.ranks) c.room.view_is, some) in
     IfOk-weaker c.find_over-in-Four.result
-    (λ found. AreFound (course_over over.rows.items over.records c.args.aim) (ranks_of over.records.table) c.args.aim weights c.args.least sums c.args.stands.now found.ranks.items found.run.items (items_if found.longer))
-    (λ found. (part : GridList) → c.args.room.now.part ≡ Some part → IsFoundIn part c.args.aim c.args.least (c.args.room.now.ranks + 1) c.args.stands.now found.ranks.items found.run.items (items_if found.longer))
+    (λ found. AreFound (course_over over.rows.items over.records c.args.aim) (ranks_of over.records.table) c.args.aim weights c.args.least sums c.args.stands.now found.ranks.items found.run.stands (items_if found.longer))
+    (λ found. (part : GridList) → c.args.room.now.part ≡ Some part → IsFoundIn part c.args.aim c.args.least (c.args.room.now.ranks + 1) c.args.stands.now found.ranks.items found.run.stands (items_if found.longer))
     (λ found are part knows.
     let same : part_on made ≡ part = known-is (λ it. arc_value it) c.room.inside.known c.in-Some.ground c.in-Some.is c.args.room.now (sums - 1) c.room.view_is part knows in
     let (floor, weigh) = kept-here (part_on made) part same made.terrain (Four over) is made.weights.items weights told known.kept in
-    found-in 4 part over.rows.items over.records floor weights weigh c.args.aim c.args.least sums (c.args.room.now.ranks + 1) room c.args.stands.now found.ranks.items found.run.items (items_if found.longer) are)
+    found-in 4 part over.rows.items over.records floor weights weigh c.args.aim c.args.least sums (c.args.room.now.ranks + 1) room c.args.stands.now found.ranks.items found.run.stands (items_if found.longer) are)
     c.find_over-in-Four.ensures.found
 
 pub returns-in-Wide-clause-found : goal.returns-in-Wide-clause-found
@@ -67,10 +67,10 @@ returns-in-Wide-clause-found c =
     let is : made.terrain ≡ Wide over = ap (λ (m : Ground). m.terrain) (sym c.deref-2.ensures) ∙ c.in-Wide.is in
     let room : sums ≡ c.args.room.now.ranks + 1 = omega (arith, ap (λ (r : RoomValue). r.ranks) c.room.view_is, some) in
     IfOk-weaker c.find_over-in-Wide.result
-    (λ found. AreFound (course_over over.rows.items over.records c.args.aim) (ranks_of over.records.table) c.args.aim weights c.args.least sums c.args.stands.now found.ranks.items found.run.items (items_if found.longer))
-    (λ found. (part : GridList) → c.args.room.now.part ≡ Some part → IsFoundIn part c.args.aim c.args.least (c.args.room.now.ranks + 1) c.args.stands.now found.ranks.items found.run.items (items_if found.longer))
+    (λ found. AreFound (course_over over.rows.items over.records c.args.aim) (ranks_of over.records.table) c.args.aim weights c.args.least sums c.args.stands.now found.ranks.items found.run.stands (items_if found.longer))
+    (λ found. (part : GridList) → c.args.room.now.part ≡ Some part → IsFoundIn part c.args.aim c.args.least (c.args.room.now.ranks + 1) c.args.stands.now found.ranks.items found.run.stands (items_if found.longer))
     (λ found are part knows.
     let same : part_on made ≡ part = known-is (λ it. arc_value it) c.room.inside.known c.in-Some.ground c.in-Some.is c.args.room.now (sums - 1) c.room.view_is part knows in
     let (floor, weigh) = kept-here (part_on made) part same made.terrain (Wide over) is made.weights.items weights told known.kept in
-    found-in 17 part over.rows.items over.records floor weights weigh c.args.aim c.args.least sums (c.args.room.now.ranks + 1) room c.args.stands.now found.ranks.items found.run.items (items_if found.longer) are)
+    found-in 17 part over.rows.items over.records floor weights weigh c.args.aim c.args.least sums (c.args.room.now.ranks + 1) room c.args.stands.now found.ranks.items found.run.stands (items_if found.longer) are)
     c.find_over-in-Wide.ensures.found

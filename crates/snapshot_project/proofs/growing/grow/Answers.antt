@@ -1,6 +1,5 @@
-use Rattle.std.proofs.Common.{◌≡◌, ◌≢◌, false-eqb, ◌∙◌, ℕ, ◌+◌, ◌≤◌, ◌<◌, None, Some, Option, IfSome, List, ◌∷◌, [], ◌++◌, length, map, sym, ap, subst, arith}
+use Rattle.std.proofs.Common.{◌≡◌, ◌∙◌, ℕ, ◌+◌, ◌≤◌, ◌<◌, None, Some, Option, IfSome, List, ◌∷◌, [], ◌++◌, length, map, sym, ap, subst, arith}
 use Rattle.std.specs.List.{slice_get}
-use Rattle.std.proofs.lemmas.Bool.{eqb-true}
 use Rattle.std.proofs.lemmas.List.{length-map}
 use Rattle.std.proofs.lemmas.Result.{IfOk-weaker}
 use Rattle.sequence_grids.specs.Grids.{GridList}
@@ -17,10 +16,10 @@ use Rattle.snapshot_project.proofs.GrownLemmas.{empty-next, stands-for, grown-ne
 use Rattle.snapshot_project.proofs.GrownAheadLemmas.{grown-longer, grown-count}
 use Rattle.snapshot_project.proofs.growing.grow.Goals as goal
 
-pub returns-then-is_empty-clause-next : goal.returns-then-is_empty-clause-next
-returns-then-is_empty-clause-next c ranks projected =
+pub returns-then-len-eq0-clause-next : goal.returns-then-len-eq0-clause-next
+returns-then-len-eq0-clause-next c ranks projected =
     let none : length c.args.snapshots.now.stands ≡ 0 =
-    ap length (sym c.stands.ensures) ∙ eqb-true (length c.stands.result) 0 (sym c.is_empty.ensures ∙ c.if-is_empty.true) in
+    omega (arith, c.len.ensures, c.if-len-eq0.true, ap length c.stands-stands.ensures) in
     rw c.new.ensures.items (empty-next c.args.part.now c.need.ensures.part c.args.least c.requires.least ranks c.args.snapshots.now projected c.in_default.ensures.none none)
 
 pub find-requires-clause-known : goal.find-requires-clause-known
@@ -28,15 +27,14 @@ find-requires-clause-known c =
     let part : GridList = c.args.part.now in
     let kept : StandList = c.args.snapshots.now in
     let aim : Aim = record { seen = c.seen.result; need = c.need.result } in
-    let filled : length c.stands.result ≢ 0 = false-eqb (length c.stands.result) 0 (sym c.if-is_empty.false ∙ c.is_empty.ensures) in
-    let same : length c.stands.result ≡ length kept.stands = ap length c.stands.ensures in
-    let any : 0 < length kept.stands = omega (arith, filled, same) in
+    let same : length c.stands-stands.result ≡ length kept.stands = ap length c.stands-stands.ensures in
+    let any : 0 < length kept.stands = omega (arith, same, c.len.ensures, c.if-len-eq0.false) in
     let room : length part.problem.ranking.order ≤ c.enter.new.self.ranks = omega (arith, c.requires.room, c.enter.ensures.ranks) in
     let (ranks, projected) = c.requires.projected in (
       part,
       c.in_ok-enter.ensures.part,
       room,
-      stands-for part c.need.ensures.part c.args.least c.requires.least ranks kept projected c.in_default.ensures.none aim c.seen.ensures c.need.ensures.need c.stands.result c.stands.ensures any,
+      stands-for part c.need.ensures.part c.args.least c.requires.least ranks kept projected c.in_default.ensures.none aim c.seen.ensures c.need.ensures.need c.stands-stands.result c.stands-stands.ensures any,
     )
 
 pub longer_by-requires : goal.longer_by-requires
@@ -44,13 +42,12 @@ longer_by-requires c filed =
     let part : GridList = c.args.part.now in
     let kept : StandList = c.args.snapshots.now in
     let aim : Aim = record { seen = c.seen.result; need = c.need.result } in
-    let filled : length c.stands.result ≢ 0 = false-eqb (length c.stands.result) 0 (sym c.if-is_empty.false ∙ c.is_empty.ensures) in
-    let same : length c.stands.result ≡ length kept.stands = ap length c.stands.ensures in
-    let any : 0 < length kept.stands = omega (arith, filled, same) in
+    let same : length c.stands-stands.result ≡ length kept.stands = ap length c.stands-stands.ensures in
+    let any : 0 < length kept.stands = omega (arith, same, c.len.ensures, c.if-len-eq0.false) in
     let most : length part.problem.ranking.order < c.enter.new.self.ranks + 1 = omega (arith, c.requires.room, c.enter.ensures.ranks) in
     let found = c.in_ok-found.found in
     let is_found : IsFoundIn part aim c.args.least (c.enter.new.self.ranks + 1) kept.stands found.ranks.items found.run.stands (items_if found.longer) =
-    subst (λ (l : List Stand). IsFoundIn part aim c.args.least (c.enter.new.self.ranks + 1) l found.ranks.items found.run.stands (items_if found.longer)) c.stands.ensures
+    subst (λ (l : List Stand). IsFoundIn part aim c.args.least (c.enter.new.self.ranks + 1) l found.ranks.items found.run.stands (items_if found.longer)) c.stands-stands.ensures
     (c.in_ok-found.ensures.found part c.in_ok-enter.ensures.part) in
     let (ranks, projected) = c.requires.projected in
     grown-within part c.need.ensures.part c.args.least c.requires.least (c.enter.new.self.ranks + 1) most ranks kept projected aim c.seen.ensures c.need.ensures.need c.in_default.ensures.none any
@@ -61,13 +58,12 @@ returns-clause-next c ranks projected =
     let part : GridList = c.args.part.now in
     let kept : StandList = c.args.snapshots.now in
     let aim : Aim = record { seen = c.seen.result; need = c.need.result } in
-    let filled : length c.stands.result ≢ 0 = false-eqb (length c.stands.result) 0 (sym c.if-is_empty.false ∙ c.is_empty.ensures) in
-    let same : length c.stands.result ≡ length kept.stands = ap length c.stands.ensures in
-    let any : 0 < length kept.stands = omega (arith, filled, same) in
+    let same : length c.stands-stands.result ≡ length kept.stands = ap length c.stands-stands.ensures in
+    let any : 0 < length kept.stands = omega (arith, same, c.len.ensures, c.if-len-eq0.false) in
     let most : length part.problem.ranking.order < c.enter.new.self.ranks + 1 = omega (arith, c.requires.room, c.enter.ensures.ranks) in
     let found = c.in_ok-found.found in
     let is_found : IsFoundIn part aim c.args.least (c.enter.new.self.ranks + 1) kept.stands found.ranks.items found.run.stands (items_if found.longer) =
-    subst (λ (l : List Stand). IsFoundIn part aim c.args.least (c.enter.new.self.ranks + 1) l found.ranks.items found.run.stands (items_if found.longer)) c.stands.ensures
+    subst (λ (l : List Stand). IsFoundIn part aim c.args.least (c.enter.new.self.ranks + 1) l found.ranks.items found.run.stands (items_if found.longer)) c.stands-stands.ensures
     (c.in_ok-found.ensures.found part c.in_ok-enter.ensures.part) in
     rw (c.in_ok-next.ensures, c.as_slice.ensures.value)
     (grown-next part c.need.ensures.part c.args.least c.requires.least (c.enter.new.self.ranks + 1) most ranks kept projected aim c.seen.ensures c.need.ensures.need c.in_default.ensures.none any
@@ -78,13 +74,12 @@ returns-clause-all c =
     let part : GridList = c.args.part.now in
     let kept : StandList = c.args.snapshots.now in
     let aim : Aim = record { seen = c.seen.result; need = c.need.result } in
-    let filled : length c.stands.result ≢ 0 = false-eqb (length c.stands.result) 0 (sym c.if-is_empty.false ∙ c.is_empty.ensures) in
-    let same : length c.stands.result ≡ length kept.stands = ap length c.stands.ensures in
-    let any : 0 < length kept.stands = omega (arith, filled, same) in
+    let same : length c.stands-stands.result ≡ length kept.stands = ap length c.stands-stands.ensures in
+    let any : 0 < length kept.stands = omega (arith, same, c.len.ensures, c.if-len-eq0.false) in
     let most : length part.problem.ranking.order < c.enter.new.self.ranks + 1 = omega (arith, c.requires.room, c.enter.ensures.ranks) in
     let found = c.in_ok-found.found in
     let is_found : IsFoundIn part aim c.args.least (c.enter.new.self.ranks + 1) kept.stands found.ranks.items found.run.stands (items_if found.longer) =
-    subst (λ (l : List Stand). IsFoundIn part aim c.args.least (c.enter.new.self.ranks + 1) l found.ranks.items found.run.stands (items_if found.longer)) c.stands.ensures
+    subst (λ (l : List Stand). IsFoundIn part aim c.args.least (c.enter.new.self.ranks + 1) l found.ranks.items found.run.stands (items_if found.longer)) c.stands-stands.ensures
     (c.in_ok-found.ensures.found part c.in_ok-enter.ensures.part) in
     let (ranks, projected) = c.requires.projected in
     let nexts : c.in_ok-next.next.items ≡ map told_of found.ranks.items = c.in_ok-next.ensures ∙ ap (map told_of) c.as_slice.ensures.value in
@@ -97,13 +92,12 @@ returns-clause-each c ranks projected =
     let part : GridList = c.args.part.now in
     let kept : StandList = c.args.snapshots.now in
     let aim : Aim = record { seen = c.seen.result; need = c.need.result } in
-    let filled : length c.stands.result ≢ 0 = false-eqb (length c.stands.result) 0 (sym c.if-is_empty.false ∙ c.is_empty.ensures) in
-    let same : length c.stands.result ≡ length kept.stands = ap length c.stands.ensures in
-    let any : 0 < length kept.stands = omega (arith, filled, same) in
+    let same : length c.stands-stands.result ≡ length kept.stands = ap length c.stands-stands.ensures in
+    let any : 0 < length kept.stands = omega (arith, same, c.len.ensures, c.if-len-eq0.false) in
     let most : length part.problem.ranking.order < c.enter.new.self.ranks + 1 = omega (arith, c.requires.room, c.enter.ensures.ranks) in
     let found = c.in_ok-found.found in
     let is_found : IsFoundIn part aim c.args.least (c.enter.new.self.ranks + 1) kept.stands found.ranks.items found.run.stands (items_if found.longer) =
-    subst (λ (l : List Stand). IsFoundIn part aim c.args.least (c.enter.new.self.ranks + 1) l found.ranks.items found.run.stands (items_if found.longer)) c.stands.ensures
+    subst (λ (l : List Stand). IsFoundIn part aim c.args.least (c.enter.new.self.ranks + 1) l found.ranks.items found.run.stands (items_if found.longer)) c.stands-stands.ensures
     (c.in_ok-found.ensures.found part c.in_ok-enter.ensures.part) in
     let nexts : c.in_ok-next.next.items ≡ map told_of found.ranks.items = c.in_ok-next.ensures ∙ ap (map told_of) c.as_slice.ensures.value in
     grown-longer part c.need.ensures.part c.args.least c.requires.least (c.enter.new.self.ranks + 1) most ranks kept projected aim c.seen.ensures c.need.ensures.need c.in_default.ensures.none any
