@@ -12,13 +12,25 @@ use std::marker::Model;
 
 /// The candidates of one sequence of a job after another, as lists of ranks in one flat buffer, which each
 /// sequence uses again.
-#[derive(Drop)]
 pub struct CandidateList<'a> {
     job: &'a Job,
     grids: Grids<'a>,
     successors: Successors,
     walk: Walk,
     listed: RankLists,
+}
+
+// Written out, so that it is let go of by a call, and not part by part wherever one is.
+impl<'a> Drop for CandidateList<'a> {
+    fn drop(self) {
+        let CandidateList {
+            job: _,
+            grids: _,
+            successors: _,
+            walk: _,
+            listed: _,
+        } = self;
+    }
 }
 
 impl<'a> Model for CandidateList<'a> {

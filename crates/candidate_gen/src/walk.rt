@@ -17,12 +17,23 @@ use std::alloc::Global;
 
 /// What a walk over the prefixes of a sequence's candidates keeps: the prefix where it is, the places of the
 /// prefixes that wait, and those that one step finds, or their ranks. Each walk uses the same room again.
-#[derive(Drop)]
 pub(crate) struct Walk {
     path: SmallVec<u32, 16>,
     waiting: Vec<Place>,
     found: Vec<Place>,
     ranks: Vec<u32>,
+}
+
+// Written out, so that it is let go of by a call, and not part by part wherever one is.
+impl Drop for Walk {
+    fn drop(self) {
+        let Walk {
+            path: _,
+            waiting: _,
+            found: _,
+            ranks: _,
+        } = self;
+    }
 }
 
 impl Walk {

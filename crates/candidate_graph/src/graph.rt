@@ -20,7 +20,6 @@ use walk_places::Places;
 
 /// A worker's room for the graph of one sequence, cleared and used again for the next. A contract sees up to
 /// which rank there is room, and the nodes by their numbers, each with its edges where they were asked for.
-#[derive(Drop)]
 pub struct Graph {
     nodes: Nodes,
     // By number of a node where its edges are. Those behind the last one are not known.
@@ -29,6 +28,19 @@ pub struct Graph {
     rooms: Rooms,
     // Room for the stands of one node.
     stands: Vec<Stand>,
+}
+
+// Written out, so that it is let go of by a call, and not part by part wherever one is.
+impl Drop for Graph {
+    fn drop(self) {
+        let Graph {
+            nodes: _,
+            spans: _,
+            edges: _,
+            rooms: _,
+            stands: _,
+        } = self;
+    }
 }
 
 impl Model for Graph {

@@ -18,13 +18,25 @@ const BLOCK: u32 = 256;
 
 /// The candidates of one block of sequences of a job after another, each counted in its home. Each block uses
 /// the room of the one before.
-#[derive(Drop)]
 pub struct BlockCounts<'a> {
     job: &'a Job,
     candidates: CandidateList<'a>,
     homes: Vec<PatternCounts>,
     pairs: u64,
     number: u32,
+}
+
+// Written out, so that it is let go of by a call, and not part by part wherever one is.
+impl<'a> Drop for BlockCounts<'a> {
+    fn drop(self) {
+        let BlockCounts {
+            job: _,
+            candidates: _,
+            homes: _,
+            pairs: _,
+            number: _,
+        } = self;
+    }
 }
 
 impl<'a> Model for BlockCounts<'a> {

@@ -20,12 +20,23 @@ use turn_lock::{Change, Kept};
 const MOST_ADDED: usize = 67_108_864;
 
 /// The sums of one home over the blocks that were added, and which pass added which block.
-#[derive(Drop)]
 pub struct Shard {
     job: Snapshot<Job>,
     home: u32,
     counts: PatternCounts,
     added: Vec<(u32, u32)>,
+}
+
+// Written out, so that it is let go of by a call, and not part by part wherever one is.
+impl Drop for Shard {
+    fn drop(self) {
+        let Shard {
+            job: _,
+            home: _,
+            counts: _,
+            added: _,
+        } = self;
+    }
 }
 
 impl Model for Shard {

@@ -12,13 +12,25 @@ use std::marker::Model;
 
 /// A compiled expression. Its edges stand in one vector, by the state that they leave and, for one state, by
 /// the rising state that they lead to; at most one leads from a state to another.
-#[derive(Drop)]
 pub struct Fst {
     expression: Expr,
     labels: Vec<Label>,
     ends: Vec<usize>,
     edges: Vec<Edge>,
     finals: States,
+}
+
+// Written out, so that it is let go of by a call, and not part by part wherever one is.
+impl Drop for Fst {
+    fn drop(self) {
+        let Fst {
+            expression: _,
+            labels: _,
+            ends: _,
+            edges: _,
+            finals: _,
+        } = self;
+    }
 }
 
 impl Model for Fst {

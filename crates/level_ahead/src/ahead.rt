@@ -29,7 +29,6 @@ const RANKS: usize = 256;
 /// A worker's room for what follows behind each of some ranks. A contract sees the ranks that are asked
 /// about, each with the counts of those behind it. It serves ranks of at most 255, sequences that weigh 1,
 /// and prefixes that need nothing that is not yet seen.
-#[derive(Drop)]
 pub struct Ahead {
     ranks: Vec<u32>,
     asked: StateSet<4>,
@@ -37,6 +36,19 @@ pub struct Ahead {
     // By rank. What is not asked about counts for nothing.
     counts: Vec<MemberCounts<4>>,
     visits: Visits,
+}
+
+// Written out, so that it is let go of by a call, and not part by part wherever one is.
+impl Drop for Ahead {
+    fn drop(self) {
+        let Ahead {
+            ranks: _,
+            asked: _,
+            gathered: _,
+            counts: _,
+            visits: _,
+        } = self;
+    }
 }
 
 impl Model for Ahead {

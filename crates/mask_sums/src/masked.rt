@@ -7,12 +7,23 @@ use std::alloc::Global;
 
 /// What was counted by sets of ranks: the sequences in which each rank follows, those in which the prefix
 /// with it is a pattern, and those in which more can follow; and the visits that write it and go on.
-#[derive(Drop)]
 pub(crate) struct Masked {
     pub(crate) followed: MemberCounts<4>,
     pub(crate) ended: MemberCounts<4>,
     pub(crate) opened: MemberCounts<4>,
     pub(crate) stands: MemberCounts<4>,
+}
+
+// Written out, so that it is let go of by a call, and not part by part wherever one is.
+impl Drop for Masked {
+    fn drop(self) {
+        let Masked {
+            followed: _,
+            ended: _,
+            opened: _,
+            stands: _,
+        } = self;
+    }
 }
 
 impl Masked {

@@ -18,7 +18,6 @@ use std::marker::Model;
 /// A worker's room for sums by rank. A contract sees what is summed up of each rank. Visits are counted by
 /// sets of ranks where there are at most 256 ranks, nothing is needed that is not yet seen, and each sequence
 /// weighs 1, and else rank by rank.
-#[derive(Drop)]
 pub struct MaskedSums {
     sums: Sums,
     masked: Masked,
@@ -26,6 +25,19 @@ pub struct MaskedSums {
     // Whether anything was counted rank by rank, and by sets, since the last clearing.
     by_ranks: bool,
     by_sets: bool,
+}
+
+// Written out, so that it is let go of by a call, and not part by part wherever one is.
+impl Drop for MaskedSums {
+    fn drop(self) {
+        let MaskedSums {
+            sums: _,
+            masked: _,
+            ranks: _,
+            by_ranks: _,
+            by_sets: _,
+        } = self;
+    }
 }
 
 impl Model for MaskedSums {

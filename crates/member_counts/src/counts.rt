@@ -18,7 +18,6 @@ use std::marker::Model;
 /// Sets wait until there are eight, which are added to all counts at once, bit by bit, however many members
 /// they have: so adding one takes about one sum of words. Room for one digit more is taken when twice as many
 /// sets were given, and kept when the counts are cleared.
-#[derive(Drop)]
 pub struct MemberCounts<const W: usize> {
     waiting: [StateSet<W>; WAITING],
     filled: usize,
@@ -26,6 +25,20 @@ pub struct MemberCounts<const W: usize> {
     digits: Vec<Digits<W>>,
     added: u64,
     members: StateSet<W>,
+}
+
+// Written out, so that it is let go of by a call, and not part by part wherever one is.
+impl<const W: usize> Drop for MemberCounts<W> {
+    fn drop(self) {
+        let MemberCounts {
+            waiting: _,
+            filled: _,
+            low: _,
+            digits: _,
+            added: _,
+            members: _,
+        } = self;
+    }
 }
 
 impl<const W: usize> Model for MemberCounts<W> {

@@ -12,13 +12,25 @@ use std::marker::Model;
 
 /// What an engine mines: the sequences with their hierarchy, the transducer of the expression, the ranks of
 /// the frequent items, and the least support.
-#[derive(Drop)]
 pub struct Job {
     hierarchy: Hierarchy,
     db: Db,
     fst: Fst,
     ranks: Ranks,
     support: u64,
+}
+
+// Written out, so that it is let go of by a call, and not part by part wherever one is.
+impl Drop for Job {
+    fn drop(self) {
+        let Job {
+            hierarchy: _,
+            db: _,
+            fst: _,
+            ranks: _,
+            support: _,
+        } = self;
+    }
 }
 
 impl Model for Job {

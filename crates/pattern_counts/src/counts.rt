@@ -20,12 +20,23 @@ const MOST_SPARSE: usize = 8;
 
 /// Lists by numbers from 0 on, by the same numbers their sums and their hashes, and a table that finds the
 /// number of a list.
-#[derive(Drop)]
 pub(crate) struct Counts {
     lists: Lists,
     sums: Vec<u64>,
     hashes: Vec<u32>,
     slots: Vec<Slot>,
+}
+
+// Written out, so that it is let go of by a call, and not part by part wherever one is.
+impl Drop for Counts {
+    fn drop(self) {
+        let Counts {
+            lists: _,
+            sums: _,
+            hashes: _,
+            slots: _,
+        } = self;
+    }
 }
 
 impl Model for Counts {

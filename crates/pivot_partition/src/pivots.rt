@@ -43,7 +43,6 @@ fn fill_alone(alloc: Global, job: &Job, sequence: u32, found: &mut Vec<u32>) -> 
 /// end need no greater rank. So no list of ranks is made: from the end of the sequence up to which rank a
 /// path from each state has to write, and then, from its front, the same of the paths to each state, and what
 /// may be written between.
-#[derive(Drop)]
 pub struct Pivots<'a> {
     job: &'a Job,
     grids: Grids<'a>,
@@ -54,6 +53,20 @@ pub struct Pivots<'a> {
     entered: Vec<u32>,
     // Of each rank whether it was found, while a sequence is gone over.
     marks: Vec<bool>,
+}
+
+// Written out, so that it is let go of by a call, and not part by part wherever one is.
+impl<'a> Drop for Pivots<'a> {
+    fn drop(self) {
+        let Pivots {
+            job: _,
+            grids: _,
+            table: _,
+            front: _,
+            entered: _,
+            marks: _,
+        } = self;
+    }
 }
 
 impl<'a> Model for Pivots<'a> {

@@ -34,7 +34,7 @@ pub fn records<const W: usize>(alloc: Global, grids: Grids<'_>) -> Result<Record
         (ranks_of found.table) (CanAskOf found.table)) }
 {
     let parts = grids.into_parts();
-    let kinds = without_numbers(alloc, parts.kinds);
+    let kinds = parts.kinds.without_numbers(alloc);
     let made = make(
         alloc,
         parts.job,
@@ -150,23 +150,6 @@ pub(crate) fn with_moves<const W: usize>(
         early,
         late,
     })
-}
-
-// The kinds without what only serves to find those of more items.
-pub(crate) fn without_numbers(alloc: Global, kinds: Kinds) -> Kinds
-    ensures columns { result.columns ≡ kinds.columns }
-    ensures kinds { result.kinds ≡ kinds.kinds }
-    ensures ends { result.ends ≡ kinds.ends }
-    ensures ranks { result.ranks ≡ kinds.ranks }
-{
-    Kinds {
-        columns: kinds.columns,
-        numbers: Vec::new(alloc),
-        kinds: kinds.kinds,
-        ends: kinds.ends,
-        ranks: kinds.ranks,
-        hints: Vec::new(alloc),
-    }
 }
 
 // Whether nothing is needed and few ranks may be written, so that sums by sets of ranks serve.

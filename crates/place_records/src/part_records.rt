@@ -10,12 +10,23 @@ use walk_places::Places;
 /// What stands at the places of a part: its sequences one behind another, with a place behind each where
 /// nothing is done. Each record has a move for paths that have not seen what is needed, and under the same
 /// number one for those that have.
-#[derive(Drop)]
 pub struct Records<const W: usize> {
     pub(crate) places: Places,
     pub(crate) early: Vec<Move<W>>,
     pub(crate) late: Vec<Move<W>>,
     pub(crate) table: RankTable,
+}
+
+// Written out, so that it is let go of by a call, and not part by part wherever one is.
+impl<const W: usize> Drop for Records<W> {
+    fn drop(self) {
+        let Records {
+            places: _,
+            early: _,
+            late: _,
+            table: _,
+        } = self;
+    }
 }
 
 impl<const W: usize> Model for Records<W> {

@@ -11,12 +11,22 @@ use std::alloc::Global;
 use std::marker::Model;
 
 /// Which ranks the items of a part may be written as.
-#[derive(Drop)]
 pub struct RankTable {
     kinds: Kinds,
     // For each of the ends of the kinds the ranks between it and the next, where they are kept as sets.
     sets: Vec<StateSet<4>>,
     has_sets: bool,
+}
+
+// Written out, so that it is let go of by a call, and not part by part wherever one is.
+impl Drop for RankTable {
+    fn drop(self) {
+        let RankTable {
+            kinds: _,
+            sets: _,
+            has_sets: _,
+        } = self;
+    }
 }
 
 impl Model for RankTable {

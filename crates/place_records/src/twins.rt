@@ -21,7 +21,6 @@ use std::marker::Model;
 
 /// What places do by the classes of their items and the triples behind them, each once, under numbers. The
 /// first one is that of a place where nothing is done.
-#[derive(Drop)]
 pub(crate) struct Twins<const W: usize> {
     tables: Tables,
     // Whether something is needed, and the states that edges lead into.
@@ -30,6 +29,19 @@ pub(crate) struct Twins<const W: usize> {
     twins: IndexSet<Twin<W>>,
     // For a triple and one of the first classes the number of what a place does, or `NONE`.
     numbers: Vec<u32>,
+}
+
+// Written out, so that it is let go of by a call, and not part by part wherever one is.
+impl<const W: usize> Drop for Twins<W> {
+    fn drop(self) {
+        let Twins {
+            tables: _,
+            needed: _,
+            targets: _,
+            twins: _,
+            numbers: _,
+        } = self;
+    }
 }
 
 impl<const W: usize> Model for Twins<W> {

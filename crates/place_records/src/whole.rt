@@ -12,7 +12,7 @@ ghost use Rattle.place_records.specs.Filled.{AreMade};
 use super::block::{Block, block_of};
 use super::blocks::join_all;
 use super::joining::{Joined, no_blocks};
-use super::making::{Made, is_plain, with_moves, with_table, without_numbers};
+use super::making::{Made, is_plain, with_moves, with_table};
 use super::part_records::Records;
 use mine_model::NoMemory;
 use mining_job::{Bound, Job};
@@ -46,7 +46,7 @@ pub fn records_of_all<R: Threads + Sync, const W: usize>(
     let alphabet = alphabet_of(alloc, job, bound)?;
     let mut sequences = Vec::new(alloc);
     let made = made_by_threads(rt, workers, alloc, job, bound, &alphabet, &mut sequences)?;
-    let kinds = without_numbers(alloc, alphabet.kinds);
+    let kinds = alphabet.kinds.without_numbers(alloc);
     let records = with_table(alloc, Ok(made), kinds, is_plain(bound))?;
     Ok((sequences, records))
 }
@@ -69,7 +69,7 @@ pub fn records_of_all_alone<const W: usize>(
     let Alphabet { kinds, tables } = alphabet_of(alloc, job, bound)?;
     let mut sequences = Vec::new(alloc);
     let made = made_alone(alloc, job, bound, tables, &kinds, &mut sequences)?;
-    let kinds = without_numbers(alloc, kinds);
+    let kinds = kinds.without_numbers(alloc);
     let records = with_table(alloc, Ok(made), kinds, is_plain(bound))?;
     Ok((sequences, records))
 }

@@ -18,7 +18,6 @@ use std::marker::Model;
 
 /// Grids of sequences of a job under one bound: which states can still lead to the end of a sequence at each
 /// place of it, and what may be written there. What was found out for one sequence serves the next ones.
-#[derive(Drop)]
 pub struct Grids<'a> {
     job: &'a Job,
     bound: Bound,
@@ -30,6 +29,22 @@ pub struct Grids<'a> {
     // The number of places up to the end of each grid, and the number of its sequence.
     ends: Vec<usize>,
     sequences: Vec<u32>,
+}
+
+// Written out, so that it is let go of by a call, and not part by part wherever one is.
+impl<'a> Drop for Grids<'a> {
+    fn drop(self) {
+        let Grids {
+            job: _,
+            bound: _,
+            tables: _,
+            kinds: _,
+            scratch: _,
+            places: _,
+            ends: _,
+            sequences: _,
+        } = self;
+    }
 }
 
 impl<'a> Model for Grids<'a> {
@@ -107,14 +122,24 @@ impl<'a> Grids<'a> {
         ensures grids { AreGrids self.entry.problem self.entry.bound result.tables result.kinds
             result.places.items result.ends.items self.entry.sequences }
     {
+        let Grids {
+            job,
+            bound,
+            tables,
+            kinds,
+            scratch: _,
+            places,
+            ends,
+            sequences,
+        } = self;
         GridParts {
-            job: self.job,
-            bound: self.bound,
-            tables: self.tables,
-            kinds: self.kinds,
-            places: self.places,
-            ends: self.ends,
-            sequences: self.sequences,
+            job,
+            bound,
+            tables,
+            kinds,
+            places,
+            ends,
+            sequences,
         }
     }
 

@@ -28,7 +28,6 @@ pub struct Kind {
 /// The kinds of the items met so far, and their outputs as ranks, column by column behind each other.
 ///
 /// From the base of a kind on there is where its outputs begin, and then where those of each column end.
-#[derive(Drop)]
 pub struct Kinds {
     pub columns: Columns,
     // By the number of an item that of its kind, or `NONE`.
@@ -38,6 +37,20 @@ pub struct Kinds {
     pub ranks: Vec<u32>,
     // By a hash of its outputs an item that may have the same ones: no more than a hint.
     pub hints: Vec<u32>,
+}
+
+// Written out, so that it is let go of by a call, and not part by part wherever one is.
+impl Drop for Kinds {
+    fn drop(self) {
+        let Kinds {
+            columns: _,
+            numbers: _,
+            kinds: _,
+            ends: _,
+            ranks: _,
+            hints: _,
+        } = self;
+    }
 }
 
 /// What edges of one label do at an item: whether they read it and write nothing, may write something that is
@@ -51,7 +64,6 @@ pub(crate) struct Act {
 
 /// Room for what is found out of one item: what each column does; the states that it leads into without an
 /// output, with one, and with one that is needed; the outputs at one column, and their ranks.
-#[derive(Drop)]
 pub struct Scratch {
     acts: Vec<Act>,
     pub(crate) silent: Vec<u32>,
@@ -59,6 +71,20 @@ pub struct Scratch {
     pub(crate) needs: Vec<u32>,
     written: Vec<Item>,
     found: Vec<u32>,
+}
+
+// Written out, so that it is let go of by a call, and not part by part wherever one is.
+impl Drop for Scratch {
+    fn drop(self) {
+        let Scratch {
+            acts: _,
+            silent: _,
+            writes: _,
+            needs: _,
+            written: _,
+            found: _,
+        } = self;
+    }
 }
 
 impl Scratch {
@@ -91,6 +117,31 @@ impl Kinds {
             ranks: Vec::new(alloc),
             hints: vec![in alloc; NONE; HINTS]?,
         })
+    }
+
+    /// The same without what only serves to find the kinds of more items.
+    pub fn without_numbers(self, alloc: Global) -> Kinds
+        ensures columns { result.columns ≡ self.entry.columns }
+        ensures kinds { result.kinds ≡ self.entry.kinds }
+        ensures ends { result.ends ≡ self.entry.ends }
+        ensures ranks { result.ranks ≡ self.entry.ranks }
+    {
+        let Kinds {
+            columns,
+            numbers: _,
+            kinds,
+            ends,
+            ranks,
+            hints: _,
+        } = self;
+        Kinds {
+            columns,
+            numbers: Vec::new(alloc),
+            kinds,
+            ends,
+            ranks,
+            hints: Vec::new(alloc),
+        }
     }
 }
 

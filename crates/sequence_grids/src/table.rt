@@ -50,13 +50,24 @@ pub struct Words<'a> {
 const ROW: usize = 256;
 
 /// The classes and the triples met so far, by their numbers, and the steps between triples.
-#[derive(Drop)]
 pub(crate) struct Table<const W: usize> {
     predecessors: Vec<StateSet<W>>,
     classes: IndexSet<Class<W>>,
     triples: IndexSet<Triple<W>>,
     // For a triple and one of the first classes the number of the triple before it.
     steps: Vec<u32>,
+}
+
+// Written out, so that it is let go of by a call, and not part by part wherever one is.
+impl<const W: usize> Drop for Table<W> {
+    fn drop(self) {
+        let Table {
+            predecessors: _,
+            classes: _,
+            triples: _,
+            steps: _,
+        } = self;
+    }
 }
 
 impl<const W: usize> Model for Table<W> {

@@ -13,11 +13,21 @@ use std::alloc::Global;
 use std::marker::Model;
 
 /// The table of the least width that has room for all states.
-#[derive(Drop)]
 enum Width {
     One(Table<1>),
     Four(Table<4>),
     Wide(Table<17>),
+}
+
+// Written out, so that it is let go of by a call, and not part by part wherever one is.
+impl Drop for Width {
+    fn drop(self) {
+        match self {
+            Width::One(_table) => {}
+            Width::Four(_table) => {}
+            Width::Wide(_table) => {}
+        }
+    }
 }
 
 // The call on the table of whatever width.

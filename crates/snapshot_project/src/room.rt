@@ -19,16 +19,21 @@ use walk_memo::Memo;
 
 /// Memos of one width: for prefixes that still lack what is needed, or where nothing is, and for those that
 /// hold it.
-#[derive(Drop)]
 pub(crate) struct Memos<const W: usize> {
     pub(crate) early: Memo<W>,
     pub(crate) late: Memo<W>,
 }
 
+// Written out, so that it is let go of by a call, and not part by part wherever one is.
+impl<const W: usize> Drop for Memos<W> {
+    fn drop(self) {
+        let Memos { early: _, late: _ } = self;
+    }
+}
+
 /// Room that the walks of one worker use again: what was found out about sets of states, what the paths of
 /// one walk write, sums and stands by rank, and what follows behind ranks. It knows the part that was met
 /// last, so that what was found out there is kept while prefixes of that part come.
-#[derive(Drop)]
 pub struct Room<'a> {
     pub(crate) known: Option<Arc<Ground<'a>>>,
     pub(crate) one: Memos<1>,
@@ -39,13 +44,38 @@ pub struct Room<'a> {
     pub(crate) tables: Tables,
 }
 
+// Written out, so that it is let go of by a call, and not part by part wherever one is.
+impl<'a> Drop for Room<'a> {
+    fn drop(self) {
+        let Room {
+            known: _,
+            one: _,
+            four: _,
+            wide: _,
+            few: _,
+            tables: _,
+        } = self;
+    }
+}
+
 /// What depends on no width.
-#[derive(Drop)]
 pub(crate) struct Tables {
     pub(crate) visits: Visits,
     pub(crate) sums: MaskedSums,
     pub(crate) files: Files,
     pub(crate) ahead: Ahead,
+}
+
+// Written out, so that it is let go of by a call, and not part by part wherever one is.
+impl Drop for Tables {
+    fn drop(self) {
+        let Tables {
+            visits: _,
+            sums: _,
+            files: _,
+            ahead: _,
+        } = self;
+    }
 }
 
 impl<'a> Model for Room<'a> {

@@ -11,7 +11,6 @@ use std::sync::Arc;
 /// What is kept of a prefix in a part: whether it holds what is needed, what it weighs by itself, and where
 /// its paths stand from which more can be written; or, in place of these, what follows it. The stands of the
 /// kids of one node are one list, of which each has its own piece.
-#[derive(Drop)]
 pub struct Snapshots {
     seen: bool,
     support: u64,
@@ -20,6 +19,20 @@ pub struct Snapshots {
     last: usize,
     // The ranks that follow, where these are known.
     next: Option<Vec<NextOf>>,
+}
+
+// Written out, so that it is let go of by a call, and not part by part wherever one is.
+impl Drop for Snapshots {
+    fn drop(self) {
+        let Snapshots {
+            seen: _,
+            support: _,
+            run: _,
+            first: _,
+            last: _,
+            next: _,
+        } = self;
+    }
 }
 
 impl Model for Snapshots {

@@ -21,11 +21,21 @@ pub(crate) struct Terrain<const W: usize> {
 }
 
 /// The terrain in sets of the least width that has room for all states.
-#[derive(Drop)]
 pub(crate) enum AnyTerrain {
     One(Terrain<1>),
     Four(Terrain<4>),
     Wide(Terrain<17>),
+}
+
+// Written out, so that it is let go of by a call, and not part by part wherever one is.
+impl Drop for AnyTerrain {
+    fn drop(self) {
+        match self {
+            AnyTerrain::One(_over) => {}
+            AnyTerrain::Four(_over) => {}
+            AnyTerrain::Wide(_over) => {}
+        }
+    }
 }
 
 /// The terrain of these grids.

@@ -18,7 +18,6 @@ use std::marker::Model;
 
 /// A worker's room for stands by rank. A contract sees up to which rank there is room, and what is filed of
 /// each rank. The stands of all ranks lie in one run, those of each at its own places.
-#[derive(Drop)]
 pub struct Files {
     // Where the shelf of each rank is. It counts only where that shelf has the rank, so none is cleared.
     places: Vec<u32>,
@@ -27,6 +26,18 @@ pub struct Files {
     // Whether the last run that was begun came to hold a stand that does not fit into four bytes: the next
     // one will most likely, too.
     wide: bool,
+}
+
+// Written out, so that it is let go of by a call, and not part by part wherever one is.
+impl Drop for Files {
+    fn drop(self) {
+        let Files {
+            places: _,
+            shelves: _,
+            run: _,
+            wide: _,
+        } = self;
+    }
 }
 
 impl Model for Files {

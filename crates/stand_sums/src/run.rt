@@ -11,11 +11,21 @@ use std::marker::Model;
 
 /// The stands of many prefixes, of which each has its own piece. Each takes four bytes where all fit into so
 /// many, and eight else.
-#[derive(Drop)]
 pub struct Run {
     narrow: bool,
     codes: Vec<u32>,
     rest: Vec<Stand>,
+}
+
+// Written out, so that it is let go of by a call, and not part by part wherever one is.
+impl Drop for Run {
+    fn drop(self) {
+        let Run {
+            narrow: _,
+            codes: _,
+            rest: _,
+        } = self;
+    }
 }
 
 impl Model for Run {

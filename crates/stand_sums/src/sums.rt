@@ -17,11 +17,21 @@ use std::marker::Model;
 
 /// A worker's room for sums by rank. A contract sees what is summed up of each rank. Which ranks were met is
 /// known, so clearing takes no longer than counting did.
-#[derive(Drop)]
 pub struct Sums {
     sums: Vec<Sum>,
     touched: Vec<u32>,
     number: u32,
+}
+
+// Written out, so that it is let go of by a call, and not part by part wherever one is.
+impl Drop for Sums {
+    fn drop(self) {
+        let Sums {
+            sums: _,
+            touched: _,
+            number: _,
+        } = self;
+    }
 }
 
 impl Model for Sums {

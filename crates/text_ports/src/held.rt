@@ -9,7 +9,6 @@ pub struct MemFile {
 }
 
 /// Files that are held in memory, one of which may be open. A read gives at most `cut` bytes.
-#[derive(Drop)]
 pub(crate) struct Held {
     pub(crate) files: Vec<MemFile>,
     cut: usize,
@@ -17,6 +16,18 @@ pub(crate) struct Held {
     pub(crate) at: usize,
     ghost cut_takes: { 0 < cut },
     ghost at_within: { at ≤ length (bytes_at files.items place) },
+}
+
+// Written out, so that it is let go of by a call, and not part by part wherever one is.
+impl Drop for Held {
+    fn drop(self) {
+        let Held {
+            files: _,
+            cut: _,
+            place: _,
+            at: _,
+        } = self;
+    }
 }
 
 impl Held {

@@ -8,7 +8,6 @@ use std::alloc::Global;
 
 /// A sink that holds what was written to it, and tells it. It makes short writes, it is full at last, and it
 /// fails where it is told to.
-#[derive(Drop)]
 pub struct MemSink {
     held: Vec<u8>,
     room: usize,
@@ -17,6 +16,18 @@ pub struct MemSink {
     ghost cut_takes: { 0 < cut },
     ghost held_fits: { vec_len held ≤ room },
     ghost room_taken: { room ≤ vec_capacity held },
+}
+
+// Written out, so that it is let go of by a call, and not part by part wherever one is.
+impl Drop for MemSink {
+    fn drop(self) {
+        let MemSink {
+            held: _,
+            room: _,
+            cut: _,
+            calls: _,
+        } = self;
+    }
 }
 
 impl MemSink {

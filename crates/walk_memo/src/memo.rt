@@ -30,7 +30,6 @@ const MOST_CELLS: usize = 1 << 20;
 /// A memo that is full is begun again where a set or a step that is new comes: numbers from before are then
 /// void, but what that very call answers is a number of the new memo. So a walk needs to hold no more than
 /// its present number.
-#[derive(Drop)]
 pub struct Memo<const W: usize> {
     rows: Vec<StateSet<W>>,
     moves: Vec<Move<W>>,
@@ -39,6 +38,21 @@ pub struct Memo<const W: usize> {
     actions: Vec<Action>,
     steps: Cells<Step>,
     joins: Cells<u32>,
+}
+
+// Written out, so that it is let go of by a call, and not part by part wherever one is.
+impl<const W: usize> Drop for Memo<W> {
+    fn drop(self) {
+        let Memo {
+            rows: _,
+            moves: _,
+            most_sets: _,
+            sets: _,
+            actions: _,
+            steps: _,
+            joins: _,
+        } = self;
+    }
 }
 
 impl<const W: usize> Model for Memo<W> {
