@@ -5,22 +5,12 @@ ghost use Rattle.count_shards.specs.Blocks.{block_count};
 ghost use Rattle.count_shards.specs.Shards.{AreShardsOf, ArePassesOf};
 ghost use Rattle.count_engine.specs.Shares.{share_of, made_by, HasBlockPairs};
 
-use count_shards::{BlockCounts, Shard, Shards};
+use count_shards::{BlockCounts, Shard, Shards, block_count};
 use mine_model::{Gate, NoMemory};
 use mining_job::Job;
 use std::alloc::Global;
 use std::sync::Wait;
 use turn_lock::Pass;
-
-/// How many sequences a block has.
-const BLOCK: u32 = 256;
-
-/// How many blocks the sequences of the job make.
-fn block_count(job: &Job) -> u32
-    ensures { result ≡ block_count job.now }
-{
-    job.db().sequences().div_ceil(BLOCK)
-}
 
 /// One worker's whole run. Its blocks are those whose numbers, divided by the number of workers, leave its
 /// own. It takes them in order, and passes the gate before each. Answers how many pairs there are of a

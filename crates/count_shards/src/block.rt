@@ -1,6 +1,6 @@
 ghost use Rattle.std.specs.Prelude.{◌≡◌, ◌≢◌, ℕ, ◌+◌, ◌*◌, ◌^◌, ◌<◌, ◌≤◌, List, length, All, AllPairs, IfOk, OnOk};
 ghost use Rattle.pattern_counts.specs.Tally.{no_lists};
-ghost use Rattle.count_shards.specs.Blocks.{block_size, home_count, home_of, sequences_in, tally_of, AreCountsOf};
+ghost use Rattle.count_shards.specs.Blocks.{block_size, block_count, home_count, home_of, sequences_in, tally_of, AreCountsOf};
 ghost use Rattle.count_shards.specs.Tallied.{sum_at, AddsEach, HasCounted};
 
 use candidate_gen::CandidateList;
@@ -115,6 +115,13 @@ impl<'a> BlockCounts<'a> {
     {
         &self.homes[home]
     }
+}
+
+/// How many blocks the sequences of the job make.
+pub fn block_count(job: &Job) -> u32
+    ensures { result ≡ block_count job.now }
+{
+    job.db().sequences().div_ceil(BLOCK)
 }
 
 /// The counts of a block.

@@ -7,6 +7,6 @@ mod rows;
 mod shard;
 mod shards;
 
-pub use block::{BlockCounts, count_block};
+pub use block::{BlockCounts, block_count, count_block};
 pub use shard::Shard;
 pub use shards::Shards;
