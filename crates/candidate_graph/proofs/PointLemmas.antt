@@ -18,11 +18,9 @@ use Rattle.stand_sums.specs.Writings.{Ranks, IsReadable, opens}
 use Rattle.stand_sums.specs.Files.{stand_at, stands_at, stands_in}
 use Rattle.candidate_graph.specs.Courses.{IsLower, IsMarked, AreStandsOn, IsGround}
 use Rattle.candidate_graph.proofs.BasicLemmas.{all-from, get-from, pairs-mapped}
+use Rattle.stand_sums.proofs.GroupLemmas.{plain-at}
 
 -- ---- the stands behind visits
-
-plain-at : (visits : List Visit) (k : ℕ) (stand : Stand) → slice_get (map (stand_at false) visits) k ≡ Some stand → stand.first ≡ false
-plain-at visits k stand at = let (visit, there, is) = get-from (stand_at false) visits k stand at in ap (λ (s : Stand). s.first) is
 
 pub at-marked : (visits : List Visit) → IsMarked (stands_at visits)
 at-marked [] k stand at = absurd (cc)

@@ -30,6 +30,12 @@ HasEdge nodes number rank edge =
     (node : Node) × (edges : List Edge) × (slice_get nodes number ≡ Some node) × (node.edges ≡ Some edges)
     × Contains edges edge × (edge.rank ≡ rank)
 
+-- the ranks are those of a path of the graph from one node to the other
+abbrev pub Reaches : List Node → ℕ → List ℕ → ℕ → Type 0
+Reaches nodes from [] to = from ≡ to
+Reaches nodes from (rank ∷ rest) to =
+    (edge : Edge) × HasEdge nodes from rank edge × Reaches nodes edge.next rest to
+
 -- the ranks are those of a path of the graph from the node, with which it can end
 abbrev pub Accepts : List Node → ℕ → List ℕ → Type 0
 Accepts nodes number [] = ⊥

@@ -18,6 +18,7 @@ use Rattle.place_walk.proofs.GroupLemmas.{group-is, behind-is}
 use Rattle.stand_sums.specs.Writings.{Ranks, opens}
 use Rattle.stand_sums.specs.Files.{stand_at, stands_at, stands_in, stands_of}
 use Rattle.mask_sums.specs.Kept.{free}
+use Rattle.stand_sums.proofs.GroupLemmas.{plain-at}
 
 -- ---- stands that differ in their marks
 
@@ -67,12 +68,7 @@ stand-behind (first ∷ visits) visit held = elim (Contains-cases first visits v
 
 -- ---- groups
 
-plain-at : (visits : List Visit) (k : ℕ) (stand : Stand) → slice_get (map (stand_at false) visits) k ≡ Some stand → stand.first ≡ false
-plain-at [] k stand at = absurd (cc)
-plain-at (visit ∷ visits) zero stand at = ap (λ (s : Stand). s.first) (sym (same_Some (stand_at false visit) stand at))
-plain-at (visit ∷ visits) (suc k) stand at = plain-at visits k stand at
-
-group-at : (visit : Visit) (visits : List Visit) → IsGroup (stands_at (visit ∷ visits))
+pub group-at : (visit : Visit) (visits : List Visit) → IsGroup (stands_at (visit ∷ visits))
 group-at visit visits = record { some = omega arith; marked = marked }
   where
     marked : (k : ℕ) (stand : Stand) → slice_get (stands_at (visit ∷ visits)) k ≡ Some stand → IsTrue stand.first ↔ (k ≡ 0)

@@ -37,7 +37,7 @@ among-from rank (one ∷ ranks) is = elim (cases_eq one rank) [
       (among-from rank ranks (sym (ap (λ (b : Bool). b || list_any (λ other. other == rank) ranks) (ne_eqb one rank other)) ∙ is))
 ]
 
-among-to : (rank : ℕ) (ranks : List ℕ) → Contains ranks rank → list_any (λ other. other == rank) ranks ≡ true
+pub among-to : (rank : ℕ) (ranks : List ℕ) → Contains ranks rank → list_any (λ other. other == rank) ranks ≡ true
 among-to rank [] held = absurd (Contains-none rank held)
 among-to rank (one ∷ ranks) held = elim (cases_eq one rank) [
   | inl same ↦ rw (eq-eqb one rank same) refl

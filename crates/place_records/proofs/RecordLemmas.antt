@@ -15,7 +15,7 @@ use Rattle.sequence_grids.specs.Grids.{Completes}
 use Rattle.sequence_grids.specs.Kinds.{IsClassFor, IsTarget, HasKind}
 use Rattle.sequence_grids.specs.Tables.{ClassSets, TripleSets, TableValue, completing}
 use Rattle.sequence_grids.specs.Places.{IsTripleOf, HasTriple, IsPlaceAt, ArePlaces}
-use Rattle.sequence_grids.proofs.GridLemmas.{completes_by}
+use Rattle.sequence_grids.proofs.GridLemmas.{completes_by, both_ways}
 use Rattle.walk_memo.specs.Moves.{MoveSets}
 use Rattle.place_records.specs.Records.{IsMoveAt, goes_with}
 use Rattle.place_records.specs.Twins.{IsMoveOf, IsTwinOf}
@@ -24,9 +24,6 @@ use Rattle.place_records.specs.Filled.{IsRecordBy}
 
 both_parts : {A B C D : Type 0} → A ↔ C → B ↔ D → (A × B) ↔ (C × D)
 both_parts first second = ((λ h. (first.0 h.0, second.0 h.1)), (λ h. (first.1 h.0, second.1 h.1)))
-
-through : {A B C : Type 0} → A ↔ B → B ↔ C → A ↔ C
-through first second = ((λ a. second.0 (first.0 a)), (λ c. first.1 (second.1 c)))
 
 -- what is so where a state is written into
 where_written : {W M B C : Type 0} → M ↔ (W × B) → B ↔ C → W → M ↔ C
@@ -39,8 +36,8 @@ pub move_at : (problem : Problem) (bound : Bound) (t : Item) (rest : List Item) 
 move_at problem bound t rest class triple needed goes move k of_class of_triple same target is =
     let completes : (seen : Bool) → Has (completing triple seen) k ↔ Completes problem bound rest k seen = λ seen. completes_by problem bound rest triple of_triple seen k target.1 in
     record {
-      silent = through is.silent (both_parts (of_class.silent k target) (completes goes));
-      writes = through is.writes (both_parts (of_class.writes k target) (completes true));
+      silent = both_ways is.silent (both_parts (of_class.silent k target) (completes goes));
+      writes = both_ways is.writes (both_parts (of_class.writes k target) (completes true));
       more = where_written is.more (rw same (completes (goes_with bound.need)));
       unseen = where_written is.unseen (completes false);
       ends = where_written is.ends (of_triple.ends k target.1);
@@ -150,4 +147,4 @@ module _ (problem : Problem) (bound : Bound) (table : TableValue) (kinds : Kinds
       → (IsTrue answer ↔ Has (completing t false) 0)) → IsTrue answer ↔ Completes problem bound items 0 false
   first_completes place found answer answers =
       let (triple, there, is) = first_is place found in
-      through (answers triple there) (completes_by problem bound items triple is false 0 (omega arith))
+      both_ways (answers triple there) (completes_by problem bound items triple is false 0 (omega arith))

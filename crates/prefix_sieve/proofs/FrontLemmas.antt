@@ -11,21 +11,19 @@ use Rattle.mine_model.specs.Support.{Sequence}
 use Rattle.mine_model.proofs.ListLemmas.{Contains-first, Contains-cases, Contains-none, last-cases}
 use Rattle.candidate_graph.specs.declared.edge.Edge.{Edge}
 use Rattle.candidate_graph.specs.Graphs.{Node, IsExpanded, Grows}
-use Rattle.candidate_graph.specs.Paths.{HasEdge}
+use Rattle.candidate_graph.specs.Paths.{HasEdge, Reaches}
 use Rattle.prefix_sieve.specs.declared.fronts.Front.{Front}
 use Rattle.prefix_sieve.specs.Buckets.{capped, sum_of}
 use Rattle.prefix_sieve.specs.Hashes.{start, mixed, hash_of}
 use Rattle.prefix_sieve.specs.Sieves.{HasCandidate, HasBehind, lets_pass, PassesAll, HasRaised}
-use Rattle.prefix_sieve.specs.Fronts.{Reaches, IsPassed, LeadsToAll, root_front, front_behind, IsAdded, AreAdded, IsGone, AreWithin, HasGone, AreGone, AreFronts, AreRaised, HasRaisedBehind, HaveRaised}
+use Rattle.prefix_sieve.specs.Fronts.{IsPassed, LeadsToAll, root_front, front_behind, IsAdded, AreAdded, IsGone, AreWithin, HasGone, AreGone, AreFronts, AreRaised, HasRaisedBehind, HaveRaised}
 use Rattle.prefix_sieve.proofs.HashLemmas.{mixed_behind}
+use Rattle.mine_model.proofs.ElementLemmas.{get-held}
 
 -- Places in lists
 
 at_place : {X : Type 0} (xs : List X) (x : X) → Contains xs x → (k : ℕ) × (k < length xs) × (slice_get xs k ≡ Some x)
 at_place xs x (k, below, is) = (k, below, slice_get-get_or xs k x below ∙ ap (λ y. Some y) is)
-
-pub held_at : {X : Type 0} (xs : List X) (k : ℕ) (x : X) → slice_get xs k ≡ Some x → Contains xs x
-held_at xs k x at = (k, slice_get_within xs k x at, get_or_from_slice_get xs k x x at)
 
 -- the next place, or one before it
 last_or_before : (k count : ℕ) → k < count + 1 → (k < count) ⊎ (k ≡ count)
@@ -124,7 +122,7 @@ module _ (level : Option (List Bool)) (front : Front) (edges : List Edge) where
     keeps = λ other held. one.keeps other (so_far.keeps other held);
     others = λ other held. elim (one.others other held) [
       | inl old ↦ so_far.others other old
-      | inr same ↦ inr (edge, held_at edges count edge at, same)
+      | inr same ↦ inr (edge, get-held edges count edge at, same)
     ];
     here = λ k other below there passes. elim (last_or_before k count below) [
       | inl less ↦ one.keeps (front_behind front other) (so_far.here k other less there passes)

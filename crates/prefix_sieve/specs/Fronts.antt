@@ -4,19 +4,13 @@ use Rattle.mine_model.specs.declared.item.Item.{Item}
 use Rattle.mine_model.specs.Answer.{Data}
 use Rattle.candidate_graph.specs.declared.edge.Edge.{Edge}
 use Rattle.candidate_graph.specs.Graphs.{Node, IsExpanded}
-use Rattle.candidate_graph.specs.Paths.{HasEdge}
+use Rattle.candidate_graph.specs.Paths.{HasEdge, Reaches}
 use Rattle.prefix_sieve.specs.declared.fronts.Front.{Front}
 use Rattle.prefix_sieve.specs.Buckets.{capped, sum_of}
 use Rattle.prefix_sieve.specs.Hashes.{start, mixed, hash_of}
 use Rattle.prefix_sieve.specs.Sieves.{HasBehind, lets_pass, PassesAll}
 
 -- ---- the promise
-
--- the ranks are those of a path of the graph from one node to the other
-abbrev pub Reaches : List Node → ℕ → List ℕ → ℕ → Type 0
-Reaches nodes from [] to = from ≡ to
-Reaches nodes from (rank ∷ rest) to =
-    (edge : Edge) × HasEdge nodes from rank edge × Reaches nodes edge.next rest to
 
 -- The edges of each prefix are known all of whose prefixes passed, and that has as many ranks as there are
 -- levels or fewer. No sum is less than before; and where the prefix has as many ranks, each of its edges had

@@ -22,9 +22,7 @@ use Rattle.search_tree.proofs.PivotLemmas.{pivot-same, place_of}
 use Rattle.search_tree.proofs.SearchAnswerLemmas.{frequent-ranks}
 use Rattle.search_tree.proofs.SearchTreeLemmas.{IsAliveLabel-shorter, IsRowOf-same, search-members, search-once}
 use Rattle.search_engine.specs.Partition.{AreAlivePivots, HasPivotAmong, IsPartsWork, IsPartitionWork}
-
-rising-apart : (pivots : List ℕ) → AllPairs (λ low high. low < high) pivots → AllPairs (λ p q. p ≢ q) pivots
-rising-apart pivots rising i j e less inside = λ same. absurd (omega (arith, rising i j e less inside, same))
+use Rattle.sequence_grids.proofs.KindLemmas.{once_by_rising}
 
 -- one root for each pivot
 roots-long : (d : Data Item) (order : List Item) (some : List ℕ) (roots : List (List ℕ)) → AreRootsOf d order some roots
@@ -40,7 +38,7 @@ module _ (d : Data Item) (ranking : Ranking) (are : AreRanks d.links d.sequences
     (each : (pivot : ℕ) → Contains pivots pivot → (1 ≤ pivot) × IsAliveLabel d ranking.order pivot [])
     (tree : SearchTree) (is : IsSearchTree d ranking.order pivots tree) (labels : List (List ℕ)) (covers : Covers tree.roots tree.kids labels) where
   apart : AllPairs (λ first second. first ≢ second) labels
-  apart = once-apart labels (search-once d ranking.order pivots tree is (rising-apart pivots rising) labels covers)
+  apart = once-apart labels (search-once d ranking.order pivots tree is (once_by_rising pivots rising) labels covers)
 
   row_of : (label : List ℕ) (row : Row) → Contains labels label → tree.row label ≡ Some row
       → (pivot : ℕ) × (ranks : List ℕ) × Contains pivots pivot × (label ≡ label_of pivot ranks) × IsRowAt d ranking.order pivot ranks row

@@ -9,10 +9,10 @@ use Rattle.stand_sums.specs.Writings.{Ranks}
 use Rattle.candidate_graph.specs.declared.edge.Edge.{Edge}
 use Rattle.candidate_graph.specs.Courses.{Courses}
 use Rattle.candidate_graph.specs.Graphs.{Standpoint, Node, points_of, aim_at, point_behind, IsGraph}
-use Rattle.candidate_graph.specs.Paths.{CanWrite}
+use Rattle.candidate_graph.specs.Paths.{CanWrite, Reaches}
 use Rattle.candidate_graph.proofs.PathLemmas.{one-edge}
 use Rattle.snapshot_project.specs.Extensions.{GeneratesWithin}
-use Rattle.sequence_candidates.specs.Candidates.{Reaches, AreCandidates}
+use Rattle.sequence_candidates.specs.Candidates.{AreCandidates}
 
 -- what is written from a node, by its edges
 abbrev pub EdgeByEdge : Courses → Ranks → Option ℕ → List Node → Type 0

@@ -38,21 +38,17 @@ use Rattle.snapshot_project.specs.Snapshots.{IsPart}
 use Rattle.snapshot_project.proofs.LiveLemmas.{cut-rest}
 use Rattle.snapshot_project.proofs.ListedLemmas.{goes-unseen}
 use Rattle.snapshot_project.proofs.StartLemmas.{place-once}
-use Rattle.snapshot_project.proofs.VisitLemmas.{among-held, held-among, has-decided}
+use Rattle.snapshot_project.proofs.VisitLemmas.{among-held, has-decided, goes-on_seen}
 use Rattle.snapshot_project.proofs.VisitPlaceLemmas.{met-at}
 use Rattle.sequence_candidates.specs.Writings.{WritesRanks, WritesFrom, AreWrittenFrom}
 use Rattle.sequence_candidates.specs.Terrains.{courses_over}
 use Rattle.sequence_candidates.proofs.WriteLemmas.{silent-writes, rank-writes, ends-writes, writes-ends, writes-completes, seen-completes, none-writes, writes-first}
 use Rattle.sequence_candidates.proofs.PlaceLemmas.{dead-before, row-leads, visit-taken}
-
--- the marks of an action are two, by whether what is needed was seen
-goes-seen : (need : Option ℕ) → goes true need ≡ goes_with need
-goes-seen None = refl
-goes-seen (Some need) = refl
+use Rattle.mask_sums.proofs.SetLemmas.{among-to}
 
 pub marks-say : (A : Bool → Type 0) (need : Option ℕ) (action : Action) → IsTrue action.more ↔ A (goes_with need) → IsTrue action.unseen ↔ A false
     → (b : Bool) → IsTrue (if b then action.more else action.unseen) ↔ A (goes b need)
-marks-say A need action more unseen true = subst (λ (b : Bool). IsTrue action.more ↔ A b) (sym (goes-seen need)) more
+marks-say A need action more unseen true = subst (λ (b : Bool). IsTrue action.more ↔ A b) (sym (goes-on_seen need)) more
 marks-say A need action more unseen false = subst (λ (b : Bool). IsTrue action.unseen ↔ A b) (sym (goes-unseen need)) unseen
 
 module _ (part : GridList) (is : IsPart part) (width : ℕ) (rows : List ℕ) (rows_are : AreSuccessors width part.problem.machine rows) (value : RecordsValue)
@@ -258,7 +254,7 @@ module _ (part : GridList) (is : IsPart part) (width : ℕ) (rows : List ℕ) (r
                   };
                   place_is = refl;
                   state_is = refl;
-                  writes_it = held-among rank (ranks met.entry.kind next) (((met.ranks_are next target).exact rank).1 writes_rank);
+                  writes_it = among-to rank (ranks met.entry.kind next) (((met.ranks_are next target).exact rank).1 writes_rank);
                   on = marks-say (λ b. Completes part.problem part.bound left next b) need action
                       (both_ways more_is (does.more has)) (both_ways unseen_is (does.unseen has)) sees;
                   over = both_ways ending_is (does.ends has);

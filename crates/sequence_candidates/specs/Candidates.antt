@@ -15,12 +15,6 @@ pub record CandidatesValue : Type 0 where
   pub begun : Option ℕ
   pub nodes : List Node
 
--- the ranks are those of a path of the graph from one node to the other
-abbrev pub Reaches : List Node → ℕ → List ℕ → ℕ → Type 0
-Reaches nodes from [] to = from ≡ to
-Reaches nodes from (rank ∷ rest) to =
-    (edge : Edge) × HasEdge nodes from rank edge × Reaches nodes edge.next rest to
-
 -- some ranks are written from where the paths of the node stand
 abbrev pub CanGoOn : Courses → Ranks → Option ℕ → List Node → ℕ → Type 0
 CanGoOn courses ranks need nodes number =

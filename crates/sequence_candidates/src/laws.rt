@@ -5,9 +5,9 @@ ghost use Rattle.mine_model.specs.declared.item.Item.{Item};
 ghost use Rattle.sequence_grids.specs.Grids.{GridList};
 ghost use Rattle.candidate_graph.specs.declared.edge.Edge.{Edge};
 ghost use Rattle.candidate_graph.specs.Graphs.{Node, IsWhole};
-ghost use Rattle.candidate_graph.specs.Paths.{HasEdge, Accepts};
+ghost use Rattle.candidate_graph.specs.Paths.{HasEdge, Accepts, Reaches};
 ghost use Rattle.snapshot_project.specs.Extensions.{GeneratesWithin};
-ghost use Rattle.sequence_candidates.specs.Candidates.{Reaches, AreCandidates};
+ghost use Rattle.sequence_candidates.specs.Candidates.{AreCandidates};
 
 use candidate_graph::{candidates_are_the_paths, ranks_are_written_edge_by_edge};
 

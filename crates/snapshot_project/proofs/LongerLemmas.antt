@@ -30,6 +30,7 @@ use Rattle.snapshot_project.specs.Grouped.{IsGroupIn, AreGroupsIn, AreAllGrids}
 use Rattle.snapshot_project.proofs.GroupLemmas.{group-in}
 use Rattle.snapshot_project.proofs.ListedLemmas.{writes-listed, snapshots-longer}
 use Rattle.snapshot_project.proofs.UniqueLemmas.{pairs-map}
+use Rattle.level_ahead.proofs.StandLemmas.{group-at}
 
 -- what a prefix asks of what is written behind it
 abbrev pub aim_of : GridList → Bool → Aim
@@ -64,21 +65,6 @@ snapshots_along part seen ranks rank (grid ∷ grids) (visits ∷ sequences) =
     snapshots_in part seen ranks rank grid visits ++ snapshots_along part seen ranks rank grids sequences
 
 -- ---- marks of stands
-
-plain-at : (visits : List Visit) (k : ℕ) (stand : Stand) → slice_get (map (stand_at false) visits) k ≡ Some stand → stand.first ≡ false
-plain-at [] k stand at = absurd (cc)
-plain-at (visit ∷ visits) zero stand at = ap (λ (s : Stand). s.first) (sym (same_Some (stand_at false visit) stand at))
-plain-at (visit ∷ visits) (suc k) stand at = plain-at visits k stand at
-
--- some stands, the first marked
-stands-group : (visit : Visit) (visits : List Visit) → IsGroup (stands_at (visit ∷ visits))
-stands-group visit visits = record { some = omega arith; marked = marks }
-  where
-    marks : (k : ℕ) (stand : Stand) → slice_get (stands_at (visit ∷ visits)) k ≡ Some stand → IsTrue stand.first ↔ (k ≡ 0)
-    marks zero stand at = ((λ marked. refl), (λ none. ap (λ (s : Stand). s.first) (sym (same_Some (stand_at true visit) stand at))))
-    marks (suc k) stand at =
-        let plain = plain-at visits k stand at in
-        ((λ marked. absurd (true≢false (sym marked ∙ plain))), (λ none. absurd (let no' : suc k ≡ 0 = none in omega arith)))
 
 module _ (part : GridList) (prefix : List Item) (seen : Bool) (ranks : Ranks) (rank : ℕ) where
   -- the prefix with the rank opens there
@@ -137,7 +123,7 @@ module _ (part : GridList) (prefix : List Item) (seen : Bool) (ranks : Ranks) (r
     in-group : (visit : Visit) (some : List Visit) → ((one : Visit) → Contains (visit ∷ some) one → Contains visits one)
         → IsGroupOf part grid (map (snapshot_at part grid) (visit ∷ some)) (stands_at (visit ∷ some))
     in-group visit some all = record {
-      marked = stands-group visit some;
+      marked = group-at visit some;
       are = (
         stand-one true visit (all visit (Contains-first visit some)),
         stands-plain some (λ other held. all other (Contains-other visit some other held)),

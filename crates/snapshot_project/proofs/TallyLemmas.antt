@@ -10,25 +10,6 @@ use Rattle.stand_sums.specs.Sequences.{HasOne, weighed, all_weighed}
 use Rattle.stand_sums.specs.Sums.{Tally, empty_tally, Grows, stands_among, AreCounted}
 use Rattle.stand_sums.proofs.PartLemmas.{grows-more}
 
--- what was counted in one walk and in the next was counted in both
-pub counted-both : (ranks : Ranks) (aim : Aim) (weights : List ℕ) (rank : ℕ) (visits more : List Visit) (sequences others : List (List Visit))
-    (before between after : Tally) → AreCounted ranks aim weights rank visits sequences before between
-    → AreCounted ranks aim weights rank more others between after → AreCounted ranks aim weights rank (visits ++ more) (sequences ++ others) before after
-counted-both ranks aim weights rank visits more sequences others before between after one other =
-    let both : (test : Visit → Bool) (from mid to : ℕ) → Grows test (all_weighed weights sequences) from mid
-    → Grows test (all_weighed weights others) mid to → Grows test (all_weighed weights (sequences ++ others)) from to = λ test from mid to first second.
-    subst (λ (l : List (Sequence Visit)). Grows test l from to) (sym (map-append (weighed weights) sequences others))
-    (grows-more test (all_weighed weights sequences) (all_weighed weights others) from mid to first second) in
-    let kept : List Visit → List Visit = filter (opens ranks aim rank) in
-    let sum : stands_among ranks aim rank (visits ++ more) ≡ stands_among ranks aim rank visits + stands_among ranks aim rank more =
-    ap length (filter-append (opens ranks aim rank) visits more) ∙ length-append (kept visits) (kept more) in
-    record {
-      weight = both (follows ranks aim rank) before.weight between.weight after.weight one.weight other.weight;
-      support = both (ends ranks aim rank) before.support between.support after.support one.support other.support;
-      longer = both (opens ranks aim rank) before.longer between.longer after.longer one.longer other.longer;
-      stands = (let first = one.stands in let second = other.stands in omega arith);
-    }
-
 -- nothing was counted yet
 pub counted-none : (ranks : Ranks) (aim : Aim) (weights : List ℕ) (rank : ℕ) (tally : Tally) → AreCounted ranks aim weights rank [] [] tally tally
 counted-none ranks aim weights rank tally = record {

@@ -23,6 +23,7 @@ use Rattle.snapshot_project.specs.Live.{IsLive, HoldsNeededWith, WritesNext, End
 use Rattle.snapshot_project.proofs.NeedLemmas.{completes-with}
 use Rattle.snapshot_project.proofs.WalkLemmas.{sees-tells}
 use Rattle.snapshot_project.proofs.ListedLemmas.{goes-unseen}
+use Rattle.mask_sums.proofs.SetLemmas.{among-to}
 
 -- ---- tests
 
@@ -32,13 +33,6 @@ among-held rank [] any = absurd (cc)
 among-held rank (first ∷ ranks) any = elim (or_cases (first == rank) (list_any (λ other. other == rank) ranks) any) [
   | inl same ↦ subst (Contains (first ∷ ranks)) ((Decides-eqb first rank).0 same) (Contains-first first ranks)
   | inr there ↦ Contains-other first ranks rank (among-held rank ranks there)
-]
-
-pub held-among : (rank : ℕ) (ranks : List ℕ) → Contains ranks rank → list_any (λ other. other == rank) ranks ≡ true
-held-among rank [] held = absurd (Contains-none rank held)
-held-among rank (first ∷ ranks) held = elim (Contains-cases first ranks rank held) [
-  | inl same ↦ or_left (first == rank) (list_any (λ other. other == rank) ranks) ((Decides-eqb first rank).1 (sym same))
-  | inr there ↦ or_right (first == rank) (list_any (λ other. other == rank) ranks) (held-among rank ranks there)
 ]
 
 -- whether a state is in a set is decided
@@ -52,7 +46,7 @@ sees-same seen None rank = refl
 sees-same seen (Some need) rank = refl
 
 -- and of how a path goes on once it was seen
-goes-on_seen : (need : Option ℕ) → goes true need ≡ goes_with need
+pub goes-on_seen : (need : Option ℕ) → goes true need ≡ goes_with need
 goes-on_seen None = refl
 goes-on_seen (Some need) = refl
 
@@ -116,7 +110,7 @@ module _ (part : GridList) (prefix : List Item) (grid : ℕ) (ranks : Ranks) (Ca
       writes-is : IsTrue (writes ranks rank visit) ↔ WritesRank part.problem part.bound read.t visit.action.state rank
       writes-is = (
         (λ among. (read.ranks_are.exact rank).0 (among-held rank (ranks visit.kind visit.action.state) among)),
-        (λ writes_it. held-among rank (ranks visit.kind visit.action.state) ((read.ranks_are.exact rank).1 writes_it)),
+        (λ writes_it. among-to rank (ranks visit.kind visit.action.state) ((read.ranks_are.exact rank).1 writes_it)),
       )
 
       tells : IsTrue (sees_with seen part.bound.need rank) ↔ HoldsNeededWith part.problem part.bound prefix rank

@@ -28,10 +28,10 @@ use Rattle.snapshot_project.specs.Founds.{IsReady, course_over, AreWalked, AreSu
 use Rattle.snapshot_project.specs.Longer.{HaveAllPlaces}
 use Rattle.snapshot_project.proofs.GroupLemmas.{zip-both, stands-cut}
 use Rattle.snapshot_project.proofs.StandLemmas.{stands-placed, stands-in-states, stands-ordered, moves-known}
-use Rattle.snapshot_project.proofs.TallyLemmas.{counted-both}
 use Rattle.snapshot_project.proofs.RoomLemmas.{sequences-append, all-behind, all-none, files-room}
 use Rattle.snapshot_project.proofs.UniqueLemmas.{sequences-unique, sequences-cut}
 use Rattle.snapshot_project.proofs.VisitNextLemmas.{all-readable}
+use Rattle.mask_sums.proofs.RunLemmas.{counts-more}
 
 -- ---- groups
 
@@ -159,7 +159,7 @@ summed-more course ranks aim weights groups left further before after summed lon
       tallied = λ rank tally at.
           let inside : rank < length after = slice_get_within after rank tally at in
           let (old, old_at) = get-some before rank (omega arith) in
-          counted-both ranks aim weights rank summed.visits visits first.sequences next.sequences empty_tally old tally
+          counts-more ranks aim weights rank summed.visits visits first.sequences next.sequences empty_tally old tally
           (summed.tallied rank old old_at) (counted next.sequences next.cut_are rank old tally old_at at);
     }
 

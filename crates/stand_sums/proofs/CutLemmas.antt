@@ -7,32 +7,9 @@ use Rattle.mine_model.proofs.ElementLemmas.{get-some}
 use Rattle.place_walk.specs.declared.visit.Visit.{Visit}
 use Rattle.stand_sums.specs.Sequences.{IsSequence, AreSequences}
 use Rattle.stand_sums.specs.Kept.{IsSequenceEnd}
+use Rattle.place_walk.proofs.GroupLemmas.{get-behind, get-front, get-dropped, take-front, drop-front}
 
 -- ---- fronts and rests of lists
-
-get-behind : {X : Type 0} (front back : List X) (k : ℕ) → slice_get (front ++ back) (length front + k) ≡ slice_get back k
-get-behind [] back k = ap (slice_get back) (let same : 0 + k ≡ k = omega arith in same)
-get-behind (x ∷ front) back k =
-    ap (slice_get (x ∷ (front ++ back))) (let same : suc (length front) + k ≡ suc (length front + k) = omega arith in same) ∙ get-behind front back k
-
-get-front : {X : Type 0} (front back : List X) (k : ℕ) → k < length front → slice_get (front ++ back) k ≡ slice_get front k
-get-front [] back k inside = absurd (omega arith)
-get-front (x ∷ front) back zero inside = refl
-get-front (x ∷ front) back (suc k) inside = get-front front back k (omega arith)
-
-pub get-dropped : {X : Type 0} (xs : List X) (from k : ℕ) → slice_get (drop from xs) k ≡ slice_get xs (from + k)
-get-dropped xs zero k = ap (slice_get xs) (let same : k ≡ 0 + k = omega arith in same)
-get-dropped [] (suc from) k = refl
-get-dropped (x ∷ xs) (suc from) k =
-    get-dropped xs from k ∙ ap (slice_get (x ∷ xs)) (let same : suc (from + k) ≡ suc from + k = omega arith in same)
-
-take-front : {X : Type 0} (front back : List X) → take (length front) (front ++ back) ≡ front
-take-front [] back = refl
-take-front (x ∷ front) back = ap (λ (l : List _). x ∷ l) (take-front front back)
-
-drop-front : {X : Type 0} (front back : List X) → drop (length front) (front ++ back) ≡ back
-drop-front [] back = refl
-drop-front (x ∷ front) back = drop-front front back
 
 take-sum : {X : Type 0} (xs : List X) (from more : ℕ) → take (from + more) xs ≡ take from xs ++ take more (drop from xs)
 take-sum xs zero more = ap (λ (n : ℕ). take n xs) (let same : 0 + more ≡ more = omega arith in same)

@@ -5,7 +5,7 @@ use Rattle.std.proofs.lemmas.Bool.{cases_lt, cases_eq, eq-eqb, ne_eqb, lt-ltb, l
 use Rattle.std.proofs.lemmas.List.{take_more, take_more_set, take-set-le, drop-set-lt, drop-set-add, append-nil, map-append, map-id, length-map, drop_more, take-append-drop, length-take-le, get_or_at, set_at, get_or-set_same, get_or-set_other, get_or-take}
 use Rattle.std.proofs.lemmas.List.Elements.{filter-append}
 use Rattle.std.proofs.lemmas.Option.{same_Some, slice_get_within, slice_get-get_or, get_or_from_slice_get}
-use Rattle.mine_model.proofs.ElementLemmas.{get-some, get_set_same, get_set_other, get_snoc}
+use Rattle.mine_model.proofs.ElementLemmas.{get-some, get_set_same, get_set_other, get_snoc, slice_get-mapped_by}
 use Rattle.place_walk.specs.declared.visit.Visit.{Visit}
 use Rattle.place_walk.specs.declared.stand.Stand.{Stand}
 use Rattle.stand_sums.specs.declared.aim.Aim.{Aim}
@@ -19,6 +19,7 @@ use Rattle.stand_sums.specs.Files.{Filed, IsFull, unfiled, HasRoom, stand_at, st
 use Rattle.stand_sums.specs.Kept.{empty_shelf, filed_in, filing_in, filings_in, Filing, with_stand, is_kept, filed_for, filed_behind, filed_behind_all, older, HasRoomFor, is_among, AreShelved, ArePlaced, AreFiles, IsSequenceEnd}
 use Rattle.stand_sums.proofs.CutLemmas.{AreNone, next-cut, all-none, drop-past}
 use Rattle.stand_sums.proofs.SumLemmas.{not-before, among-more, or_false}
+use Rattle.stand_sums.proofs.PartLemmas.{fold-last-one}
 
 -- ---- a run that is written at one place
 
@@ -162,11 +163,6 @@ map-twice : {X Y Z : Type 0} (g : Y → Z) (f : X → Y) (xs : List X) → map g
 map-twice g f [] = refl
 map-twice g f (x ∷ xs) = ap (λ (l : List _). g (f x) ∷ l) (map-twice g f xs)
 
-get-map : {X Y : Type 0} (f : X → Y) (xs : List X) (k : ℕ) (x : X) → slice_get xs k ≡ Some x → slice_get (map f xs) k ≡ Some (f x)
-get-map f [] k x at = absurd (cc)
-get-map f (y ∷ xs) zero x at = let same : y ≡ x = cc in ap (λ (z : _). Some (f z)) same
-get-map f (y ∷ xs) (suc k) x at = get-map f xs k x at
-
 -- the filing behind a visit that writes these ranks
 abbrev pub filed_among : Aim → Visit → ℕ → List ℕ → Filing → Filing
 filed_among aim visit end ranks filing =
@@ -256,7 +252,7 @@ room-for ranks aim visit end rs rs_is apart k inside goes old run shelves room f
     let (filing, there) = get-some old j (omega arith) in
     let among : filing_in run shelf ≡ filed_among aim visit end (take k rs) filing =
     same_Some (filing_in run shelf) (filed_among aim visit end (take k rs) filing)
-    (sym (get-map (filing_in run) shelves j shelf at) ∙ ap (λ (l : List Filing). slice_get l j) filings ∙ get-map (filed_among aim visit end (take k rs)) old j filing there) in
+    (sym (slice_get-mapped_by (filing_in run) shelves j shelf at) ∙ ap (λ (l : List Filing). slice_get l j) filings ∙ slice_get-mapped_by (filed_among aim visit end (take k rs)) old j filing there) in
     let rank_is : get_or rs k 0 ≡ filing.filed.rank =
     sym same ∙ ap (λ (f : Filing). f.filed.rank) among ∙ among-rank aim visit end rs apart k inside (take k rs) filing in
     let is : filing_in run shelf ≡ filing = among ∙ quiet-before aim visit end rs apart k inside filing rank_is in
@@ -274,10 +270,6 @@ room-for ranks aim visit end rs rs_is apart k inside goes old run shelves room f
     omega (arith, all, one, long')
 
 -- ---- visit by visit
-
-fold-last-one : {A B : Type 0} (f : B → A → B) (b : B) (xs : List A) (x : A) → fold f b (xs ++ x ∷ []) ≡ f (fold f b xs) x
-fold-last-one f b [] x = refl
-fold-last-one f b (y ∷ xs) x = fold-last-one f (f b y) xs x
 
 pub filings-more : (ranks : Ranks) (aim : Aim) (end : ℕ) (visits : List Visit) (k : ℕ) (d : Visit) → k < length visits → (filings : List Filing)
     → map (λ filing. filed_behind ranks aim end filing (get_or visits k d)) (map (filed_behind_all ranks aim end (take k visits)) filings)
@@ -334,7 +326,7 @@ module _ (ranks : Ranks) (aim : Aim) (end : ℕ) where
       let inside = slice_get_within (map (filed_behind_all ranks aim end front) filings) j now there in
       let (filing, at) = get-some filings j (omega arith) in
       let is : now ≡ filed_behind_all ranks aim end front filing =
-      same_Some now (filed_behind_all ranks aim end front filing) (sym there ∙ get-map (filed_behind_all ranks aim end front) filings j filing at) in
+      same_Some now (filed_behind_all ranks aim end front filing) (sym there ∙ slice_get-mapped_by (filed_behind_all ranks aim end front) filings j filing at) in
       let longer = all-longer front filing in
       let sum : stands_among ranks aim filing.filed.rank (front ++ back) ≡ stands_among ranks aim filing.filed.rank front + stands_among ranks aim filing.filed.rank back =
       ap length (filter-append (opens ranks aim filing.filed.rank) front back) ∙ length-append (filter (opens ranks aim filing.filed.rank) front) (filter (opens ranks aim filing.filed.rank) back) in
@@ -603,7 +595,7 @@ module _ (ranks : Ranks) (aim : Aim) (visits : List Visit) (run : List Stand) (s
       let (shelf, at, is) = get-mapped (filing_in run) shelves j filing there in
       let inside : j < length (map (filed_in run) shelves) = omega (arith, slice_get_within shelves j shelf at, length-map shelves (filed_in run)) in
       let read : get_or (map (filed_in run) shelves) j (filed_in run shelf) ≡ filed_in run shelf =
-      get_or_from_slice_get (map (filed_in run) shelves) j (filed_in run shelf) (filed_in run shelf) (get-map (filed_in run) shelves j shelf at) in
+      get_or_from_slice_get (map (filed_in run) shelves) j (filed_in run shelf) (filed_in run shelf) (slice_get-mapped_by (filed_in run) shelves j shelf at) in
       subst (λ (f : Filing). HasRoom ranks aim visits f.filed) (sym is) (subst (HasRoom ranks aim visits) read (all j (filed_in run shelf) inside))
 
   pub room-all : HaveRoom ranks aim visits (filings_in run shelves) → All (HasRoom ranks aim visits) (map (filed_in run) shelves)
@@ -611,8 +603,8 @@ module _ (ranks : Ranks) (aim : Aim) (visits : List Visit) (run : List Stand) (s
       let short : j < length shelves = omega (arith, inside, length-map shelves (filed_in run)) in
       let (shelf, at) = get-some shelves j short in
       let read : get_or (map (filed_in run) shelves) j d ≡ filed_in run shelf =
-      get_or_from_slice_get (map (filed_in run) shelves) j (filed_in run shelf) d (get-map (filed_in run) shelves j shelf at) in
-      subst (HasRoom ranks aim visits) (sym read) (have j (filing_in run shelf) (get-map (filing_in run) shelves j shelf at))
+      get_or_from_slice_get (map (filed_in run) shelves) j (filed_in run shelf) d (slice_get-mapped_by (filed_in run) shelves j shelf at) in
+      subst (HasRoom ranks aim visits) (sym read) (have j (filing_in run shelf) (slice_get-mapped_by (filing_in run) shelves j shelf at))
 
 -- room for all is room for the front of them
 pub room-front : (ranks : Ranks) (aim : Aim) (front back : List Visit) (filings : List Filing) → HaveRoom ranks aim (front ++ back) filings → HaveRoom ranks aim front filings
@@ -744,7 +736,7 @@ full-stands run shelves shelved full j d inside =
     let short : j < length shelves = omega (arith, inside, length-map shelves (filed_in run)) in
     let (shelf, at) = get-some shelves j short in
     let read : get_or (map (filed_in run) shelves) j d ≡ filed_in run shelf =
-    get_or_from_slice_get (map (filed_in run) shelves) j (filed_in run shelf) d (get-map (filed_in run) shelves j shelf at) in
+    get_or_from_slice_get (map (filed_in run) shelves) j (filed_in run shelf) d (slice_get-mapped_by (filed_in run) shelves j shelf at) in
     let is_full : IsFull (filed_in run shelf) = subst IsFull read (full j d inside) in
     let lies = shelf-lies 0 shelves (length run) j shelf shelved at in
     let filled = lies.filled in

@@ -17,7 +17,7 @@ use Rattle.stand_sums.specs.Files.{stand_at, stands_at, stands_in, stands_of}
 abbrev IsMarked : List Stand → Type 0
 IsMarked stands = (k : ℕ) (stand : Stand) → slice_get stands k ≡ Some stand → IsTrue stand.first ↔ (k ≡ 0)
 
-plain-at : (visits : List Visit) (k : ℕ) (stand : Stand) → slice_get (map (stand_at false) visits) k ≡ Some stand → stand.first ≡ false
+pub plain-at : (visits : List Visit) (k : ℕ) (stand : Stand) → slice_get (map (stand_at false) visits) k ≡ Some stand → stand.first ≡ false
 plain-at [] k stand at = absurd (cc)
 plain-at (visit ∷ visits) zero stand at = ap (λ (s : Stand). s.first) (sym (same_Some (stand_at false visit) stand at))
 plain-at (visit ∷ visits) (suc k) stand at = plain-at visits k stand at

@@ -222,7 +222,7 @@ counted-all ranks aim weights visits from sequences before now to past rank sum 
 
 -- ---- one visit more
 
-fold-last-one : {A B : Type 0} (f : B → A → B) (b : B) (xs : List A) (x : A) → fold f b (xs ++ x ∷ []) ≡ f (fold f b xs) x
+pub fold-last-one : {A B : Type 0} (f : B → A → B) (b : B) (xs : List A) (x : A) → fold f b (xs ++ x ∷ []) ≡ f (fold f b xs) x
 fold-last-one f b [] x = refl
 fold-last-one f b (y ∷ xs) x = fold-last-one f (f b y) xs x
 

@@ -2,8 +2,9 @@ use Rattle.std.proofs.Common.{◌≡◌, Some, get_or}
 use Rattle.std.specs.List.{slice_get}
 use Rattle.std.proofs.lemmas.Option.{slice_get-get_or}
 use Rattle.prefix_sieve.specs.declared.fronts.Front.{Front}
-use Rattle.prefix_sieve.proofs.FrontLemmas.{held_at, grows-same, grows-both, grows-within, gone-none, gone-more, gone-all}
+use Rattle.prefix_sieve.proofs.FrontLemmas.{grows-same, grows-both, grows-within, gone-none, gone-more, gone-all}
 use Rattle.prefix_sieve.proofs.fronts.go_on.Goals as goal
+use Rattle.mine_model.proofs.ElementLemmas.{get-held}
 
 abbrev no_front : Front
 no_front = record { node = 0; hash = 0 }
@@ -20,7 +21,7 @@ go_behind-requires-clause-node g c =
     let front : Front = get_or c.args.here.now c.loop-front.front-index no_front in
     let at : slice_get c.args.here.now c.loop-front.front-index ≡ Some front = slice_get-get_or c.args.here.now c.loop-front.front-index no_front c.loop-front-test.true in
     grows-within (g.B.Branches.nodes c.args.branches.now) (g.B.Branches.nodes c.loop-front.branches) c.loop-front.invariant.grows front.node
-    (c.requires.within front (held_at c.args.here.now c.loop-front.front-index front at))
+    (c.requires.within front (get-held c.args.here.now c.loop-front.front-index front at))
 
 pub loop-front-preserved : goal.loop-front-preserved
 loop-front-preserved g c =
