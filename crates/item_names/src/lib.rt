@@ -29,10 +29,17 @@ pub const MOST_NAMES: u32 = 1_048_576;
 /// number.
 ///
 /// Each name is stored once, behind the one before, and is found by its key.
-#[derive(Debug, Drop)]
+#[derive(Debug)]
 pub struct Names {
     texts: Texts,
     slots: Vec<Slot>,
+}
+
+// Written out, so that it is let go of by a call, and not part by part wherever one is.
+impl Drop for Names {
+    fn drop(self) {
+        let Names { texts: _, slots: _ } = self;
+    }
 }
 
 impl Model for Names {
