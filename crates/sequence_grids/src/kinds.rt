@@ -121,10 +121,10 @@ impl Kinds {
 
     /// The same without what only serves to find the kinds of more items.
     pub fn without_numbers(self, alloc: Global) -> Kinds
-        ensures columns { result.columns ≡ self.entry.columns }
-        ensures kinds { result.kinds ≡ self.entry.kinds }
-        ensures ends { result.ends ≡ self.entry.ends }
-        ensures ranks { result.ranks ≡ self.entry.ranks }
+        ensures columns { result.columns ≡ self.columns }
+        ensures kinds { result.kinds ≡ self.kinds }
+        ensures ends { result.ends ≡ self.ends }
+        ensures ranks { result.ranks ≡ self.ranks }
     {
         let Kinds {
             columns,
