@@ -30,7 +30,7 @@ use Rattle.snapshot_project.specs.Grouped.{IsGroupIn, AreGroupsIn, AreAllGrids}
 use Rattle.snapshot_project.proofs.GroupLemmas.{group-in}
 use Rattle.snapshot_project.proofs.ListedLemmas.{writes-listed, snapshots-longer}
 use Rattle.snapshot_project.proofs.UniqueLemmas.{pairs-map}
-use Rattle.level_ahead.proofs.StandLemmas.{group-at}
+use Rattle.level_ahead.proofs.StandLemmas.{group-at as stands-group}
 
 -- what a prefix asks of what is written behind it
 abbrev pub aim_of : GridList → Bool → Aim
@@ -123,7 +123,7 @@ module _ (part : GridList) (prefix : List Item) (seen : Bool) (ranks : Ranks) (r
     in-group : (visit : Visit) (some : List Visit) → ((one : Visit) → Contains (visit ∷ some) one → Contains visits one)
         → IsGroupOf part grid (map (snapshot_at part grid) (visit ∷ some)) (stands_at (visit ∷ some))
     in-group visit some all = record {
-      marked = group-at visit some;
+      marked = stands-group visit some;
       are = (
         stand-one true visit (all visit (Contains-first visit some)),
         stands-plain some (λ other held. all other (Contains-other visit some other held)),
