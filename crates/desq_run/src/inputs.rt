@@ -15,10 +15,11 @@ ghost use Rattle.desq_run.specs.Ends.{bytes_named, HasSource, Ends};
 ghost use Rattle.desq_run.specs.Inputs.{IsHierarchyOf, IsDatabaseOf, AreLinksWithin, AreInputs, FailsBy, HasRanges, IsMinedBy};
 
 use command_line::{Command, Source};
-use item_hierarchy::close;
+use item_hierarchy::{CloseFault, Edges, Ordered, order};
 use item_names::Names;
 use mine_model::{Db, Fault, Hierarchy, NoMemory};
 use std::alloc::Global;
+use std::thread;
 use std::thread::Threads;
 use text_ports::Files;
 
@@ -58,19 +59,18 @@ fn read_sequences<R: Threads + Sync, F: Files>(
     }
 }
 
-/// The hierarchy of the file of this name.
+/// The rows of the hierarchy file of this name, where they have no cycle.
 fn read_named<F: Files>(
     alloc: Global,
     files: &mut F,
     name: &str,
     names: &mut Names,
-) -> Result<Hierarchy, Fault>
+) -> Result<Ordered, Fault>
     requires may { IsTrue (F.may files.old name.now) }
     requires empty { names.old ≡ [] }
-    ensures hierarchy { IfOk result (λ h. IfSome (F.holds files.old name.now)
-        (λ bytes. IsHierarchyOf bytes names.new h)) }
-    ensures items { IfOk result (λ h. h.items ≡ length names.new) }
-    ensures within { IfOk result (λ h. AreLinksWithin h) }
+    ensures hierarchy { IfOk result (λ ordered. IfSome (F.holds files.old name.now)
+        (λ bytes. AreRowsOf bytes names.new ordered)) }
+    ensures items { IfOk result (λ ordered. ordered.items ≡ length names.new) }
     ensures fails { IfErr result
         (λ fault. FailsBy (F.holds files.old name.now) IsHierarchyRefusal OfHierarchy (Unit {0})
         (Rose (F.faults files.old) (F.faults files.new)) fault) }
@@ -82,42 +82,27 @@ fn read_named<F: Files>(
         Ok(edges) => edges,
         Err(fault) => return Err(Fault::from(fault)),
     };
-    // Names differ, and no link leads out of the items of a hierarchy.
+    // Names differ.
     let _count = names.count();
-    match close(alloc, edges, names) {
-        Ok(hierarchy) => {
-            let _items = hierarchy.items();
-            Ok(hierarchy)
-        }
+    match order(alloc, edges) {
+        Ok(ordered) => Ok(ordered),
         Err(fault) => Err(Fault::from(fault)),
     }
 }
 
-/// A hierarchy of no items.
-fn no_hierarchy(alloc: Global) -> Hierarchy
-    ensures hierarchy { IsHierarchyOf [] [] result }
-    ensures items { result.items ≡ 0 }
-    ensures within { AreLinksWithin result }
-{
-    let hierarchy = Hierarchy::new(Vec::new(alloc), Vec::new(alloc));
-    let _items = hierarchy.items();
-    hierarchy
-}
-
-/// The hierarchy of the file of this name. Of no file it has no items.
-fn read_hierarchy<F: Files>(
+/// The rows of the hierarchy file of this name, where they have no cycle. Of no file there are none.
+fn read_rows<F: Files>(
     alloc: Global,
     files: &mut F,
     name: &Option<String>,
     names: &mut Names,
-) -> Result<Hierarchy, Fault>
+) -> Result<Ordered, Fault>
     requires may { IfSome name.now (λ name. IsTrue (F.may files.old (string_bytes name))) }
     requires empty { names.old ≡ [] }
-    ensures hierarchy { IfOk result (λ h.
+    ensures hierarchy { IfOk result (λ ordered.
         IfSome (bytes_named (F.holds files.old) (option_map string_bytes name.now)) (λ bytes.
-        IsHierarchyOf bytes names.new h)) }
-    ensures items { IfOk result (λ h. h.items ≡ length names.new) }
-    ensures within { IfOk result (λ h. AreLinksWithin h) }
+        AreRowsOf bytes names.new ordered)) }
+    ensures items { IfOk result (λ ordered. ordered.items ≡ length names.new) }
     ensures fails { IfErr result (λ fault.
         FailsBy (bytes_named (F.holds files.old) (option_map string_bytes name.now))
         IsHierarchyRefusal OfHierarchy
@@ -128,8 +113,61 @@ fn read_hierarchy<F: Files>(
 {
     match name {
         Some(name) => read_named(alloc, files, name.as_str(), names),
-        None => Ok(no_hierarchy(alloc)),
+        None => {
+            let edges = Edges {
+                items: 0,
+                rows: Vec::new(alloc),
+            };
+            match order(alloc, edges) {
+                Ok(ordered) => Ok(ordered),
+                Err(fault) => Err(Fault::from(fault)),
+            }
+        }
     }
+}
+
+/// The hierarchy of these rows.
+fn closed(alloc: Global, ordered: Ordered) -> Result<Hierarchy, CloseFault>
+    ensures closed { (rows : List EdgeRow) → IsPermutation rows ordered.rows
+        → IfOk result (Closes ordered.items rows) }
+    ensures within { IfOk result (λ h. AreLinksWithin h) }
+    ensures refusal { (rows : List EdgeRow) → IsPermutation rows ordered.rows
+        → IfErr result (IsCloseRefusal ordered.items rows) }
+{
+    match ordered.close(alloc) {
+        Ok(hierarchy) => {
+            // No link leads out of the items of a hierarchy.
+            let _items = hierarchy.items();
+            Ok(hierarchy)
+        }
+        Err(fault) => Err(fault),
+    }
+}
+
+/// The hierarchy of these rows, and the sequences of the file of this name. Several workers close the rows
+/// while the file is read, where they are surely not refused: else the file is not opened before.
+fn closed_and_read<R: Threads + Sync, F: Files>(
+    rt: &R,
+    workers: u32,
+    alloc: Global,
+    ordered: Ordered,
+    files: &mut F,
+    name: &str,
+    weighted: bool,
+    names: &mut Names,
+) -> Result<(Hierarchy, Db), Fault>
+{
+    if workers == 1 || !ordered.are_surely_few(alloc) {
+        let hierarchy = closed(alloc, ordered)?;
+        let db = read_sequences(rt, workers, alloc, files, name, weighted, names)?;
+        return Ok((hierarchy, db));
+    }
+    let (hierarchy, db) = thread::join(
+        rt,
+        move || closed(alloc, ordered),
+        || read_sequences(rt, workers, alloc, files, name, weighted, names),
+    );
+    Ok((hierarchy?, db?))
 }
 
 /// Reads the hierarchy and then the sequences of a command, whose file this is.
@@ -159,11 +197,12 @@ fn read_files<R: Threads + Sync, F: Files>(
     ensures never_falls { F.faults files.old ≤ F.faults files.new }
 {
     let mut names = Names::new(alloc)?;
-    let mut hierarchy = read_hierarchy(alloc, files, &command.hierarchy, &mut names)?;
-    let db = read_sequences(
+    let ordered = read_rows(alloc, files, &command.hierarchy, &mut names)?;
+    let (mut hierarchy, db) = closed_and_read(
         rt,
         command.workers,
         alloc,
+        ordered,
         files,
         file,
         command.weighted,

@@ -24,6 +24,11 @@ placed_of rows = map (λ row. record { link = link_of row; line = row.line }) ro
 abbrev pub AreWithin : ℕ → List EdgeRow → Type 0
 AreWithin items rows = All (λ row. (row.child.0 < items) × (row.parent.0 < items)) rows
 
+-- rows of so many items, in any order
+pub record OrderedRows : Type 0 where
+  pub items : ℕ
+  pub rows : List EdgeRow
+
 -- why the rows of so many items make no hierarchy; want of memory may come at any time
 abbrev pub IsCloseRefusal : ℕ → List EdgeRow → CloseFault → Type 0
 IsCloseRefusal items rows (Cycle line) = IsCycleLine (placed_of rows) line

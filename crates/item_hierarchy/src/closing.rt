@@ -1,21 +1,47 @@
-ghost use Rattle.std.specs.Prelude.{◌≡◌, ◌≤◌, ◌<◌, ◌↔◌, ℕ, length, All, IfOk, IfErr, OnOk};
+ghost use Rattle.std.specs.Prelude.{◌≡◌, ◌≤◌, ◌<◌, ◌↔◌, ℕ, List, length, All, IsPermutation, IfOk, IfErr, OnOk};
 ghost use Rattle.mine_model.specs.declared.item.Item.{Item};
 ghost use Rattle.mine_model.specs.Limits.{most_ancestors};
 ghost use Rattle.mine_model.specs.Hierarchy.{IsAncestor, HasCycle, IsAcyclic, IsCycleLine, HasMoreAncestors};
 ghost use Rattle.mine_model.specs.Ancestry.{AreCut, list_at};
+ghost use Rattle.item_hierarchy.specs.declared.edges.EdgeRow.{EdgeRow};
 ghost use Rattle.item_hierarchy.specs.Edges.{links_of, placed_of, AreWithin, IsCloseRefusal, Closes};
 ghost use Rattle.item_hierarchy.specs.ByChild.{AreByChild};
 ghost use Rattle.item_hierarchy.specs.Walking.{links_upto, IsParentsFirst};
 ghost use Rattle.item_hierarchy.specs.Gathering.{list_in, IsPart, AreFew};
 
-use super::ancestors::{Part, ancestors_of};
-use super::by_child::by_child;
+use super::ancestors::{MOST_ANCESTORS, Part, ancestors_of};
+use super::by_child::{ByChild, by_child};
 use super::edges::{EdgeRow, Edges};
 use super::hierarchy_fault::CloseFault;
 use super::walk::parents_first;
 use item_names::Names;
 use mine_model::{Hierarchy, Item, NoMemory};
 use std::alloc::Global;
+use std::marker::Model;
+
+/// The rows of a hierarchy without a cycle, by child, and its items in an order in which parents come first.
+#[derive(Debug, Drop)]
+pub struct Ordered {
+    items: u32,
+    sorted: ByChild,
+    order: Vec<Item>,
+}
+
+impl Model for Ordered {
+    ghost use Rattle.mine_model.specs.Hierarchy.{IsAcyclic};
+    ghost use Rattle.item_hierarchy.specs.Edges.{OrderedRows, links_of, AreWithin};
+    ghost use Rattle.item_hierarchy.specs.ByChild.{AreByChild};
+    ghost use Rattle.item_hierarchy.specs.Walking.{IsParentsFirst};
+
+    ghost Value = { OrderedRows };
+
+    ghost view = { λ o. record { items = o.items; rows = o.sorted.rows.items } };
+
+    ghost invariant = { λ o. AreByChild o.items o.sorted.starts.items o.sorted.rows.items
+        × AreWithin o.items o.sorted.rows.items
+        × IsParentsFirst (links_of o.sorted.rows.items) o.items o.order.items
+        × IsAcyclic (links_of o.sorted.rows.items) };
+}
 
 /// The hierarchy that the rows say. `names` holds the names of the items.
 ///
@@ -27,26 +53,119 @@ pub fn close(alloc: Global, edges: Edges, names: &Names) -> Result<Hierarchy, Cl
     ensures refusal { IfErr result (IsCloseRefusal edges.items edges.rows.items) }
 {
     let _ = names;
+    match order(alloc, edges) {
+        Ok(ordered) => ordered.close(alloc),
+        Err(fault) => Err(fault),
+    }
+}
+
+/// The rows by child, where they have no cycle. The line of a cycle is the first one with which the rows so
+/// far lead from an item back to it.
+pub fn order(alloc: Global, edges: Edges) -> Result<Ordered, CloseFault>
+    requires within { AreWithin edges.items edges.rows.items }
+    ensures items { IfOk result (λ ordered. ordered.items ≡ edges.items) }
+    ensures rows { IfOk result (λ ordered. IsPermutation edges.rows.items ordered.rows) }
+    ensures refusal { IfErr result (IsCloseRefusal edges.items edges.rows.items) }
+{
     let items = edges.items;
     let sorted = by_child(alloc, edges)?;
-    close_sorted(
+    match order_of(
         alloc,
         items,
         sorted.starts.as_slice(),
         sorted.rows.as_slice(),
-    )
+    ) {
+        Ok(order) => Ok(Ordered {
+            items,
+            sorted,
+            order,
+        }),
+        Err(fault) => Err(fault),
+    }
 }
 
-// The same of rows that are sorted.
-fn close_sorted(
+impl Ordered {
+    /// The hierarchy of these rows.
+    pub fn close(self, alloc: Global) -> Result<Hierarchy, CloseFault>
+        ensures closed { (rows : List EdgeRow) → IsPermutation rows self.rows
+            → IfOk result (Closes self.items rows) }
+        ensures refusal { (rows : List EdgeRow) → IsPermutation rows self.rows
+            → IfErr result (IsCloseRefusal self.items rows) }
+    {
+        close_in_order(
+            alloc,
+            self.items,
+            self.sorted.starts.as_slice(),
+            self.sorted.rows.as_slice(),
+            self.order.as_slice(),
+        )
+    }
+
+    /// Whether the items surely have no more ancestors than may be, so that closing the rows is refused for
+    /// want of memory alone. The ways up are counted, of which several may lead to one ancestor. It is a hint: no
+    /// clause says when the answer is yes.
+    pub fn are_surely_few(&self, alloc: Global) -> bool {
+        let ways = all_ways(
+            alloc,
+            self.items,
+            self.sorted.starts.as_slice(),
+            self.sorted.rows.as_slice(),
+            self.order.as_slice(),
+        );
+        match ways {
+            Ok(ways) => ways <= MOST_ANCESTORS as u64,
+            Err(_) => false,
+        }
+    }
+}
+
+// How many ways lead up from all items, each to itself among them; or the greatest number.
+fn all_ways(
     alloc: Global,
     items: u32,
     starts: &[usize],
     rows: &[EdgeRow],
-) -> Result<Hierarchy, CloseFault>
+    order: &[Item],
+) -> Result<u64, NoMemory>
     requires sorted { AreByChild items starts.now rows.now }
     requires within { AreWithin items rows.now }
-    ensures closed { IfOk result (Closes items rows.now) }
+    requires order { All (λ t. t.0 < items) order.now }
+{
+    let mut ways = vec![in alloc; 0u64; items as usize]?;
+    let mut sum: u64 = 0;
+    for t in order {
+        let own = ways_of(starts, rows, ways.as_slice(), *t);
+        ways[t.0 as usize] = own;
+        sum = sum.saturating_add(own);
+    }
+    Ok(sum)
+}
+
+// How many ways lead up from an item, by those from its parents.
+fn ways_of(starts: &[usize], rows: &[EdgeRow], ways: &[u64], t: Item) -> u64
+    requires sorted { AreByChild (length ways.now) starts.now rows.now }
+    requires within { AreWithin (length ways.now) rows.now }
+    requires item { t.0 < length ways.now }
+{
+    let number = t.0 as usize;
+    let mut own: u64 = 1;
+    for at in starts[number]..starts[number + 1] {
+        own = own.saturating_add(ways[rows[at].parent.0 as usize]);
+    }
+    own
+}
+
+// The items in an order in which parents come first, where the rows, which are sorted, have no cycle.
+fn order_of(
+    alloc: Global,
+    items: u32,
+    starts: &[usize],
+    rows: &[EdgeRow],
+) -> Result<Vec<Item>, CloseFault>
+    requires sorted { AreByChild items starts.now rows.now }
+    requires within { AreWithin items rows.now }
+    ensures order { IfOk result (λ order. IsParentsFirst (links_of rows.now) items order.items) }
+    ensures acyclic { OnOk result (IsAcyclic (links_of rows.now)) }
     ensures refusal { IfErr result (IsCloseRefusal items rows.now) }
 {
     let last = last_line(rows);
@@ -55,7 +174,7 @@ fn close_sorted(
             let line = cycle_line(alloc, items, starts, rows, last)?;
             Err(CloseFault::Cycle { line })
         }
-        Some(order) => close_in_order(alloc, items, starts, rows, order.as_slice()),
+        Some(order) => Ok(order),
     }
 }
 

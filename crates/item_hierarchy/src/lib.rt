@@ -10,7 +10,7 @@ mod reading;
 mod walk;
 
 pub use ancestors::MOST_ANCESTORS;
-pub use closing::close;
+pub use closing::{Ordered, close, order};
 pub use edges::{EdgeRow, Edges};
 pub use hierarchy_fault::{CloseFault, HierarchyFault};
 pub use reading::read;
