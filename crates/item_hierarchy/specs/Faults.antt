@@ -1,7 +1,7 @@
 -- The fault of a run that a refusal of its hierarchy is.
 use Rattle.mine_model.specs.declared.fault.Fault.{Fault}
-use Rattle.mine_model.specs.declared.fault.Fault.TheVariants.{BadToken, BadRepeat, Unexpected, Unknown, BadByte, BadWeight, Cycle, ExprTooLong, RepeatLimit, TooDeep, TooManyLeaves, TooLarge, NameTooLong, TooManyItems, TooManyAncestors, TooManySequences, SequenceTooLong, Read, NoMemory}
-use Rattle.mine_model.specs.declared.fault.Which.TheVariants.{Hierarchy, Sequences}
+use Rattle.mine_model.specs.declared.fault.Fault.TheVariants.{BadByte, Cycle, TooLarge, NameTooLong, TooManyItems, TooManyAncestors, Read, NoMemory}
+use Rattle.mine_model.specs.declared.fault.Which.TheVariants.{Hierarchy}
 use Rattle.item_hierarchy.specs.declared.hierarchy_fault.HierarchyFault.{HierarchyFault}
 use Rattle.item_hierarchy.specs.declared.hierarchy_fault.HierarchyFault.TheVariants as hierarchy
 use Rattle.item_hierarchy.specs.declared.hierarchy_fault.CloseFault.{CloseFault}
