@@ -86,11 +86,11 @@ pub fn order(alloc: Global, edges: Edges) -> Result<Ordered, CloseFault>
 
 impl Ordered {
     /// The hierarchy of these rows.
-    pub fn close(self, alloc: Global) -> Result<Hierarchy, CloseFault>
-        ensures closed { (rows : List EdgeRow) → IsPermutation rows self.rows
-            → IfOk result (Closes self.items rows) }
-        ensures refusal { (rows : List EdgeRow) → IsPermutation rows self.rows
-            → IfErr result (IsCloseRefusal self.items rows) }
+    pub fn close(&self, alloc: Global) -> Result<Hierarchy, CloseFault>
+        ensures closed { (rows : List EdgeRow) → IsPermutation rows self.now.rows
+            → IfOk result (Closes self.now.items rows) }
+        ensures refusal { (rows : List EdgeRow) → IsPermutation rows self.now.rows
+            → IfErr result (IsCloseRefusal self.now.items rows) }
     {
         close_in_order(
             alloc,
