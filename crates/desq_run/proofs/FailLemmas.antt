@@ -1,5 +1,5 @@
 -- How reading a file fails.
-use Rattle.std.proofs.Common.{◌≡◌, ◌≢◌, inl, inr, ℕ, ◌≤◌, Bool, List, [], Option, Some, None, IfSome, IsSome, IfErr, Result, Ok, Err, true≢false, refl, sym, ap, subst, arith}
+use Rattle.std.proofs.Common.{◌≡◌, ◌≢◌, inl, inr, ℕ, ◌≤◌, Bool, List, [], Option, Some, None, IfSome, IsSome, IfErr, Result, Ok, Err, true≢false, refl, sym, ap, ◌∙◌, subst, arith}
 use Rattle.std.proofs.lemmas.Option.{none-some}
 use Rattle.text_ports.specs.Faults.{Rose}
 use Rattle.mine_model.specs.declared.item.Item.{Item}
@@ -16,6 +16,7 @@ use Rattle.item_hierarchy.specs.declared.hierarchy_fault.CloseFault.{CloseFault}
 use Rattle.item_hierarchy.specs.declared.hierarchy_fault.CloseFault.TheVariants as close
 use Rattle.sequence_reader.specs.Faults.{fault_of_sequences}
 use Rattle.item_hierarchy.specs.Faults.{fault_of_hierarchy, fault_of_close}
+use Rattle.item_hierarchy.specs.Edges.{OrderedRows}
 use Rattle.item_hierarchy.specs.Refusing.{IsReadRefusal}
 use Rattle.mine_model.specs.Refusal.{IsHierarchyRefusal, IsSequencesRefusal}
 use Rattle.mine_model.specs.Status.{fault_status}
@@ -24,7 +25,8 @@ use Rattle.command_line.specs.Words.{Command, Source, read, embed, make, merge, 
 use Rattle.desq_run.specs.Said.{RefusesHierarchy, RefusesSequences}
 use Rattle.desq_run.specs.Ends.{bytes_named, HasSource, NamesKind, IsOfKind, Ends}
 use Rattle.desq_run.specs.Ends as ends
-use Rattle.desq_run.specs.Inputs.{FailsBy, refused, failed, no_memory, IsHierarchyOf, IsHierarchySaid, IsDatabaseOf, IsDatabaseSaid}
+use Rattle.desq_run.specs.Inputs.{FailsBy, refused, failed, no_memory, FailsInTurn, IsClosureOf, RefusesRows, AreRowsOf, IsHierarchyOf, IsHierarchySaid, IsDatabaseOf, IsDatabaseSaid}
+use Rattle.desq_run.proofs.ReadLemmas.{no-refusal}
 use Rattle.desq_run.proofs.EndLemmas.{kind-same, hierarchy-refused, sequences-refused, hierarchy-accepted}
 
 -- a refusal of the text and names of a hierarchy file is its first refusal
@@ -172,3 +174,55 @@ module _ (told : Option (List ℕ)) (Faulty : Type 0) where
       → IfErr r (FailsBy told IsHierarchyRefusal Hierarchy Named Faulty)
   all-named (Ok x) fails Named now = tt
   all-named (Err fault) fails Named now = named-fail fault fails Named now
+
+-- the hierarchy of the rows of the file is that of the file
+pub closes-told : (told : Option (List ℕ)) (known : List (List ℕ)) (rows : Option OrderedRows) → IfSome told (λ bytes. AreRowsOf bytes known rows)
+    → (h : Ancestry) → IsClosureOf rows h → IfSome told (λ bytes. IsHierarchyOf bytes known h)
+closes-told None known rows are h closes = tt
+closes-told (Some bytes) known rows are h closes = are.closes h closes
+
+refuses_told : (told : Option (List ℕ)) (known : List (List ℕ)) (rows : Option OrderedRows) → IfSome told (λ bytes. AreRowsOf bytes known rows)
+    → (fault : CloseFault) → RefusesRows rows fault → fault ≢ close.NoMemory → IfSome told (λ bytes. IsHierarchyRefusal bytes (fault_of_close fault))
+refuses_told None known rows are fault is other = tt
+refuses_told (Some bytes) known rows are fault is other = are.refuses fault is other
+
+-- how closing the rows of the file fails, where one is named
+rows_refused : (holds : List ℕ → Option (List ℕ)) (name : Option (List ℕ)) (known : List (List ℕ)) (rows : Option OrderedRows) (Faulty : Type 0)
+    → IfSome (bytes_named holds name) (λ bytes. AreRowsOf bytes known rows)
+    → (fault : CloseFault) → RefusesRows rows fault → FailsBy (bytes_named holds name) IsHierarchyRefusal Hierarchy (IsSome name) Faulty (fault_of_close fault)
+rows_refused holds None known rows Faulty are (close.Cycle line) is = absurd (no-refusal _ (are.refuses (close.Cycle line) is (λ e. cc)))
+rows_refused holds None known rows Faulty are close.TooManyAncestors is = absurd (no-refusal _ (are.refuses close.TooManyAncestors is (λ e. cc)))
+rows_refused holds None known rows Faulty are close.NoMemory is = no_memory
+rows_refused holds (Some name) known rows Faulty are fault is =
+    named-fail (holds name) Faulty (fault_of_close fault) (close-fail (holds name) Faulty fault (refuses_told (holds name) known rows are fault is)) (IsSome (Some name)) refl
+
+-- no refusal of rows is a fault of reading or of writing
+close_alone : (fault : CloseFault) → FailsBy None IsHierarchyRefusal Hierarchy (Unit {0}) ⊥ (fault_of_close fault)
+close_alone fault = close-fail None ⊥ fault (λ other. tt)
+
+module _ (rows : Option OrderedRows) (told : Option (List ℕ)) (Refused : List ℕ → Fault → Type 0) (kind : Which) (Named Faulty : Type 0) (fault : Fault) where
+  pub turn-faulty : FailsInTurn rows (FailsBy told Refused kind Named Faulty) fault → (file : Which) → fault ≡ Read file → Faulty
+  turn-faulty (inl (e, is, same)) file turned = absurd (read-faulty None IsHierarchyRefusal Hierarchy (Unit {0}) ⊥ (fault_of_close e) (close_alone e) file (sym same ∙ turned))
+  turn-faulty (inr (h, closes, fails)) file turned = read-faulty told Refused kind Named Faulty fault fails file turned
+
+  pub turn-no-write : FailsInTurn rows (FailsBy told Refused kind Named Faulty) fault → fault ≡ Write → ⊥
+  turn-no-write (inl (e, is, same)) turned = no-write None IsHierarchyRefusal Hierarchy (Unit {0}) ⊥ (fault_of_close e) (close_alone e) (sym same ∙ turned)
+  turn-no-write (inr (h, closes, fails)) turned = no-write told Refused kind Named Faulty fault fails turned
+
+-- how a run ends where the rows of the hierarchy are refused, or reading the sequences behind them fails
+module _ (words : List (List ℕ)) (holds : List ℕ → Option (List ℕ)) (c : Command) (has : HasSource words c) (Faulty : Type 0)
+    (known : List (List ℕ)) (rows : Option OrderedRows) (are : IfSome (bytes_named holds c.hierarchy) (λ bytes. AreRowsOf bytes known rows))
+    (file : List ℕ) (here : file_of c.source ≡ Some file) where
+  pub turn-ends : (fault : Fault) → FailsInTurn rows (FailsBy (holds file) (IsSequencesRefusal c.weighted known) Sequences (Unit {0}) Faulty) fault
+      → Ends words holds (Err fault)
+  turn-ends fault (inl (e, is, same)) =
+      subst (λ f. Ends words holds (Err f)) (sym same)
+      (hierarchy-ends words holds c has Faulty (fault_of_close e)
+      (hierarchy-fails (bytes_named holds c.hierarchy) Hierarchy (IsSome c.hierarchy) Faulty (fault_of_close e) c.source file here
+      (rows_refused holds c.hierarchy known rows Faulty are e is)))
+  turn-ends fault (inr (h, closes, fails)) =
+      let found = hierarchy-said (bytes_named holds c.hierarchy) known h c.source file here (closes-told (bytes_named holds c.hierarchy) known rows are h closes) in
+      let told : FailsBy (bytes_named holds (file_of c.source)) (IsSequencesRefusal c.weighted known) Sequences (Unit {0}) Faulty fault =
+      subst (λ name. FailsBy (bytes_named holds name) (IsSequencesRefusal c.weighted known) Sequences (Unit {0}) Faulty fault) (sym here) fails in
+      sequences-ends words holds c has Faulty known h found file here fault
+      (sequences-fails (bytes_named holds (file_of c.source)) Sequences (Unit {0}) Faulty fault c.weighted known c.source file here told)

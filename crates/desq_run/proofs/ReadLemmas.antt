@@ -1,5 +1,5 @@
 -- What the readers of files answer, in the words of a run.
-use Rattle.std.proofs.Common.{◌≡◌, ◌≢◌, ◌↔◌, ◌∙◌, sym, subst, false, inl, inr, ℕ, ◌<◌, Bool, List, [], ◌∷◌, map, length, All, Option, Some, None, IfSome, Contains, refl, arith}
+use Rattle.std.proofs.Common.{◌≡◌, ◌≢◌, ◌↔◌, ◌∙◌, sym, subst, false, inl, inr, ℕ, ◌<◌, Bool, List, [], ◌∷◌, map, length, All, Option, Some, None, IfSome, Contains, IsPermutation, refl, arith}
 use Rattle.std.proofs.lemmas.List.{append-nil}
 use Rattle.std.proofs.lemmas.List.Elements.{All-contains}
 use Rattle.mine_model.specs.declared.item.Item.{Item}
@@ -16,7 +16,7 @@ use Rattle.item_hierarchy.specs.Faults.{fault_of_close}
 use Rattle.mine_model.specs.Refusal.{IsHierarchyRefusal, IsSequencesRefusal, items_of, sequences_of, names_of, placed_links_of, links_of}
 use Rattle.mine_model.proofs.ListLemmas.{Contains-none, Contains-first}
 use Rattle.item_hierarchy.specs.declared.edges.EdgeRow.{EdgeRow}
-use Rattle.item_hierarchy.specs.Edges.{AreWithin, named_rows, IsCloseRefusal, Closes}
+use Rattle.item_hierarchy.specs.Edges.{AreWithin, named_rows, OrderedRows, IsCloseRefusal, Closes}
 use Rattle.item_hierarchy.specs.Refusing.{IsReadRefusal}
 use Rattle.desq_run.proofs.HierarchyLemmas.{hierarchy-of, close-refused}
 use Rattle.made_input.specs.Made.{made_names, made_items, named_links, named_sequences}
@@ -24,7 +24,7 @@ use Rattle.made_input.proofs.NameLemmas.{how_many_names}
 use Rattle.made_input.proofs.MakingLemmas.{names-known}
 use Rattle.command_line.specs.Words.{Command, make, file_of}
 use Rattle.desq_run.specs.Ends.{bytes_named}
-use Rattle.desq_run.specs.Inputs.{IsHierarchyOf, IsDatabaseOf, IsHierarchySaid, IsDatabaseSaid, AreLinksWithin, AreInputs}
+use Rattle.desq_run.specs.Inputs.{AreRowsOf, IsDatabaseOf, IsHierarchySaid, IsDatabaseSaid, AreLinksWithin, AreInputs}
 use Rattle.desq_run.proofs.LinkLemmas.{Contains-both, Contains-front, Contains-back}
 
 pub database-of : (weighted : Bool) (told : Option (List ℕ)) (known names : List (List ℕ)) (db : List (Sequence Item))
@@ -45,15 +45,18 @@ database-of weighted (Some bytes) known names db said grown accepted = record {
   );
 }
 
--- the hierarchy of the rows that were read is that of the file
-pub told-hierarchy : (told : Option (List ℕ)) (names : List (List ℕ)) (rows : List EdgeRow) (h : Ancestry) → AreDistinct names → AreWithin (length names) rows
+-- the rows that were read, in any order, are those of the file
+pub told-rows : (told : Option (List ℕ)) (names : List (List ℕ)) (rows : List EdgeRow) (ordered : OrderedRows) → AreDistinct names → AreWithin (length names) rows
     → IfSome told (λ bytes. named_rows names rows ≡ placed_links_of (lines_of bytes))
     → IfSome told (λ bytes. GrowBy [] (names_of (lines_of bytes)) names)
     → IfSome told (λ bytes. (fault : Fault) → IsReadRefusal [] bytes fault → ⊥)
-    → Closes (length names) rows h → IfSome told (λ bytes. IsHierarchyOf bytes names h)
-told-hierarchy None names rows h distinct within said grown accepted closes = tt
-told-hierarchy (Some bytes) names rows h distinct within said grown accepted closes =
-    hierarchy-of bytes names rows distinct within said grown accepted h closes
+    → ordered.items ≡ length names → IsPermutation rows ordered.rows
+    → IfSome told (λ bytes. AreRowsOf bytes names (Some ordered))
+told-rows None names rows ordered distinct within said grown accepted size same = tt
+told-rows (Some bytes) names rows ordered distinct within said grown accepted size same = record {
+  closes = λ h closes. hierarchy-of bytes names rows distinct within said grown accepted h (subst (λ n. Closes n rows h) size (closes rows same));
+  refuses = λ fault is other. close-refused bytes names rows distinct within said grown accepted fault other (subst (λ n. IsCloseRefusal n rows fault) size (is rows same));
+}
 
 -- rows that make no hierarchy are refused as the file is
 pub told-refusal : (told : Option (List ℕ)) (names : List (List ℕ)) (rows : List EdgeRow) → AreDistinct names → AreWithin (length names) rows
@@ -66,29 +69,33 @@ told-refusal None names rows distinct within said grown accepted fault is other 
 told-refusal (Some bytes) names rows distinct within said grown accepted fault is other =
     close-refused bytes names rows distinct within said grown accepted fault other is
 
--- no file is no hierarchy
-pub none-hierarchy : (h : Ancestry) → h.items ≡ 0 → AreLinksWithin h → IsHierarchyOf [] [] h
-none-hierarchy h none within = record {
-  accepted = no_refusal;
-  held = λ name. ((λ held. held), (λ held. held));
-  items = none;
-  above = λ w t w_held t_held. absurd (omega (arith, w_held));
-}
-  where
-    no_pairs : (pairs : List (Link (List ℕ))) → All (λ (p : Link (List ℕ)). Contains (names_of (lines_of [])) p.child × IsAncestor (links_of []) p.parent p.child) pairs → length pairs ≡ 0
-    no_pairs [] all = refl
-    no_pairs (p ∷ ps) all =
-        let both : Contains (names_of (lines_of [])) p.child × IsAncestor (links_of []) p.parent p.child =
-        All-contains (λ (q : Link (List ℕ)). Contains (names_of (lines_of [])) q.child × IsAncestor (links_of []) q.parent q.child) (p ∷ ps) p all (Contains-first p ps) in
-        absurd (Contains-none p.child both.0)
+no_pairs : (pairs : List (Link (List ℕ))) → All (λ (p : Link (List ℕ)). Contains (names_of (lines_of [])) p.child × IsAncestor (links_of []) p.parent p.child) pairs → length pairs ≡ 0
+no_pairs [] all = refl
+no_pairs (p ∷ ps) all =
+    let both : Contains (names_of (lines_of [])) p.child × IsAncestor (links_of []) p.parent p.child =
+    All-contains (λ (q : Link (List ℕ)). Contains (names_of (lines_of [])) q.child × IsAncestor (links_of []) q.parent q.child) (p ∷ ps) p all (Contains-first p ps) in
+    absurd (Contains-none p.child both.0)
 
-    no_refusal : (fault : Fault) → IsHierarchyRefusal [] fault → ⊥
-    no_refusal fault (inl large) = let more : most_file_bytes < 0 = large.0 in omega (arith, more)
-    no_refusal fault (inr (a, inl among)) = among
-    no_refusal fault (inr (a, inr (b, inl (line, cycle, same)))) =
-        let (t, next, steps, walk) = cycle.0 in Contains-none (record { child = t; parent = next }) walk.0
-    no_refusal fault (inr (a, inr (b, inr (d, (more, same))))) =
-        let (pairs, apart, all, over) = more in let none : length pairs ≡ 0 = no_pairs pairs all in omega (arith, over, none)
+-- of no bytes nothing is refused
+pub no-refusal : (fault : Fault) → IsHierarchyRefusal [] fault → ⊥
+no-refusal fault (inl large) = let more : most_file_bytes < 0 = large.0 in omega (arith, more)
+no-refusal fault (inr (a, inl among)) = among
+no-refusal fault (inr (a, inr (b, inl (line, cycle, same)))) =
+    let (t, next, steps, walk) = cycle.0 in Contains-none (record { child = t; parent = next }) walk.0
+no-refusal fault (inr (a, inr (b, inr (d, (more, same))))) =
+    let (pairs, apart, all, over) = more in let none : length pairs ≡ 0 = no_pairs pairs all in omega (arith, over, none)
+
+-- where no file is named there are no rows
+pub no-rows : AreRowsOf [] [] None
+no-rows = record {
+  closes = λ h closes. record {
+    accepted = no-refusal;
+    held = λ name. ((λ held. held), (λ held. held));
+    items = closes.0;
+    above = λ w t w_held t_held. absurd (omega (arith, w_held));
+  };
+  refuses = λ fault is other. absurd is;
+}
 
 in_any : {T : Type 0} (told : Option T) (P : Type 0) → P → IfSome told (λ value. P)
 in_any None P p = tt

@@ -1,5 +1,5 @@
 -- What was read of the files or made, by the numbers of names.
-use Rattle.std.specs.Prelude.{◌≡◌, ◌⊎◌, ◌↔◌, ◌≤◌, ◌<◌, ◌++◌, ℕ, Bool, true, List, Option, Some, None, IfSome, length, map, All, Contains}
+use Rattle.std.specs.Prelude.{◌≡◌, ◌≢◌, ◌⊎◌, ◌↔◌, ◌≤◌, ◌<◌, ◌++◌, ℕ, Bool, true, List, Option, Some, None, IfSome, length, map, All, Contains, IsPermutation}
 use Rattle.std.specs.List.{AllByRecursion}
 use Rattle.mine_model.specs.declared.item.Item.{Item}
 use Rattle.mine_model.specs.declared.fault.Fault.{Fault}
@@ -16,6 +16,11 @@ use Rattle.mine_model.specs.Names.{name_of, HasName, AreDistinct, sequence_by, n
 use Rattle.mine_model.specs.Ranks.{AreTiesByName}
 use Rattle.mining_job.specs.Problems.{Problem, data_of as problem_data}
 use Rattle.mine_model.specs.Ancestry.{Ancestry}
+use Rattle.item_hierarchy.specs.declared.edges.EdgeRow.{EdgeRow}
+use Rattle.item_hierarchy.specs.declared.hierarchy_fault.CloseFault.{CloseFault}
+use Rattle.item_hierarchy.specs.declared.hierarchy_fault.CloseFault.TheVariants.{NoMemory as OutOfMemory}
+use Rattle.item_hierarchy.specs.Edges.{OrderedRows, IsCloseRefusal, Closes}
+use Rattle.item_hierarchy.specs.Faults.{fault_of_close}
 use Rattle.mine_model.specs.Refusal.{IsHierarchyRefusal, IsSequencesRefusal, IsUnknown, names_of, links_of, items_of, sequences_of}
 use Rattle.mine_model.specs.declared.mined.Work.{Work}
 use Rattle.command_line.specs.declared.words.Engine.{Engine}
@@ -45,6 +50,28 @@ abbrev pub IsHierarchyOf : List ℕ → List (List ℕ) → Ancestry → Type 0
 IsHierarchyOf bytes names h =
     IsHierarchyBy (IsHierarchyRefusal bytes) (names_of (lines_of bytes)) (links_of bytes) names h
 
+-- both items of each link are among those of the hierarchy
+abbrev pub AreLinksWithin : Ancestry → Type 0
+AreLinksWithin h = All (λ (link : Link Item). (link.child.0 < h.items) × (link.parent.0 < h.items)) h.links
+
+-- the hierarchy is that of the rows, in any order; of no rows it has no items
+abbrev pub IsClosureOf : Option OrderedRows → Ancestry → Type 0
+IsClosureOf None h = (h.items ≡ 0) × AreLinksWithin h
+IsClosureOf (Some ordered) h =
+    (rows : List EdgeRow) → IsPermutation rows ordered.rows → Closes ordered.items rows h
+
+-- why the rows make none; no rows are never refused
+abbrev pub RefusesRows : Option OrderedRows → CloseFault → Type 0
+RefusesRows None fault = ⊥
+RefusesRows (Some ordered) fault =
+    (rows : List EdgeRow) → IsPermutation rows ordered.rows → IsCloseRefusal ordered.items rows fault
+
+-- the rows are those of the file: their hierarchy is that of the file, and what refuses them refuses the file
+pub record AreRowsOf (bytes : List ℕ) (names : List (List ℕ)) (rows : Option OrderedRows) : Type 0 where
+  pub closes : (h : Ancestry) → IsClosureOf rows h → IsHierarchyOf bytes names h
+  pub refuses : (fault : CloseFault) → RefusesRows rows fault → fault ≢ OutOfMemory
+      → IsHierarchyRefusal bytes (fault_of_close fault)
+
 -- it is that of the source, whose file holds these bytes
 abbrev pub IsHierarchySaid : Source → List ℕ → List (List ℕ) → Ancestry → Type 0
 IsHierarchySaid source bytes names h =
@@ -68,10 +95,6 @@ abbrev pub IsDatabaseSaid : Source → Bool → List ℕ → List (List ℕ) →
     → Type 0
 IsDatabaseSaid source weighted bytes known names db = IsDatabaseBy
     (RefusesSequences source weighted known bytes) (sequences_said source weighted bytes) known names db
-
--- both items of each link are among those of the hierarchy
-abbrev pub AreLinksWithin : Ancestry → Type 0
-AreLinksWithin h = All (λ (link : Link Item). (link.child.0 < h.items) × (link.parent.0 < h.items)) h.links
 
 -- names, hierarchy and sequences were read or made: numbers as the program needs them, and what they say of
 -- the source
@@ -97,6 +120,11 @@ pub data FailsBy (told : Option (List ℕ)) (Refused : List ℕ → Fault → Ty
       → FailsBy told Refused file Named Faulty fault
   failed : Named → Faulty → FailsBy told Refused file Named Faulty (Read file)
   no_memory : FailsBy told Refused file Named Faulty NoMemory
+
+-- the rows are refused, or they are not, and what comes behind them fails
+abbrev pub FailsInTurn : Option OrderedRows → (Fault → Type 0) → Fault → Type 0
+FailsInTurn rows Fails fault = ((e : CloseFault) × RefusesRows rows e × (fault ≡ fault_of_close e))
+    ⊎ ((h : Ancestry) × IsClosureOf rows h × Fails fault)
 
 -- The numbers of the source are in their ranges. An expression on a file has none.
 abbrev pub HasRanges : Source → Type 0

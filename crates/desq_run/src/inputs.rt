@@ -6,16 +6,17 @@ ghost use Rattle.text_ports.specs.Faults.{Rose};
 ghost use Rattle.mine_model.specs.declared.fault.Fault.TheVariants.{Read, Write};
 ghost use Rattle.mine_model.specs.declared.fault.Which.{Which};
 ghost use Rattle.mine_model.specs.declared.fault.Which.TheVariants.{Hierarchy as OfHierarchy, Sequences};
+ghost use Rattle.mine_model.specs.Ancestry.{Ancestry};
 ghost use Rattle.mine_model.specs.Names.{HasName, AreDistinct};
 ghost use Rattle.mine_model.specs.Refusal.{IsHierarchyRefusal, IsSequencesRefusal};
 ghost use Rattle.made_input.specs.Made.{most_made};
 ghost use Rattle.command_line.specs.Words.{NamesFile, file_of, make, Command as CommandSaid};
 ghost use Rattle.command_line.specs.Commands.{source_said, command_said};
 ghost use Rattle.desq_run.specs.Ends.{bytes_named, HasSource, Ends};
-ghost use Rattle.desq_run.specs.Inputs.{IsHierarchyOf, IsDatabaseOf, AreLinksWithin, AreInputs, FailsBy, HasRanges, IsMinedBy};
+ghost use Rattle.desq_run.specs.Inputs.{IsClosureOf, RefusesRows, AreRowsOf, IsDatabaseOf, AreLinksWithin, AreInputs, FailsBy, FailsInTurn, HasRanges, IsMinedBy};
 
 use command_line::{Command, Source};
-use item_hierarchy::{CloseFault, Edges, Ordered, order};
+use item_hierarchy::{CloseFault, Ordered, order};
 use item_names::Names;
 use mine_model::{Db, Fault, Hierarchy, NoMemory};
 use std::alloc::Global;
@@ -65,12 +66,12 @@ fn read_named<F: Files>(
     files: &mut F,
     name: &str,
     names: &mut Names,
-) -> Result<Ordered, Fault>
+) -> Result<Option<Ordered>, Fault>
     requires may { IsTrue (F.may files.old name.now) }
     requires empty { names.old ≡ [] }
-    ensures hierarchy { IfOk result (λ ordered. IfSome (F.holds files.old name.now)
-        (λ bytes. AreRowsOf bytes names.new ordered)) }
-    ensures items { IfOk result (λ ordered. ordered.items ≡ length names.new) }
+    ensures rows { IfOk result (λ rows. IfSome (F.holds files.old name.now)
+        (λ bytes. AreRowsOf bytes names.new rows)) }
+    ensures items { IfOk result (λ rows. (h : Ancestry) → IsClosureOf rows h → h.items ≡ length names.new) }
     ensures fails { IfErr result
         (λ fault. FailsBy (F.holds files.old name.now) IsHierarchyRefusal OfHierarchy (Unit {0})
         (Rose (F.faults files.old) (F.faults files.new)) fault) }
@@ -85,24 +86,24 @@ fn read_named<F: Files>(
     // Names differ.
     let _count = names.count();
     match order(alloc, edges) {
-        Ok(ordered) => Ok(ordered),
+        Ok(ordered) => Ok(Some(ordered)),
         Err(fault) => Err(Fault::from(fault)),
     }
 }
 
-/// The rows of the hierarchy file of this name, where they have no cycle. Of no file there are none.
+/// The rows of the hierarchy file of this name, where one is named and they have no cycle.
 fn read_rows<F: Files>(
     alloc: Global,
     files: &mut F,
     name: &Option<String>,
     names: &mut Names,
-) -> Result<Ordered, Fault>
+) -> Result<Option<Ordered>, Fault>
     requires may { IfSome name.now (λ name. IsTrue (F.may files.old (string_bytes name))) }
     requires empty { names.old ≡ [] }
-    ensures hierarchy { IfOk result (λ ordered.
+    ensures rows { IfOk result (λ rows.
         IfSome (bytes_named (F.holds files.old) (option_map string_bytes name.now)) (λ bytes.
-        AreRowsOf bytes names.new ordered)) }
-    ensures items { IfOk result (λ ordered. ordered.items ≡ length names.new) }
+        AreRowsOf bytes names.new rows)) }
+    ensures items { IfOk result (λ rows. (h : Ancestry) → IsClosureOf rows h → h.items ≡ length names.new) }
     ensures fails { IfErr result (λ fault.
         FailsBy (bytes_named (F.holds files.old) (option_map string_bytes name.now))
         IsHierarchyRefusal OfHierarchy
@@ -113,61 +114,173 @@ fn read_rows<F: Files>(
 {
     match name {
         Some(name) => read_named(alloc, files, name.as_str(), names),
-        None => {
-            let edges = Edges {
-                items: 0,
-                rows: Vec::new(alloc),
-            };
-            match order(alloc, edges) {
-                Ok(ordered) => Ok(ordered),
-                Err(fault) => Err(Fault::from(fault)),
-            }
-        }
+        None => Ok(None),
     }
 }
 
-/// The hierarchy of these rows.
-fn closed(alloc: Global, ordered: Ordered) -> Result<Hierarchy, CloseFault>
-    ensures closed { (rows : List EdgeRow) → IsPermutation rows ordered.rows
-        → IfOk result (Closes ordered.items rows) }
-    ensures within { IfOk result (λ h. AreLinksWithin h) }
-    ensures refusal { (rows : List EdgeRow) → IsPermutation rows ordered.rows
-        → IfErr result (IsCloseRefusal ordered.items rows) }
+/// A hierarchy of no items.
+fn no_hierarchy(alloc: Global) -> Hierarchy
+    ensures items { result.items ≡ 0 }
+    ensures within { AreLinksWithin result }
 {
-    match ordered.close(alloc) {
-        Ok(hierarchy) => {
+    let hierarchy = Hierarchy::new(Vec::new(alloc), Vec::new(alloc));
+    let _items = hierarchy.items();
+    hierarchy
+}
+
+/// The hierarchy of these rows. Of no rows it has no items.
+fn closed(alloc: Global, rows: &Option<Ordered>) -> Result<Hierarchy, CloseFault>
+    ensures closed { IfOk result (IsClosureOf rows.now) }
+    ensures within { IfOk result (λ h. AreLinksWithin h) }
+    ensures refused { IfErr result (RefusesRows rows.now) }
+{
+    match rows {
+        Some(ordered) => {
+            let hierarchy = ordered.close(alloc)?;
             // No link leads out of the items of a hierarchy.
             let _items = hierarchy.items();
             Ok(hierarchy)
         }
-        Err(fault) => Err(fault),
+        None => Ok(no_hierarchy(alloc)),
     }
 }
 
+/// Whether closing these rows is surely refused for want of memory alone. It is a hint.
+fn are_surely_few(alloc: Global, rows: &Option<Ordered>) -> bool {
+    match rows {
+        Some(ordered) => ordered.are_surely_few(alloc),
+        None => false,
+    }
+}
+
+/// The hierarchy of these rows, and beside it the sequences of the file of this name.
+fn closed_beside<R: Threads + Sync, F: Files>(
+    rt: &R,
+    workers: u32,
+    alloc: Global,
+    rows: &Option<Ordered>,
+    files: &mut F,
+    name: &str,
+    weighted: bool,
+    names: &mut Names,
+) -> (Result<Hierarchy, CloseFault>, Result<Db, Fault>)
+    requires may { IsTrue (F.may files.old name.now) }
+    ensures closed { IfOk result.0 (IsClosureOf rows.now) }
+    ensures within { IfOk result.0 (λ h. AreLinksWithin h) }
+    ensures refused { IfErr result.0 (RefusesRows rows.now) }
+    ensures database { IfOk result.1 (λ db. IfSome (F.holds files.old name.now) (λ bytes.
+        IsDatabaseOf weighted bytes names.old names.new db)) }
+    ensures named { IfOk result.1 (λ db.
+        AllByRecursion (λ s. AllByRecursion (HasName names.new) s.items) db) }
+    ensures fails { IfErr result.1 (λ fault. FailsBy (F.holds files.old name.now)
+        (IsSequencesRefusal weighted names.old) Sequences (Unit {0})
+        (Rose (F.faults files.old) (F.faults files.new)) fault) }
+    ensures kept { (added : List (List ℕ)) × (names.new ≡ names.old ++ added) }
+    ensures same_names { F.may files.new ≡ F.may files.old }
+    ensures same_files { F.holds files.new ≡ F.holds files.old }
+    ensures never_falls { F.faults files.old ≤ F.faults files.new }
+{
+    thread::join_mut(
+        rt,
+        &mut || -> Result<Hierarchy, CloseFault>
+            ensures closed { IfOk result (IsClosureOf rows.entry.now) }
+            ensures within { IfOk result (λ h. AreLinksWithin h) }
+            ensures refused { IfErr result (RefusesRows rows.entry.now) }
+        { closed(alloc, rows) },
+        &mut || -> Result<Db, Fault>
+            requires may { IsTrue (F.may files.now name.now) }
+            ensures database { IfOk result (λ db. IfSome (F.holds files.entry.now name.entry.now)
+                (λ bytes. IsDatabaseOf weighted bytes names.entry.now names.exit.now db)) }
+            ensures named { IfOk result (λ db.
+                AllByRecursion (λ s. AllByRecursion (HasName names.exit.now) s.items) db) }
+            ensures fails { IfErr result (λ fault. FailsBy (F.holds files.entry.now name.entry.now)
+                (IsSequencesRefusal weighted names.entry.now) Sequences (Unit {0})
+                (Rose (F.faults files.entry.now) (F.faults files.exit.now)) fault) }
+            ensures kept { (added : List (List ℕ)) × (names.exit.now ≡ names.entry.now ++ added) }
+            ensures same_names { F.may files.exit.now ≡ F.may files.entry.now }
+            ensures same_files { F.holds files.exit.now ≡ F.holds files.entry.now }
+            ensures never_falls { F.faults files.entry.now ≤ F.faults files.exit.now }
+        { read_sequences(rt, workers, alloc, files, name, weighted, names) },
+    )
+}
+
 /// The hierarchy of these rows, and the sequences of the file of this name. Several workers close the rows
-/// while the file is read, where they are surely not refused: else the file is not opened before.
+/// while the file is read, where closing is surely not refused: else a refusal comes before the file is
+/// opened.
 fn closed_and_read<R: Threads + Sync, F: Files>(
     rt: &R,
     workers: u32,
     alloc: Global,
-    ordered: Ordered,
+    rows: &Option<Ordered>,
     files: &mut F,
     name: &str,
     weighted: bool,
     names: &mut Names,
 ) -> Result<(Hierarchy, Db), Fault>
+    requires may { IsTrue (F.may files.old name.now) }
+    ensures closed { IfOk result (λ both. IsClosureOf rows.now both.0) }
+    ensures within { IfOk result (λ both. AreLinksWithin both.0) }
+    ensures database { IfOk result (λ both. IfSome (F.holds files.old name.now) (λ bytes.
+        IsDatabaseOf weighted bytes names.old names.new both.1)) }
+    ensures named { IfOk result (λ both.
+        AllByRecursion (λ s. AllByRecursion (HasName names.new) s.items) both.1) }
+    ensures fails { IfErr result (FailsInTurn rows.now (FailsBy (F.holds files.old name.now)
+        (IsSequencesRefusal weighted names.old) Sequences (Unit {0})
+        (Rose (F.faults files.old) (F.faults files.new)))) }
+    ensures kept { (added : List (List ℕ)) × (names.new ≡ names.old ++ added) }
+    ensures same_names { F.may files.new ≡ F.may files.old }
+    ensures same_files { F.holds files.new ≡ F.holds files.old }
+    ensures never_falls { F.faults files.old ≤ F.faults files.new }
 {
-    if workers == 1 || !ordered.are_surely_few(alloc) {
-        let hierarchy = closed(alloc, ordered)?;
-        let db = read_sequences(rt, workers, alloc, files, name, weighted, names)?;
-        return Ok((hierarchy, db));
+    if workers > 1 && are_surely_few(alloc, rows) {
+        let (hierarchy, db) = closed_beside(rt, workers, alloc, rows, files, name, weighted, names);
+        return Ok((hierarchy?, db?));
     }
-    let (hierarchy, db) = thread::join(
+    let hierarchy = closed(alloc, rows)?;
+    let db = read_sequences(rt, workers, alloc, files, name, weighted, names)?;
+    Ok((hierarchy, db))
+}
+
+/// The hierarchy and the sequences of a command, whose file this is. It stands apart from `read_files` for
+/// the proof alone: the one that owns the rows has to show at each of its exits that they are let go.
+fn read_both<R: Threads + Sync, F: Files>(
+    rt: &R,
+    alloc: Global,
+    command: &Command,
+    file: &str,
+    files: &mut F,
+    names: &mut Names,
+) -> Result<(Hierarchy, Db), Fault>
+    requires may { (file : List ℕ) → NamesFile (command_said command.now) file
+        → IsTrue (F.may files.old file) }
+    requires file { file_of (source_said command.now.source) ≡ Some file.now }
+    requires empty { names.old ≡ [] }
+    ensures inputs { IfOk result (λ both. AreInputs (F.holds files.old) (command_said command.now)
+        names.new both.0 both.1) }
+    ensures items { IfOk result (λ both. both.0.items ≤ length names.new) }
+    ensures named { IfOk result (λ both.
+        AllByRecursion (λ s. AllByRecursion (HasName names.new) s.items) both.1) }
+    ensures ends { (words : List (List ℕ)) → HasSource words (command_said command.now)
+        → IfErr result (λ fault. Ends words (F.holds files.old) (Err fault)) }
+    ensures read_fault { (file : Which) → result ≡ Err (Read file)
+        → Rose (F.faults files.old) (F.faults files.new) }
+    ensures no_write { result ≢ Err Write }
+    ensures same_names { F.may files.new ≡ F.may files.old }
+    ensures same_files { F.holds files.new ≡ F.holds files.old }
+    ensures never_falls { F.faults files.old ≤ F.faults files.new }
+{
+    let rows = read_rows(alloc, files, &command.hierarchy, names)?;
+    let both = closed_and_read(
         rt,
-        move || closed(alloc, ordered),
-        || read_sequences(rt, workers, alloc, files, name, weighted, names),
-    );
-    Ok((hierarchy?, db?))
+        command.workers,
+        alloc,
+        &rows,
+        files,
+        file,
+        command.weighted,
+        names,
+    )?;
+    Ok(both)
 }
 
 /// Reads the hierarchy and then the sequences of a command, whose file this is.
@@ -197,17 +310,7 @@ fn read_files<R: Threads + Sync, F: Files>(
     ensures never_falls { F.faults files.old ≤ F.faults files.new }
 {
     let mut names = Names::new(alloc)?;
-    let ordered = read_rows(alloc, files, &command.hierarchy, &mut names)?;
-    let (mut hierarchy, db) = closed_and_read(
-        rt,
-        command.workers,
-        alloc,
-        ordered,
-        files,
-        file,
-        command.weighted,
-        &mut names,
-    )?;
+    let (mut hierarchy, db) = read_both(rt, alloc, command, file, files, &mut names)?;
     hierarchy.cover(names.count())?;
     Ok(Inputs {
         names,

@@ -1,7 +1,8 @@
 use Rattle.std.proofs.Common.{refl, Some, IsSome, string_bytes}
 use Rattle.text_ports.specs.Faults.{Rose}
 use Rattle.desq_run.proofs.FailLemmas.{all-named}
-use Rattle.desq_run.proofs.inputs.read_hierarchy.Goals as goal
+use Rattle.desq_run.proofs.ReadLemmas.{no-rows}
+use Rattle.desq_run.proofs.inputs.read_rows.Goals as goal
 
 pub returns-in-Some-clause-fails : goal.returns-in-Some-clause-fails
 returns-in-Some-clause-fails g c =
@@ -10,3 +11,6 @@ returns-in-Some-clause-fails g c =
     (all-named (g.F.Files.holds c.args.files.now (string_bytes c.in-Some.name))
     (Rose (g.F.Files.faults c.args.files.now) (g.F.Files.faults c.read_named.new.files)) c.read_named.result fails
     (IsSome (Some (string_bytes c.in-Some.name))) refl)
+
+pub returns-in-None-clause-rows : goal.returns-in-None-clause-rows
+returns-in-None-clause-rows g c = rw (c.in-None.is, c.requires.empty) no-rows
