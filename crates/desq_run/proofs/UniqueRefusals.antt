@@ -1,5 +1,5 @@
 -- Of each file at most one refusal comes first, and so of the files of a merge.
-use Rattle.std.proofs.Common.{◌≡◌, ◌⊎◌, inl, inr, ℕ, ◌+◌, Bool, true, false, List, [], ◌∷◌, length, sym, ap, ◌∙◌, subst}
+use Rattle.std.proofs.Common.{◌≡◌, inl, inr, ℕ, ◌+◌, Bool, true, false, List, [], ◌∷◌, length, sym, ap, ◌∙◌, subst}
 use Rattle.std.proofs.lemmas.Bool.{cases_order}
 use Rattle.mine_model.specs.declared.fault.Fault.TheVariants.{BadByte, NameTooLong, Cycle, BadWeight}
 use Rattle.mine_model.specs.declared.fault.Which.{Which}
