@@ -211,20 +211,20 @@ fn closed_and_read<R: Threads + Sync, F: Files>(
     rt: &R,
     workers: u32,
     alloc: Global,
-    rows: &Option<Ordered>,
+    rows: Option<Ordered>,
     files: &mut F,
     name: &str,
     weighted: bool,
     names: &mut Names,
 ) -> Result<(Hierarchy, Db), Fault>
     requires may { IsTrue (F.may files.old name.now) }
-    ensures closed { IfOk result (λ both. IsClosureOf rows.now both.0) }
+    ensures closed { IfOk result (λ both. IsClosureOf rows both.0) }
     ensures within { IfOk result (λ both. AreLinksWithin both.0) }
     ensures database { IfOk result (λ both. IfSome (F.holds files.old name.now) (λ bytes.
         IsDatabaseOf weighted bytes names.old names.new both.1)) }
     ensures named { IfOk result (λ both.
         AllByRecursion (λ s. AllByRecursion (HasName names.new) s.items) both.1) }
-    ensures fails { IfErr result (FailsInTurn rows.now (FailsBy (F.holds files.old name.now)
+    ensures fails { IfErr result (FailsInTurn rows (FailsBy (F.holds files.old name.now)
         (IsSequencesRefusal weighted names.old) Sequences (Unit {0})
         (Rose (F.faults files.old) (F.faults files.new)))) }
     ensures kept { (added : List (List ℕ)) × (names.new ≡ names.old ++ added) }
@@ -232,17 +232,20 @@ fn closed_and_read<R: Threads + Sync, F: Files>(
     ensures same_files { F.holds files.new ≡ F.holds files.old }
     ensures never_falls { F.faults files.old ≤ F.faults files.new }
 {
-    if workers > 1 && are_surely_few(alloc, rows) {
-        let (hierarchy, db) = closed_beside(rt, workers, alloc, rows, files, name, weighted, names);
+    if workers > 1 && are_surely_few(alloc, &rows) {
+        let (hierarchy, db) = closed_beside(
+            rt, workers, alloc, &rows, files, name, weighted, names,
+        );
         return Ok((hierarchy?, db?));
     }
-    let hierarchy = closed(alloc, rows)?;
+    let hierarchy = closed(alloc, &rows)?;
+    drop(rows);
     let db = read_sequences(rt, workers, alloc, files, name, weighted, names)?;
     Ok((hierarchy, db))
 }
 
-/// The hierarchy and the sequences of a command, whose file this is. It stands apart from `read_files` for
-/// the proof alone: the one that owns the rows has to show at each of its exits that they are let go.
+/// The hierarchy and the sequences of a command, whose file this is. An item of the sequences may be none of
+/// the hierarchy yet.
 fn read_both<R: Threads + Sync, F: Files>(
     rt: &R,
     alloc: Global,
@@ -274,7 +277,7 @@ fn read_both<R: Threads + Sync, F: Files>(
         rt,
         command.workers,
         alloc,
-        &rows,
+        rows,
         files,
         file,
         command.weighted,
