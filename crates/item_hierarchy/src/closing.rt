@@ -102,8 +102,8 @@ impl Ordered {
     }
 
     /// Whether the items surely have no more ancestors than may be, so that closing the rows is refused for
-    /// want of memory alone. The ways up are counted, of which several may lead to one ancestor. It is a hint: no
-    /// clause says when the answer is yes.
+    /// want of memory alone. The ways up are counted, of which several may lead to one ancestor. It is a
+    /// hint: no clause says when the answer is yes.
     pub fn are_surely_few(&self, alloc: Global) -> bool {
         let ways = all_ways(
             alloc,
