@@ -18,7 +18,8 @@ use Rattle.automaton_model.specs.Members.{IsPivotMember, IsPivotCode}
 use Rattle.automaton_model.proofs.AutomatonLemmas.{code-also}
 use Rattle.candidate_graph.specs.Graphs.{Node, Standpoint, points_of}
 use Rattle.candidate_graph.specs.Paths.{Accepts as IsPath}
-use Rattle.candidate_states.specs.Roots.{IsSomeGraph, IsRootOf}
+use Rattle.graph_order.specs.Orders.{IsSomeGraph}
+use Rattle.candidate_states.specs.Roots.{IsRootOf}
 use Rattle.sequence_candidates.specs.Candidates.{AreCandidates}
 use Rattle.cand_automaton.specs.Roots.{IsRootFor, IsRootWithin, IsCodeWithin}
 

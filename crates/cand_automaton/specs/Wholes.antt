@@ -4,8 +4,8 @@ use Rattle.mining_job.specs.Problems.{Problem}
 use Rattle.sequence_grids.specs.Grids.{GridList}
 use Rattle.snapshot_project.specs.Snapshots.{bound_of}
 use Rattle.candidate_graph.specs.Graphs.{IsWhole}
-use Rattle.candidate_states.specs.declared.order.Turn.{Turn}
-use Rattle.candidate_states.specs.Kept.{AreInOrder}
+use Rattle.graph_order.specs.declared.order.Turn.{Turn}
+use Rattle.graph_order.specs.Orders.{AreInOrder}
 use Rattle.sequence_candidates.specs.Candidates.{CandidatesValue}
 use Rattle.cand_automaton.specs.declared.alone.Alone.{Alone}
 use Rattle.cand_automaton.specs.declared.alone.Alone.TheVariants.{Nothing, Once, Whole, TooLarge}

@@ -12,7 +12,8 @@ ghost use Rattle.cand_automaton.specs.Roots.{IsRootFor};
 ghost use Rattle.cand_automaton.specs.Wholes.{IsWholeOf, IsKept, IsFree};
 
 use automaton_model::Registry;
-use candidate_states::{Order, Room as GraphRoom, pivot_state};
+use candidate_states::{Room as GraphRoom, pivot_state};
+use graph_order::Order;
 use mine_model::NoMemory;
 use mining_job::Job;
 use sequence_candidates::{Candidates, whole_graphs_accept_the_patterns};

@@ -8,12 +8,12 @@ use Rattle.candidate_graph.specs.Graphs.{Node}
 use Rattle.candidate_graph.specs.Paths.{HasEdge}
 use Rattle.candidate_graph.proofs.BasicLemmas.{get-place}
 use Rattle.candidate_states.specs.declared.asked.Asked.{Asked}
-use Rattle.candidate_states.specs.declared.order.Turn.{Turn}
+use Rattle.graph_order.specs.declared.order.Turn.{Turn}
 use Rattle.candidate_states.specs.declared.stages.Stage.{Stage}
 use Rattle.candidate_states.specs.declared.stages.Stage.TheVariants.{Before, Going, Ending}
-use Rattle.candidate_states.specs.Kept.{HasTurnBefore, AreInOrder}
+use Rattle.graph_order.specs.Orders.{HasTurnBefore, AreInOrder}
 use Rattle.candidate_states.specs.Stages.{asked_in, stage_behind, IsAsked, KeepsAsked, IsTarget, IsClosedAt, IsClosed}
-use Rattle.candidate_states.proofs.StateLemmas.{no-step}
+use Rattle.graph_order.proofs.StepLemmas.{no-step}
 
 -- ---- one more
 

@@ -1,11 +1,11 @@
 -- What states of nodes at stages accept.
 use Rattle.std.proofs.Common.{◌≡◌, ◌↔◌, ℕ, ◌+◌, ◌≤◌, ◌<◌, ◌⊎◌, inl, inr, Bool, true, false, IsTrue, true≢false, Option, Some, None, List, [], ◌∷◌, ◌++◌, length, get_or, take, refl, sym, ap, ◌∙◌, subst, arith, length-append, set, length-set, get_or-set_same, get_or-set_other}
 use Rattle.std.specs.List.{AllPairs, Contains, slice_get}
-use Rattle.std.proofs.lemmas.Bool.{cases_lt, cases_eq}
+use Rattle.std.proofs.lemmas.Bool.{cases_eq}
 use Rattle.std.proofs.lemmas.List.{take_more, get_or-take, length-take, get_or_default}
 use Rattle.std.proofs.lemmas.List.Elements.{Contains-append_left, Contains-append_right, Contains-append_cases}
 use Rattle.std.proofs.lemmas.List.Quantifiers.{all_pairs_push}
-use Rattle.std.proofs.lemmas.Option.{same_Some, slice_get_within, slice_get-get_or, get_or_from_slice_get}
+use Rattle.std.proofs.lemmas.Option.{same_Some, slice_get_within}
 use Rattle.mine_model.proofs.ListLemmas.{Contains-cases, Contains-first, Contains-none}
 use Rattle.automaton_model.specs.declared.state.Edge.{Edge}
 use Rattle.automaton_model.specs.Automata.{State, Accepts as IsAccepted}
@@ -17,13 +17,11 @@ use Rattle.candidate_graph.specs.Graphs.{Node}
 use Rattle.candidate_graph.specs.Paths.{HasEdge}
 use Rattle.candidate_states.specs.declared.asked.Asked.{Asked}
 use Rattle.candidate_states.specs.declared.numbers.Numbers.{Numbers}
-use Rattle.candidate_states.specs.declared.order.Turn.{Turn}
 use Rattle.candidate_states.specs.declared.stages.Stage.{Stage}
 use Rattle.candidate_states.specs.declared.stages.Stage.TheVariants.{Before, Going, Ending}
 use Rattle.candidate_states.specs.Roots.{IsPivotRootOf}
-use Rattle.candidate_states.specs.Kept.{AreInOrder}
 use Rattle.candidate_states.specs.Stages.{asked_in, stage_behind, can_end, Completes, IsClosed, unnumbered, number_by, number_in, IsNumbered, IsStageAt, AreNumbered, KeepsNumbers, IsSettledAt, IsSettled, AreLinked}
-use Rattle.candidate_states.proofs.StateLemmas.{no-step, no-turn}
+use Rattle.graph_order.proofs.StepLemmas.{no-step}
 use Rattle.candidate_states.proofs.StageLemmas.{completes-root}
 
 -- ---- what stays
@@ -258,33 +256,6 @@ module _ (nodes : List Node) (pivot : ℕ) (states : List State) (asked : List A
       language = λ ranks. (forth ranks, back ranks);
       some = some-completes alive;
     }
-
--- ---- turns
-
-module _ (nodes : List Node) (pivot : ℕ) (asked : List Asked) (order : List Turn) (are : AreInOrder nodes order) where
-  abbrev pub AreSettledTo : List Numbers → ℕ → Type 0
-  AreSettledTo numbers i = (k : ℕ) (turn : Turn) → k < i → slice_get order k ≡ Some turn → IsSettled nodes pivot asked numbers turn.node
-
-  pub turn-settled : (numbers : List Numbers) (i : ℕ) → i < length order → AreSettledTo numbers i
-      → (rank : ℕ) (edge : Step) → HasEdge nodes (get_or order i no-turn).node rank edge → IsSettled nodes pivot asked numbers edge.next
-  turn-settled numbers i below each rank edge has =
-      let (earlier, turn, less, at, is) = are.after i (get_or order i no-turn) rank edge (slice_get-get_or order i no-turn below) has in
-      subst (IsSettled nodes pivot asked numbers) is (each earlier turn less at)
-
-  pub settled-more : (before now : List Numbers) (i : ℕ) → KeepsNumbers before now → AreSettledTo before i → IsSettled nodes pivot asked now (get_or order i no-turn).node
-      → AreSettledTo now (i + 1)
-  settled-more before now i keeps each new k turn below at = elim (cases_lt k i) [
-    | inl less ↦ all-settled-keep nodes pivot asked before now turn.node keeps (each k turn less at)
-    | inr most ↦ (
-        let same : k ≡ i = omega (arith, below, most) in
-        let one : get_or order i no-turn ≡ turn = ap (λ (n : ℕ). get_or order n no-turn) (sym same) ∙ get_or_from_slice_get order k turn no-turn at in
-        subst (λ (t : Turn). IsSettled nodes pivot asked now t.node) one new)
-  ]
-
-  pub settled-all : (numbers : List Numbers) (i : ℕ) → length order ≤ i → AreSettledTo numbers i → (node : ℕ) → node < length nodes → IsSettled nodes pivot asked numbers node
-  settled-all numbers i long each node below =
-      let (k, turn, less, at, is) = are.all node below in
-      subst (IsSettled nodes pivot asked numbers) is (each k turn (omega (arith, less, long)) at)
 
 -- at each stage of one node in turn
 pub stages-settled : (nodes : List Node) (pivot : ℕ) (asked : List Asked) (two three four : List Numbers) (node : ℕ) → KeepsNumbers two three → KeepsNumbers three four

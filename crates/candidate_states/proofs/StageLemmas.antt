@@ -4,7 +4,7 @@ use Rattle.std.specs.List.{AllPairs, AllByRecursion, Contains, slice_get}
 use Rattle.std.specs.List.Sorted.{IsNonDecreasingBy, IsPartitionPoint}
 use Rattle.std.proofs.lemmas.Bool.{cases_lt, cases_eq}
 use Rattle.std.proofs.lemmas.List.{get_or-take, length-take}
-use Rattle.std.proofs.lemmas.Option.{same_Some, slice_get_within, slice_get-get_or, get_or_from_slice_get}
+use Rattle.std.proofs.lemmas.Option.{slice_get_within, slice_get-get_or, get_or_from_slice_get}
 use Rattle.mine_model.proofs.ListLemmas.{Contains-cases, Contains-first, Contains-other, Contains-none}
 use Rattle.mine_model.proofs.ElementLemmas.{get-held}
 use Rattle.candidate_graph.specs.declared.edge.Edge.{Edge as Step}
@@ -13,10 +13,11 @@ use Rattle.candidate_graph.specs.Paths.{HasEdge, Accepts}
 use Rattle.candidate_graph.proofs.BasicLemmas.{get-place}
 use Rattle.candidate_states.specs.declared.stages.Stage.{Stage}
 use Rattle.candidate_states.specs.declared.stages.Stage.TheVariants.{Before}
-use Rattle.candidate_states.specs.Roots.{IsSomeGraph, HasPivot}
+use Rattle.candidate_states.specs.Roots.{HasPivot}
 use Rattle.candidate_states.specs.Kept.{Follows}
 use Rattle.candidate_states.specs.Stages.{stage_met, stage_behind, can_end, Completes}
-use Rattle.candidate_states.proofs.StateLemmas.{AreStepsOf, behind, ahead}
+use Rattle.graph_order.proofs.StepLemmas.{AreStepsOf, step-held}
+use Rattle.candidate_states.proofs.StateLemmas.{behind, ahead}
 
 -- ---- stages behind edges
 
@@ -123,15 +124,6 @@ point-exact steps pivot count point k step at = (
     one = get_or_from_slice_get steps k step step at
 
 module _ (nodes : List Node) (number : ℕ) (list : List Step) (are : AreStepsOf nodes number list) where
-  pub steps-rising : IsSomeGraph nodes → AllPairs (λ (low : Step) (high : Step). low.rank < high.rank) list
-  steps-rising (courses, ranks, need, graph) = (graph.edges number are.0 list are.1 are.2).rising
-
-  step-held : (rank : ℕ) (step : Step) → HasEdge nodes number rank step → Contains list step
-  step-held rank step (node, steps, at, known, held, is) =
-      let same_node : node ≡ are.0 = same_Some node are.0 (sym at ∙ are.1) in
-      let same_steps : steps ≡ list = same_Some steps list (sym known ∙ ap (λ (n : Node). n.edges) same_node ∙ are.2) in
-      subst (λ (l : List Step). Contains l step) same_steps held
-
   module _ (pivot count : ℕ) (within : count ≤ length list) (exact : (k : ℕ) (step : Step) → slice_get list k ≡ Some step → (k < count) ↔ (step.rank ≤ pivot)) where
     pub steps-exact : (step : Step) → Contains (take count list) step ↔ (HasEdge nodes number step.rank step × (step.rank ≤ pivot))
     steps-exact step = (
@@ -141,7 +133,7 @@ module _ (nodes : List Node) (number : ℕ) (list : List Step) (are : AreStepsOf
           let at : slice_get list k ≡ Some step = slice_get-get_or list k step (omega (arith, less, within)) ∙ ap (λ (s : Step). Some s) read in
           ((are.0, list, are.1, are.2, get-held list k step at, refl), (exact k step at).0 less)),
       (λ (has, most).
-          let (k, at) = get-place list step (step-held step.rank step has) in
+          let (k, at) = get-place list step (step-held nodes number list are step.rank step has) in
           let less : k < count = (exact k step at).1 most in
           let long : length (take count list) ≡ count = omega (arith, within, length-take count list) in
           (k, omega (arith, less, long), get_or-take count list k step less ∙ get_or_from_slice_get list k step step at)),

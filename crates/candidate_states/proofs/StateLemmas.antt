@@ -1,9 +1,9 @@
 -- What states of nodes accept.
-use Rattle.std.proofs.Common.{◌≡◌, ℕ, false, ◌+◌, ◌≤◌, ◌<◌, ◌⊎◌, inl, inr, Bool, IsTrue, Some, None, List, [], ◌∷◌, ◌++◌, length, get_or, refl, sym, ap, ◌∙◌, subst, arith, length-append, append_assoc, take}
+use Rattle.std.proofs.Common.{◌≡◌, ℕ, false, ◌+◌, ◌<◌, ◌⊎◌, inl, inr, Bool, IsTrue, Some, None, List, [], ◌∷◌, ◌++◌, length, get_or, refl, sym, ap, ◌∙◌, subst, arith, length-append, append_assoc, take}
 use Rattle.std.specs.List.{AllZip, AllPairs, Contains, slice_get}
 use Rattle.std.proofs.lemmas.Bool.{cases_lt}
-use Rattle.std.proofs.lemmas.Option.{same_Some, slice_get_within, slice_get-get_or, get_or_from_slice_get}
-use Rattle.std.proofs.lemmas.List.{get_or_default, take_more}
+use Rattle.std.proofs.lemmas.Option.{same_Some, slice_get_within, get_or_from_slice_get}
+use Rattle.std.proofs.lemmas.List.{take_more}
 use Rattle.std.proofs.lemmas.Slice.Zip.{AllZip-long}
 use Rattle.mine_model.proofs.ElementLemmas.{get-some}
 use Rattle.automaton_model.specs.declared.state.Edge.{Edge}
@@ -13,14 +13,14 @@ use Rattle.automaton_model.proofs.AutomatonLemmas.{one_of}
 use Rattle.automaton_model.proofs.LanguageLemmas.{node-stays}
 use Rattle.automaton_model.proofs.ZipLemmas.{zip-there, zip-first, zip-second}
 use Rattle.candidate_graph.specs.declared.edge.Edge.{Edge as Step}
-use Rattle.candidate_graph.specs.Graphs.{Node, IsWhole, IsExpanded}
+use Rattle.candidate_graph.specs.Graphs.{Node}
 use Rattle.candidate_graph.specs.Paths.{HasEdge, Accepts}
 use Rattle.candidate_graph.proofs.BasicLemmas.{get-place}
-use Rattle.candidate_states.specs.declared.order.Turn.{Turn}
 use Rattle.candidate_states.specs.declared.states.Made.{Made}
-use Rattle.candidate_states.specs.Roots.{IsSomeGraph, IsTrim, IsRootOf}
-use Rattle.candidate_states.proofs.OrderLemmas.{edge-inside}
-use Rattle.candidate_states.specs.Kept.{state_in, IsEntered, Follows, IsStateAt, AreStates, Keeps, HasTargets, IsMoved, AreInOrder}
+use Rattle.graph_order.specs.Orders.{IsSomeGraph}
+use Rattle.candidate_states.specs.Roots.{IsTrim, IsRootOf}
+use Rattle.graph_order.proofs.StepLemmas.{no-step, AreStepsOf, step-edge, step-held}
+use Rattle.candidate_states.specs.Kept.{state_in, IsEntered, Follows, IsStateAt, AreStates, Keeps, HasTargets, IsMoved}
 
 -- ---- what stays
 
@@ -98,11 +98,8 @@ module _ (nodes : List Node) (states : List State) (made : List Made) (are : Are
   has-edge : (step : Step) → Contains steps step → HasEdge nodes number step.rank step
   has-edge step held = (node, steps, at, known, held, refl)
 
-  step-held : (rank : ℕ) (step : Step) → HasEdge nodes number rank step → Contains steps step × (step.rank ≡ rank)
-  step-held rank step (node', steps', at', known', held, is) =
-      let same_node : node' ≡ node = same_Some node' node (sym at' ∙ at) in
-      let same_steps : steps' ≡ steps = same_Some steps' steps (sym known' ∙ ap (λ (n : Node). n.edges) same_node ∙ known) in
-      (subst (λ (l : List Step). Contains l step) same_steps held, is)
+  step-taken : (rank : ℕ) (step : Step) → HasEdge nodes number rank step → Contains steps step × (step.rank ≡ rank)
+  step-taken rank step (node', steps', at', known', held, is) = (step-held nodes number steps (node, at, known) rank step (node', steps', at', known', held, is), is)
 
   -- it may be kept behind the others
   pub state-kept : IsSomeGraph nodes → IsTrim nodes → IsKeptState states (length states) state'
@@ -130,7 +127,7 @@ module _ (nodes : List Node) (states : List State) (made : List Made) (are : Are
     back : (ranks : List ℕ) → Follows nodes number ends ranks → IsAccepted states place ranks
     back [] follows = (state', is, follows)
     back (rank ∷ rest) (step, has, either) =
-        let (held, rank_is) = step-held rank step has in
+        let (held, rank_is) = step-taken rank step has in
         let (edge, there, moved_is) = zip-first (IsMoved made) steps edges moved step held in
         (state', edge, is, there, moved_is.rank ∙ rank_is, ((are step.next step.ends edge.to moved_is.to).language rest).1 (ahead nodes step.next step.ends rest either))
 
@@ -138,12 +135,6 @@ module _ (nodes : List Node) (states : List State) (made : List Made) (are : Are
     state-right = record { inside = slice_get_within states place state' is; language = λ ranks. (forth ranks, back ranks) }
 
 -- ---- step by step
-
-abbrev pub no-step : Step
-no-step = record { rank = 0; ends = false; next = 0 }
-
-pub step-there : (steps : List Step) (k : ℕ) → k < length steps → Contains steps (get_or steps k no-step)
-step-there steps k below = (k, below, get_or_default steps k (get_or steps k no-step) no-step below)
 
 zip-push : {X Y : Type 0} (R : X → Y → Type 0) (xs : List X) (ys : List Y) (x : X) (y : Y) → AllZip R xs ys → R x y → AllZip R (xs ++ x ∷ []) (ys ++ y ∷ [])
 zip-push R [] [] x y all last = (last, tt)
@@ -160,39 +151,14 @@ moved-more made steps k edges edge inside moved is =
 
 -- ---- steps of a node
 
--- the list is that of the node's edges
-abbrev pub AreStepsOf : List Node → ℕ → List Step → Type 0
-AreStepsOf nodes number steps = (node : Node) × (slice_get nodes number ≡ Some node) × (node.edges ≡ Some steps)
-
-pub whole-expanded : (nodes : List Node) (number : ℕ) → IsWhole nodes → number < length nodes → IsExpanded nodes number
-whole-expanded nodes number whole below =
-    let (node, at) = get-some nodes number below in
-    let (steps, known) = whole number node at in
-    (node, steps, at, known)
-
-pub steps-of : (nodes : List Node) (number : ℕ) (list : List Step) → IsWhole nodes → number < length nodes
-    → ((node : Node) (steps : List Step) → slice_get nodes number ≡ Some node → node.edges ≡ Some steps → list ≡ steps) → AreStepsOf nodes number list
-steps-of nodes number list whole below told =
-    let (node, at) = get-some nodes number below in
-    let (steps, known) = whole number node at in
-    (node, at, known ∙ ap (λ (l : List Step). Some l) (sym (told node steps at known)))
-
 module _ (nodes : List Node) (number : ℕ) (list : List Step) (are : AreStepsOf nodes number list) where
-  pub step-edge : (step : Step) → Contains list step → HasEdge nodes number step.rank step
-  step-edge step held = (are.0, list, are.1, are.2, held, refl)
-
-  pub steps-inside : IsSomeGraph nodes → (step : Step) → Contains list step → step.next < length nodes
-  steps-inside some step held = edge-inside nodes some number step.rank step (step-edge step held)
-
   pub steps-made : (made : List Made) → HasTargets nodes made number → (step : Step) → Contains list step → (state : ℕ) × (state_in made step.next step.ends ≡ Some state)
-  steps-made made has step held = has step.rank step (step-edge step held)
+  steps-made made has step held = has step.rank step (step-edge nodes number list are step held)
 
   pub targets-of : (made : List Made) → ((k : ℕ) (step : Step) → k < length list → slice_get list k ≡ Some step → (state : ℕ) × (state_in made step.next step.ends ≡ Some state))
       → HasTargets nodes made number
   targets-of made each rank step (node, steps, at, known, held, is) =
-      let same_node : node ≡ are.0 = same_Some node are.0 (sym at ∙ are.1) in
-      let same_steps : steps ≡ list = same_Some steps list (sym known ∙ ap (λ (n : Node). n.edges) same_node ∙ are.2) in
-      let (k, k_at) = get-place list step (subst (λ (l : List Step). Contains l step) same_steps held) in
+      let (k, k_at) = get-place list step (step-held nodes number list are rank step (node, steps, at, known, held, is)) in
       each k step (slice_get_within list k step k_at) k_at
 
 -- what was made of the steps so far, and of one more
@@ -207,41 +173,6 @@ made-more steps i before now state keeps each new k step below at = elim (cases_
       let one : get_or steps i no-step ≡ step = ap (λ (n : ℕ). get_or steps n no-step) (sym same) ∙ get_or_from_slice_get steps k step no-step at in
       (state, subst (λ (s : Step). state_in now s.next s.ends ≡ Some state) one new))
 ]
-
--- ---- turns
-
-abbrev pub no-turn : Turn
-no-turn = record { level = 0; node = 0 }
-
-pub turn-there : (order : List Turn) (k : ℕ) → k < length order → Contains order (get_or order k no-turn)
-turn-there order k below = (k, below, get_or_default order k (get_or order k no-turn) no-turn below)
-
-module _ (nodes : List Node) (order : List Turn) (are : AreInOrder nodes order) where
-  -- the targets of a node's targets were made before its turn
-  pub turn-targets : (made : List Made) (i : ℕ) → i < length order
-      → ((k : ℕ) (turn : Turn) → k < i → slice_get order k ≡ Some turn → HasTargets nodes made turn.node)
-      → (rank : ℕ) (edge : Step) → HasEdge nodes (get_or order i no-turn).node rank edge → HasTargets nodes made edge.next
-  turn-targets made i below each rank edge has =
-      let (earlier, turn, less, at, is) = are.after i (get_or order i no-turn) rank edge (slice_get-get_or order i no-turn below) has in
-      subst (HasTargets nodes made) is (each earlier turn less at)
-
-  pub turns-more : (before now : List Made) (i : ℕ) → Keeps before now
-      → ((k : ℕ) (turn : Turn) → k < i → slice_get order k ≡ Some turn → HasTargets nodes before turn.node)
-      → HasTargets nodes now (get_or order i no-turn).node
-      → (k : ℕ) (turn : Turn) → k < i + 1 → slice_get order k ≡ Some turn → HasTargets nodes now turn.node
-  turns-more before now i keeps each new k turn below at = elim (cases_lt k i) [
-    | inl less ↦ targets-stay nodes before now turn.node keeps (each k turn less at)
-    | inr most ↦ (
-        let same : k ≡ i = omega (arith, below, most) in
-        let one : get_or order i no-turn ≡ turn = ap (λ (n : ℕ). get_or order n no-turn) (sym same) ∙ get_or_from_slice_get order k turn no-turn at in
-        subst (λ (t : Turn). HasTargets nodes now t.node) one new)
-  ]
-
-  pub turns-all : (made : List Made) (i : ℕ) → length order ≤ i → ((k : ℕ) (turn : Turn) → k < i → slice_get order k ≡ Some turn → HasTargets nodes made turn.node)
-      → (node : ℕ) → node < length nodes → HasTargets nodes made node
-  turns-all made i long each node below =
-      let (k, turn, less, at, is) = are.all node below in
-      subst (HasTargets nodes made) is (each k turn (omega (arith, less, long)) at)
 
 -- ---- the whole
 

@@ -1,45 +1,12 @@
 -- What is kept while the states of nodes are made.
-use Rattle.std.specs.Prelude.{◌≡◌, ℕ, ◌+◌, ◌<◌, ◌^◌, ◌⊎◌, Bool, IsTrue, if◌then◌else◌, Option, Some, None, List, [], ◌∷◌, length, Contains, slice_get, slice_index_or}
-use Rattle.place_walk.specs.declared.stand.Stand.{Stand}
+use Rattle.std.specs.Prelude.{◌≡◌, ℕ, ◌<◌, ◌⊎◌, Bool, IsTrue, if◌then◌else◌, Option, Some, None, List, [], ◌∷◌, length, slice_index_or}
 use Rattle.automaton_model.specs.declared.state.Edge.{Edge}
 use Rattle.automaton_model.specs.Automata.{State}
 use Rattle.automaton_model.specs.Languages.{IsRightLanguageOf}
 use Rattle.candidate_graph.specs.declared.edge.Edge.{Edge as Step}
-use Rattle.candidate_graph.specs.Graphs.{Standpoint, Node}
+use Rattle.candidate_graph.specs.Graphs.{Node}
 use Rattle.candidate_graph.specs.Paths.{HasEdge, Accepts}
-use Rattle.candidate_states.specs.declared.order.Turn.{Turn}
 use Rattle.candidate_states.specs.declared.states.Made.{Made}
-
--- ---- the order
-
--- the level falls where the first place rises, and is 0 with no stands
-abbrev pub IsLevelAt : Option Stand → ℕ → Type 0
-IsLevelAt None level = level ≡ 0
-IsLevelAt (Some first) level = (0 < level) × (level + first.place ≡ 2 ^ 32)
-
-abbrev pub IsLevel : Standpoint → ℕ → Type 0
-IsLevel at level = IsLevelAt (slice_get at.stands 0) level
-
--- each node below the count has its turn, with its level
-pub record AreTurns (nodes : List Node) (count : ℕ) (order : List Turn) : Type 0 where
-  pub levels : (turn : Turn) → Contains order turn
-      → (node : Node) × (slice_get nodes turn.node ≡ Some node) × IsLevel node.at turn.level
-  pub all : (number : ℕ) → number < count → (turn : Turn) × Contains order turn × (turn.node ≡ number)
-
--- the node has its turn before this place
-abbrev pub HasTurnBefore : List Turn → ℕ → ℕ → Type 0
-HasTurnBefore order place node =
-    (earlier : ℕ) × (turn : Turn) × (earlier < place) × (slice_get order earlier ≡ Some turn)
-    × (turn.node ≡ node)
-
--- each node has a turn, after those to which its edges lead
-pub record AreInOrder (nodes : List Node) (order : List Turn) : Type 0 where
-  pub inside : (turn : Turn) → Contains order turn → turn.node < length nodes
-  pub all : (node : ℕ) → node < length nodes → HasTurnBefore order (length order) node
-  pub after : (place : ℕ) (turn : Turn) (rank : ℕ) (edge : Step) → slice_get order place ≡ Some turn
-      → HasEdge nodes turn.node rank edge → HasTurnBefore order place edge.next
-
--- ---- the states
 
 -- none was made
 abbrev pub nothing : Made

@@ -1,18 +1,11 @@
 -- States of a registry for a sequence's candidates.
-use Rattle.std.specs.Prelude.{ℕ, ◌≤◌, ◌<◌, ◌⊎◌, IsTrue, Option, List, length, Contains}
+use Rattle.std.specs.Prelude.{ℕ, ◌≤◌, ◌<◌, ◌⊎◌, IsTrue, List, length, Contains}
 use Rattle.std.specs.List.{AllByRecursion}
-use Rattle.stand_sums.specs.Writings.{Ranks}
 use Rattle.automaton_model.specs.Automata.{State}
 use Rattle.automaton_model.specs.Languages.{IsRightLanguageOf}
 use Rattle.candidate_graph.specs.declared.edge.Edge.{Edge}
-use Rattle.candidate_graph.specs.Courses.{Courses}
-use Rattle.candidate_graph.specs.Graphs.{Node, IsGraph}
+use Rattle.candidate_graph.specs.Graphs.{Node}
 use Rattle.candidate_graph.specs.Paths.{HasEdge, Accepts}
-
--- the nodes are those of the candidates of some sequence
-abbrev pub IsSomeGraph : List Node → Type 0
-IsSomeGraph nodes =
-    (courses : Courses) × (ranks : Ranks) × (need : Option ℕ) × IsGraph courses ranks need nodes
 
 -- the graph is trim: each edge ends, or leads to a node from which something is accepted
 abbrev pub IsTrim : List Node → Type 0

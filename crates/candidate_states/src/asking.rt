@@ -5,15 +5,14 @@ ghost use Rattle.candidate_graph.specs.declared.edge.Edge.{Edge as Edged};
 ghost use Rattle.candidate_graph.specs.Graphs.{IsWhole};
 ghost use Rattle.candidate_graph.specs.Paths.{HasEdge};
 ghost use Rattle.candidate_states.specs.declared.stages.Stage.{Stage as At};
-ghost use Rattle.candidate_states.specs.Roots.{IsSomeGraph};
-ghost use Rattle.candidate_states.specs.Kept.{AreInOrder};
+ghost use Rattle.graph_order.specs.Orders.{IsSomeGraph, AreInOrder};
 ghost use Rattle.candidate_states.specs.Stages.{asked_in, stage_behind, IsTarget, KeepsAsked, IsClosed, IsClosedAt};
 
 use super::asked::{Asked, ask, is_asked};
-use super::order::Turn;
 use super::stages::{Stage, behind};
 use super::steps::steps_of;
 use candidate_graph::Graph;
+use graph_order::Turn;
 
 /// Asks for all that is asked for behind what is asked for already.
 pub(crate) fn ask_all(graph: &Graph, order: &[Turn], pivot: u32, asked: &mut Vec<Asked>)

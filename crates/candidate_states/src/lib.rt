@@ -8,7 +8,6 @@ mod asked;
 mod asking;
 mod making;
 mod numbers;
-mod order;
 mod pivot;
 mod pivot_making;
 mod room;
@@ -17,7 +16,6 @@ mod stages;
 mod states;
 mod steps;
 
-pub use order::Order;
 pub use pivot::pivot_state;
 pub use room::Room;
 pub use root::root_state;

@@ -7,13 +7,14 @@ ghost use Rattle.automaton_model.specs.Registry.{IsRegistry};
 ghost use Rattle.candidate_graph.specs.declared.edge.Edge.{Edge as Edged};
 ghost use Rattle.candidate_graph.specs.Graphs.{IsWhole};
 ghost use Rattle.candidate_graph.specs.Paths.{HasEdge};
-ghost use Rattle.candidate_states.specs.Roots.{IsSomeGraph, IsTrim};
-ghost use Rattle.candidate_states.specs.Kept.{state_in, IsMoved, AreStates, Keeps, HasTargets, AreInOrder};
+ghost use Rattle.graph_order.specs.Orders.{IsSomeGraph, AreInOrder};
+ghost use Rattle.candidate_states.specs.Roots.{IsTrim};
+ghost use Rattle.candidate_states.specs.Kept.{state_in, IsMoved, AreStates, Keeps, HasTargets};
 
-use super::order::Turn;
 use super::states::{Made, enter, state_of};
 use automaton_model::{Edge, Registry, State};
 use candidate_graph::{Edge as Step, Graph};
+use graph_order::Turn;
 use mine_model::NoMemory;
 
 /// Makes the states to which edges of the nodes lead, node by node.

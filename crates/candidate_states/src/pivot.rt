@@ -4,18 +4,18 @@ ghost use Rattle.std.specs.Prelude.{◌≡◌, ◌<◌, ◌++◌, List, length, 
 ghost use Rattle.automaton_model.specs.Automata.{State as SeenState};
 ghost use Rattle.automaton_model.specs.Registry.{IsRegistry};
 ghost use Rattle.candidate_graph.specs.Graphs.{IsWhole};
-ghost use Rattle.candidate_states.specs.Roots.{IsSomeGraph, IsPivotRootOf};
-ghost use Rattle.candidate_states.specs.Kept.{AreInOrder};
+ghost use Rattle.graph_order.specs.Orders.{IsSomeGraph, AreInOrder};
+ghost use Rattle.candidate_states.specs.Roots.{IsPivotRootOf};
 
 use super::asked::{ask, begin_asked};
 use super::asking::ask_all;
 use super::numbers::{begin_numbers, number_of};
-use super::order::Order;
 use super::pivot_making::number_all;
 use super::room::Room;
 use super::stages::Stage;
 use automaton_model::Registry;
 use candidate_graph::Graph;
+use graph_order::Order;
 use mine_model::NoMemory;
 
 /// The number of the state that accepts those candidates of a graph whose greatest rank is the pivot. Node 0

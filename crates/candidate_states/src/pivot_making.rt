@@ -7,17 +7,16 @@ ghost use Rattle.candidate_graph.specs.declared.edge.Edge.{Edge as Edged};
 ghost use Rattle.candidate_graph.specs.Graphs.{IsWhole};
 ghost use Rattle.candidate_graph.specs.Paths.{HasEdge};
 ghost use Rattle.candidate_states.specs.declared.stages.Stage.{Stage as At};
-ghost use Rattle.candidate_states.specs.Roots.{IsSomeGraph};
-ghost use Rattle.candidate_states.specs.Kept.{AreInOrder};
+ghost use Rattle.graph_order.specs.Orders.{IsSomeGraph, AreInOrder};
 ghost use Rattle.candidate_states.specs.Stages.{asked_in, stage_behind, IsClosed, AreNumbered, KeepsNumbers, IsSettled, IsSettledAt, AreLinked};
 
 use super::asked::{Asked, is_asked};
 use super::numbers::{Numbers, enter_number, number_of};
-use super::order::Turn;
 use super::stages::{Stage, behind, is_ending};
 use super::steps::steps_of;
 use automaton_model::{Edge, Registry, State};
 use candidate_graph::{Edge as Step, Graph};
+use graph_order::Turn;
 use mine_model::NoMemory;
 
 /// Makes the states of all nodes at the stages at which they are asked for, node by node.

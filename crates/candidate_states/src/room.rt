@@ -2,16 +2,16 @@
 
 use super::asked::Asked;
 use super::numbers::Numbers;
-use super::order::Turn;
 use super::states::Made;
 use automaton_model::State;
+use graph_order::Order;
 use std::alloc::Global;
 
 /// Room for the work on one graph, cleared and used again for the next.
 #[derive(Drop)]
 pub struct Room {
     // The nodes, each after those to which its edges lead.
-    pub(crate) order: Vec<Turn>,
+    pub(crate) order: Order,
     // By number of a node, its states.
     pub(crate) made: Vec<Made>,
     // By number of a node, the stages at which it is asked for.
@@ -26,7 +26,7 @@ impl Room {
     /// Takes no memory.
     pub fn new(alloc: Global) -> Room {
         Room {
-            order: Vec::new(alloc),
+            order: Order::new(alloc),
             made: Vec::new(alloc),
             asked: Vec::new(alloc),
             numbers: Vec::new(alloc),

@@ -4,10 +4,10 @@ ghost use Rattle.std.specs.Prelude.{◌≡◌, ◌<◌, ◌++◌, List, length, 
 ghost use Rattle.automaton_model.specs.Automata.{State as SeenState};
 ghost use Rattle.automaton_model.specs.Registry.{IsRegistry};
 ghost use Rattle.candidate_graph.specs.Graphs.{IsWhole};
-ghost use Rattle.candidate_states.specs.Roots.{IsSomeGraph, IsTrim, IsRootOf};
+ghost use Rattle.graph_order.specs.Orders.{IsSomeGraph};
+ghost use Rattle.candidate_states.specs.Roots.{IsTrim, IsRootOf};
 
 use super::making::{make_all, make_state};
-use super::order::order_nodes;
 use super::room::Room;
 use super::states::begin;
 use automaton_model::Registry;
@@ -27,9 +27,9 @@ pub fn root_state(graph: &Graph, registry: &mut Registry, room: &mut Room) -> Re
 {
     // It is a registry, also where memory is wanting.
     let _count = registry.len();
-    order_nodes(graph, &mut room.order)?;
+    room.order.set(graph)?;
     begin(&mut room.made, graph.count())?;
-    let order = room.order.as_slice();
+    let order = room.order.turns();
     make_all(graph, order, registry, &mut room.state, &mut room.made)?;
     make_state(graph, 0, false, registry, &mut room.state, &mut room.made)
 }

@@ -4,7 +4,7 @@ ghost use Rattle.std.specs.Prelude.{◌≡◌, ℕ, ◌≤◌, ◌<◌, ◌↔�
 ghost use Rattle.candidate_graph.specs.declared.edge.Edge.{Edge as Edged};
 ghost use Rattle.candidate_graph.specs.Graphs.{IsWhole};
 ghost use Rattle.candidate_graph.specs.Paths.{HasEdge};
-ghost use Rattle.candidate_states.specs.Roots.{IsSomeGraph};
+ghost use Rattle.graph_order.specs.Orders.{IsSomeGraph};
 
 use candidate_graph::{Edge as Step, Graph};
 

@@ -4,7 +4,7 @@ use Rattle.mining_job.specs.Problems.{data_of, items_of}
 use Rattle.sequence_grids.specs.Grids.{items_at}
 use Rattle.candidate_graph.specs.Graphs.{Node, IsWhole}
 use Rattle.candidate_states.specs.Roots.{IsPivotRootOf}
-use Rattle.candidate_states.specs.Kept.{AreInOrder}
+use Rattle.graph_order.specs.Orders.{AreInOrder}
 use Rattle.cand_automaton.specs.Roots.{IsRootFor}
 use Rattle.cand_automaton.specs.Wholes.{part_alone}
 use Rattle.cand_automaton.proofs.RootLemmas.{begun-are, some-graph, some-nodes}

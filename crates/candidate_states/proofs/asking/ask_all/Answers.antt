@@ -1,8 +1,8 @@
 use Rattle.std.proofs.Common.{◌≡◌, ◌+◌, ◌-◌, Some, get_or, subst, arith}
 use Rattle.std.specs.List.{slice_get}
 use Rattle.std.proofs.lemmas.Option.{slice_get-get_or}
-use Rattle.candidate_states.specs.declared.order.Turn.{Turn}
-use Rattle.candidate_states.proofs.StateLemmas.{no-turn, turn-there}
+use Rattle.graph_order.specs.declared.order.Turn.{Turn}
+use Rattle.graph_order.proofs.StepLemmas.{no-turn, turn-there}
 use Rattle.candidate_states.proofs.AskLemmas.{AreClosedFrom, keeps-through, closed-more, closed-all}
 use Rattle.candidate_states.proofs.asking.ask_all.Goals as goal
 

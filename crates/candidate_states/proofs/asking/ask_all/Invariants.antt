@@ -1,5 +1,5 @@
 use Rattle.std.proofs.Common.{◌≡◌, ◌<◌, ℕ, length}
-use Rattle.candidate_states.specs.Kept.{HasTurnBefore}
+use Rattle.graph_order.specs.Orders.{HasTurnBefore}
 use Rattle.candidate_states.specs.Stages.{KeepsAsked, IsClosed}
 use Rattle.candidate_states.proofs.asking.ask_all.Given as goal
 

@@ -3,8 +3,8 @@ use Rattle.std.specs.List.{Contains}
 use Rattle.candidate_graph.specs.declared.edge.Edge.{Edge as Step}
 use Rattle.candidate_states.specs.declared.stages.Stage.{Stage}
 use Rattle.candidate_states.specs.Stages.{asked_in, IsTarget}
-use Rattle.candidate_states.proofs.OrderLemmas.{edge-inside}
-use Rattle.candidate_states.proofs.StateLemmas.{no-step, step-there}
+use Rattle.graph_order.proofs.OrderLemmas.{edge-inside}
+use Rattle.graph_order.proofs.StepLemmas.{no-step, step-there}
 use Rattle.candidate_states.proofs.AskLemmas.{asked-keeps, asked-others, keeps-through, step-target, done-more, done-closed}
 use Rattle.candidate_states.proofs.asking.ask_at.Goals as goal
 

@@ -3,7 +3,8 @@ use Rattle.std.specs.List.{AllZip}
 use Rattle.automaton_model.specs.Automata.{State}
 use Rattle.candidate_states.specs.declared.states.Made.{Made}
 use Rattle.candidate_states.specs.Kept.{state_in, IsMoved, AreStates}
-use Rattle.candidate_states.proofs.StateLemmas.{AreStepsOf, whole-expanded, steps-of, steps-inside, steps-made, states-stay, entered-states, state-kept, state-right}
+use Rattle.graph_order.proofs.StepLemmas.{AreStepsOf, whole-expanded, steps-of, steps-inside}
+use Rattle.candidate_states.proofs.StateLemmas.{steps-made, states-stay, entered-states, state-kept, state-right}
 use Rattle.candidate_states.proofs.making.make_state.Goals as goal
 
 pub edges_of-requires : goal.edges_of-requires

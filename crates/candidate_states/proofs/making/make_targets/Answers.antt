@@ -1,6 +1,7 @@
 use Rattle.std.proofs.Common.{get_or, arith}
 use Rattle.candidate_graph.specs.declared.edge.Edge.{Edge as Step}
-use Rattle.candidate_states.proofs.StateLemmas.{AreStepsOf, whole-expanded, steps-of, step-edge, steps-inside, no-step, step-there, keeps-all, targets-stay, targets-of, made-more, grows-more}
+use Rattle.graph_order.proofs.StepLemmas.{no-step, step-there, AreStepsOf, whole-expanded, steps-of, step-edge, steps-inside}
+use Rattle.candidate_states.proofs.StateLemmas.{keeps-all, targets-stay, targets-of, made-more, grows-more}
 use Rattle.candidate_states.proofs.making.make_targets.Goals as goal
 
 pub edges_of-edges-requires : goal.edges_of-edges-requires

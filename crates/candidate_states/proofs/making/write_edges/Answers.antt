@@ -3,7 +3,8 @@ use Rattle.std.specs.List.{AllZip}
 use Rattle.automaton_model.specs.declared.state.Edge.{Edge}
 use Rattle.candidate_graph.specs.declared.edge.Edge.{Edge as Step}
 use Rattle.candidate_states.specs.Kept.{IsMoved}
-use Rattle.candidate_states.proofs.StateLemmas.{no-step, step-there, moved-more}
+use Rattle.graph_order.proofs.StepLemmas.{no-step, step-there}
+use Rattle.candidate_states.proofs.StateLemmas.{moved-more}
 use Rattle.candidate_states.proofs.making.write_edges.Goals as goal
 
 pub known-requires-clause-within : goal.known-requires-clause-within

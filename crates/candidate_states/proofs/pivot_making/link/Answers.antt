@@ -3,7 +3,7 @@ use Rattle.automaton_model.specs.declared.state.Edge.{Edge}
 use Rattle.candidate_graph.specs.declared.edge.Edge.{Edge as Step}
 use Rattle.candidate_states.specs.declared.stages.Stage.{Stage}
 use Rattle.candidate_states.specs.Stages.{number_in, stage_behind, AreLinked}
-use Rattle.candidate_states.proofs.StateLemmas.{no-step, step-there}
+use Rattle.graph_order.proofs.StepLemmas.{no-step, step-there}
 use Rattle.candidate_states.proofs.LinkLemmas.{linked-push, linked-skip}
 use Rattle.candidate_states.proofs.pivot_making.link.Goals.{in-Some+in_ok-push, in_default}
 use Rattle.candidate_states.proofs.pivot_making.link.Goals as goal

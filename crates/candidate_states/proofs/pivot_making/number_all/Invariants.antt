@@ -2,7 +2,7 @@ use Rattle.std.proofs.Common.{◌≡◌, ◌++◌, ◌<◌, ℕ, Some, List, len
 use Rattle.std.specs.List.{slice_get}
 use Rattle.automaton_model.specs.Automata.{State}
 use Rattle.automaton_model.specs.Registry.{IsRegistry}
-use Rattle.candidate_states.specs.declared.order.Turn.{Turn}
+use Rattle.graph_order.specs.declared.order.Turn.{Turn}
 use Rattle.candidate_states.specs.Stages.{AreNumbered, IsSettled}
 use Rattle.candidate_states.proofs.pivot_making.number_all.Given as goal
 

@@ -5,7 +5,7 @@ use Rattle.automaton_model.specs.Automata.{State}
 use Rattle.automaton_model.specs.Registry.{IsKeptState}
 use Rattle.candidate_states.specs.declared.numbers.Numbers.{Numbers}
 use Rattle.candidate_states.specs.Stages.{asked_in, can_end, AreLinked, AreNumbered}
-use Rattle.candidate_states.proofs.OrderLemmas.{edge-inside}
+use Rattle.graph_order.proofs.OrderLemmas.{edge-inside}
 use Rattle.candidate_states.proofs.LinkLemmas.{dead-settled, stage-kept, stage-right, numbered-stay, entered-numbered}
 use Rattle.candidate_states.proofs.pivot_making.number_at.Goals.{else-not-state-via-then-not-state+else-is_empty, else-not-state-via-else-not-state}
 use Rattle.candidate_states.proofs.pivot_making.number_at.Goals as goal

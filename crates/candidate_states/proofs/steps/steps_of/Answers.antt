@@ -1,5 +1,5 @@
-use Rattle.candidate_states.proofs.StateLemmas.{whole-expanded, steps-of}
-use Rattle.candidate_states.proofs.StageLemmas.{steps-rising, steps-exact, taken-rising}
+use Rattle.graph_order.proofs.StepLemmas.{whole-expanded, steps-of, steps-rising}
+use Rattle.candidate_states.proofs.StageLemmas.{steps-exact, taken-rising}
 use Rattle.candidate_states.proofs.steps.steps_of.Goals as goal
 
 pub edges_of-steps-requires : goal.edges_of-steps-requires

@@ -1,9 +1,9 @@
 use Rattle.std.proofs.Common.{◌+◌, List, refl, sym, subst, arith}
 use Rattle.mine_model.proofs.ElementLemmas.{get-some}
-use Rattle.candidate_states.specs.declared.order.Turn.{Turn}
-use Rattle.candidate_states.specs.Kept.{AreTurns}
-use Rattle.candidate_states.proofs.OrderLemmas.{turn-more}
-use Rattle.candidate_states.proofs.order.list_nodes.Goals as goal
+use Rattle.graph_order.specs.declared.order.Turn.{Turn}
+use Rattle.graph_order.specs.Levels.{AreTurns}
+use Rattle.graph_order.proofs.OrderLemmas.{turn-more}
+use Rattle.graph_order.proofs.order.list_nodes.Goals as goal
 
 pub nodes-preserved : goal.nodes-preserved
 nodes-preserved c =

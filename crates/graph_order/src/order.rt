@@ -1,9 +1,9 @@
-//! The order in which the states of nodes are made.
+//! Nodes by how far from the last place they stand.
 
 ghost use Rattle.std.specs.Prelude.{◌≡◌, ◌<◌, [], Some, length, slice_get, OnOk};
 ghost use Rattle.candidate_graph.specs.Graphs.{Node};
-ghost use Rattle.candidate_states.specs.Roots.{IsSomeGraph};
-ghost use Rattle.candidate_states.specs.Kept.{AreInOrder, IsLevel, AreTurns};
+ghost use Rattle.graph_order.specs.Orders.{IsSomeGraph, AreInOrder};
+ghost use Rattle.graph_order.specs.Levels.{IsLevel, AreTurns};
 
 use candidate_graph::Graph;
 use mine_model::NoMemory;
@@ -12,13 +12,13 @@ use std::marker::Model;
 
 /// A node, and how far from the last place its first stand is: 0 where it has no stands.
 #[derive(Clone, Copy, Debug)]
-pub(crate) struct Turn {
-    pub(crate) level: u64,
-    pub(crate) node: u32,
+pub struct Turn {
+    pub level: u64,
+    pub node: u32,
 }
 
-/// The nodes of a graph, each after those to which its edges lead. It is made once for a graph and serves for
-/// each pivot, and its room is used again for the next graph.
+/// The nodes of a graph, each after those to which its edges lead. It is made once for a graph, and its room
+/// is used again for the next.
 #[derive(Drop)]
 pub struct Order {
     turns: Vec<Turn>,
@@ -26,7 +26,7 @@ pub struct Order {
 
 impl Model for Order {
     ghost use Rattle.std.specs.Prelude.{List};
-    ghost use Rattle.candidate_states.specs.declared.order.Turn.{Turn as Turned};
+    ghost use Rattle.graph_order.specs.declared.order.Turn.{Turn as Turned};
 
     ghost Value = { List Turned };
 
@@ -52,7 +52,7 @@ impl Order {
     }
 
     /// The nodes in this order.
-    pub(crate) fn turns(&self) -> &[Turn]
+    pub fn turns(&self) -> &[Turn]
         ensures { result.now ≡ self.now }
     {
         self.turns.as_slice()
@@ -60,7 +60,7 @@ impl Order {
 }
 
 /// All nodes, each after those to which its edges lead, in place of those before.
-pub(crate) fn order_nodes(graph: &Graph, order: &mut Vec<Turn>) -> Result<(), NoMemory>
+fn order_nodes(graph: &Graph, order: &mut Vec<Turn>) -> Result<(), NoMemory>
     requires { IsSomeGraph graph.now.nodes }
     ensures { OnOk result (AreInOrder graph.now.nodes order.new.items) }
 {

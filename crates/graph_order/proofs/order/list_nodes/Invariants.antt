@@ -1,5 +1,5 @@
-use Rattle.candidate_states.specs.Kept.{AreTurns}
-use Rattle.candidate_states.proofs.order.list_nodes.Given as goal
+use Rattle.graph_order.specs.Levels.{AreTurns}
+use Rattle.graph_order.proofs.order.list_nodes.Given as goal
 
 -- the nodes so far have their turns
 abbrev pub invariant-nodes : goal.invariant-nodes

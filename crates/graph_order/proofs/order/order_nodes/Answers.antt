@@ -1,8 +1,8 @@
 use Rattle.std.proofs.Common.{rules}
 use Rattle.std.proofs.lemmas.List.Sorted.{IsNonDecreasingBy-from_sort_by_key}
-use Rattle.candidate_states.specs.declared.order.Turn.{Turn}
-use Rattle.candidate_states.proofs.OrderLemmas.{in-order}
-use Rattle.candidate_states.proofs.order.order_nodes.Goals as goal
+use Rattle.graph_order.specs.declared.order.Turn.{Turn}
+use Rattle.graph_order.proofs.OrderLemmas.{in-order}
+use Rattle.graph_order.proofs.order.order_nodes.Goals as goal
 
 pub returns : goal.returns
 returns c =

@@ -15,9 +15,9 @@ use Rattle.candidate_graph.specs.Graphs.{Node, points_of}
 use Rattle.candidate_graph.specs.Paths.{HasEdge}
 use Rattle.candidate_graph.proofs.BasicLemmas.{get-from, get-place}
 use Rattle.candidate_graph.proofs.PathLemmas.{places-rise, edge-leaves, edge-leads}
-use Rattle.candidate_states.specs.declared.order.Turn.{Turn}
-use Rattle.candidate_states.specs.Roots.{IsSomeGraph}
-use Rattle.candidate_states.specs.Kept.{IsLevelAt, IsLevel, AreTurns, HasTurnBefore, AreInOrder}
+use Rattle.graph_order.specs.declared.order.Turn.{Turn}
+use Rattle.graph_order.specs.Orders.{IsSomeGraph, HasTurnBefore, AreInOrder}
+use Rattle.graph_order.specs.Levels.{IsLevelAt, IsLevel, AreTurns}
 
 -- levels fall where places rise, or no place is left
 level-falls : (first : Stand) (later : Option Stand) (level lower : ℕ) → IsLevelAt (Some first) level → IsLevelAt later lower
@@ -108,5 +108,3 @@ turn-more nodes count order turn node is node_is level are = record {
     | inr most ↦ (turn, Contains-append_right order (turn ∷ []) turn (Contains-first turn []), omega (arith, below, most, is))
   ];
 }
-
--- ---- levels

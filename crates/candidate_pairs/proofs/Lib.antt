@@ -1,0 +1,4 @@
+pub mod NumberLemmas
+pub mod PathLemmas
+pub mod SumLemmas
+pub mod CandidateLemmas

@@ -1,0 +1,4 @@
+-- the words of the promise
+pub mod Paths
+-- what the proofs keep
+pub mod Sums

@@ -1,0 +1,4 @@
+-- the words of the promise
+pub mod Orders
+-- what the proofs keep
+pub mod Levels
