@@ -1,16 +1,12 @@
 -- What is written behind visits.
-use Rattle.std.proofs.Common.{◌≡◌, ℕ, zero, suc, ◌+◌, ◌<◌, ◌⊎◌, ◌↔◌, inl, inr, Bool, true, IsTrue, Some, List, [], ◌∷◌, ◌++◌, length, get_or, drop, refl, sym, ap, ◌∙◌, subst, arith}
-use Rattle.std.specs.List.{Contains, slice_get}
-use Rattle.std.proofs.lemmas.List.{append-nil, length-append}
-use Rattle.std.proofs.lemmas.Option.{same_Some}
+use Rattle.std.proofs.Common.{◌≡◌, ℕ, ◌⊎◌, ◌↔◌, inl, inr, Bool, true, IsTrue, List, [], ◌∷◌, ◌++◌, refl, sym, ap, ◌∙◌, subst}
+use Rattle.std.specs.List.{Contains}
 use Rattle.std.proofs.lemmas.List.Elements.{Contains-push, Contains-push_cases, Contains-append_left}
 use Rattle.mine_model.proofs.ListLemmas.{Contains-cases, Contains-first, Contains-none}
 use Rattle.walk_memo.specs.declared.action.Action.{Action}
 use Rattle.place_walk.specs.declared.visit.Visit.{Visit}
 use Rattle.place_walk.specs.Courses.{Course}
-use Rattle.place_walk.specs.Visits.{AreVisits, AreVisitsOf}
-use Rattle.place_walk.specs.Groups.{IsGroup, AreGroups, AreWalked}
-use Rattle.place_walk.specs.declared.stand.Stand.{Stand}
+use Rattle.place_walk.specs.Visits.{AreVisits}
 use Rattle.stand_sums.specs.Writings.{Ranks, opens}
 use Rattle.stand_sums.specs.Sequences.{HasOne}
 use Rattle.stand_sums.specs.Files.{stand_at}
@@ -91,35 +87,7 @@ module _ (course : Course) (ranks : Ranks) (rank : ℕ) (test : Visit → Bool) 
     passes = next.passes;
   }
 
--- ---- a walk from where the path stands
-
--- what walks of one stand find
-pub walked-one : (course : Course) (stand : Stand) (left : List Stand) (visits : List Visit) → IsTrue stand.first → left ≡ [] → ((groups : List (List Stand)) → AreGroups (stand ∷ []) groups → AreWalked course groups left visits)
-    → AreVisits course (stand ∷ []) visits
-walked-one course stand left visits marked none walked =
-    let group : IsGroup (stand ∷ []) = record {
-      some = omega arith;
-      marked = λ k one at. one-marked stand marked k one at;
-    } in
-    let walk = walked ((stand ∷ []) ∷ []) ([], refl, group, refl) in
-    only course stand walk.done walk.rest visits walk.cut (subst (λ (l : List Stand). AreGroups l walk.rest) none walk.left_are) walk.visits_are
-  where
-    front-none : (done rest : List (List Stand)) → [] ≡ done ++ rest → done ≡ []
-    front-none [] rest is = refl
-    front-none (one ∷ done) rest is = absurd (cc)
-
-    one-marked : (stand : Stand) → IsTrue stand.first → (k : ℕ) (one : Stand) → slice_get (stand ∷ []) k ≡ Some one → IsTrue one.first ↔ (k ≡ 0)
-    one-marked stand marked zero one at = ((λ is. refl), (λ is. subst (λ (s : Stand). IsTrue s.first) (same_Some stand one at) marked))
-    one-marked stand marked (suc k) one at = absurd (cc)
-
-    only : (course : Course) (stand : Stand) (done rest : List (List Stand)) (visits : List Visit) → (stand ∷ []) ∷ [] ≡ done ++ rest → AreGroups [] rest → AreVisitsOf course done visits → AreVisits course (stand ∷ []) visits
-    only course stand [] [] visits cut none are = absurd (cc)
-    only course stand [] (group ∷ rest) visits cut (behind, is, some, more) are = absurd (let no' : 0 < 0 = (let e : length group + length behind ≡ 0 = sym (length-append group behind) ∙ sym (ap (λ (l : List Stand). length l) is) in let s = some.some in omega arith) in omega arith)
-    only course stand (group ∷ done) rest visits cut none (here, there, is, are, others) =
-        let same : stand ∷ [] ≡ group = ap (λ (l : List (List Stand)). get_or l 0 []) cut in
-        let empty : done ≡ [] = front-none done rest (ap (λ (l : List (List Stand)). drop 1 l) cut) in
-        let nothing : there ≡ [] = subst (λ (l : List (List Stand)). AreVisitsOf course l there) empty others in
-        rw same (subst (AreVisits course group) (sym (is ∙ ap (λ (l : List Visit). here ++ l) nothing ∙ append-nil here)) are)
+-- ---- what is found behind one visit
 
 module _ (course : Course) (visit : Visit) (room : List Visit) (are : AreVisits course (stand_at true visit ∷ []) room)
     (by : ℕ → Action → Bool) (test : Visit → Bool) (tests : (one : Visit) → test one ≡ by one.kind one.action) where

@@ -1,5 +1,6 @@
 pub mod BehindLemmas
 pub mod ReadLemmas
+pub mod FollowLemmas
 pub mod GatherLemmas
 pub mod AddLemmas
 pub mod RoomLemmas

@@ -1,9 +1,7 @@
 -- What is read of one visit.
-use Rattle.std.proofs.Common.{◌≡◌, ℕ, ◌+◌, ◌<◌, ◌⊎◌, ◌↔◌, inl, inr, Bool, true, false, true≢false, ◌||◌, IsTrue, List, [], ◌∷◌, ◌++◌, length, take, get_or, refl, sym, ap, ◌∙◌, subst}
-use Rattle.std.specs.List.{Contains, All}
+use Rattle.std.proofs.Common.{◌≡◌, ℕ, ◌⊎◌, ◌↔◌, inl, inr, Bool, true, false, ◌||◌, IsTrue, List, [], ◌∷◌, refl, ap}
+use Rattle.std.specs.List.{Contains}
 use Rattle.std.proofs.lemmas.Bool.{false_from_ne_true}
-use Rattle.std.proofs.lemmas.List.{take_more}
-use Rattle.std.proofs.lemmas.List.Elements.{Contains-push_cases, Contains-get_or}
 use Rattle.state_bits.specs.Members.{Has}
 use Rattle.walk_memo.specs.declared.action.Action.{Action}
 use Rattle.place_walk.specs.declared.visit.Visit.{Visit}
@@ -12,9 +10,9 @@ use Rattle.place_walk.specs.Visits.{AreVisits}
 use Rattle.stand_sums.specs.Writings.{Ranks, opens, ends, follows}
 use Rattle.stand_sums.specs.Sequences.{HasOne}
 use Rattle.stand_sums.specs.Files.{stand_at}
-use Rattle.mask_sums.specs.Kept.{free, IsSetOf}
-use Rattle.mask_sums.proofs.SetLemmas.{opens-yes, opens-no, ends-yes, ends-no, set-more}
-use Rattle.level_ahead.specs.Behind.{HasBehind, FollowsBehind, GoesOnBehind, CanLookBehind}
+use Rattle.mask_sums.specs.Kept.{free}
+use Rattle.mask_sums.proofs.SetLemmas.{opens-yes, opens-no}
+use Rattle.level_ahead.specs.Behind.{HasBehind, FollowsBehind, GoesOnBehind}
 use Rattle.level_ahead.proofs.BehindLemmas.{one-opens, one-behind, behind-one, found-behind, behind-found}
 
 -- ---- visits that do not go on
@@ -23,40 +21,6 @@ use Rattle.level_ahead.proofs.BehindLemmas.{one-opens, one-behind, behind-one, f
 pub follows-is : (ranks : Ranks) (visit : Visit) (rank : ℕ) → visit.action.more ≡ false → follows ranks free rank visit ≡ ends ranks free rank visit
 follows-is ranks visit rank stays =
     ap (λ (b : Bool). b || ends ranks free rank visit) (false_from_ne_true (opens ranks free rank visit) (opens-no ranks visit stays rank))
-
-module _ (ranks : Ranks) (visits : List Visit) (k : ℕ) (d : Visit) (inside : k < length visits) (stays : (get_or visits k d).action.more ≡ false) where
-  abbrev pub visit : Visit
-  visit = get_or visits k d
-
-  read : take (k + 1) visits ≡ take k visits ++ visit ∷ []
-  read = take_more visits k d inside
-
-  pub quiet-more : (HasOne (λ visit. visit.action.more) (take k visits) → ⊥) → HasOne (λ visit. visit.action.more) (take (k + 1) visits) → ⊥
-  quiet-more quiet has =
-      let (one, held, goes) = subst (HasOne (λ visit. visit.action.more)) read has in
-      elim (Contains-push_cases (take k visits) visit one held) [
-        | inl there ↦ quiet (one, there, goes)
-        | inr same ↦ true≢false (sym goes ∙ sym (ap (λ (v : Visit). v.action.more) same) ∙ stays)
-      ]
-
-  pub ranks-more : (before after mask : ℕ) → visit.action.ends ≡ true → ((rank : ℕ) → Has mask rank ↔ Contains (ranks visit.kind visit.action.state) rank)
-      → ((rank : ℕ) → Has after rank ↔ (Has before rank ⊎ Has mask rank)) → IsSetOf (follows ranks free) (take k visits) before → IsSetOf (follows ranks free) (take (k + 1) visits) after
-  ranks-more before after mask stops is union set =
-      subst (λ (vs : List Visit). IsSetOf (follows ranks free) vs after) (sym read)
-      (set-more (follows ranks free) (take k visits) visit before after set (λ rank.
-      let same : follows ranks free rank visit ≡ ends ranks free rank visit = follows-is ranks visit rank stays in
-      let ending = ends-yes ranks visit mask is stops rank in (
-        (λ has. elim ((union rank).0 has) [ inl had ↦ inl had | inr new ↦ inr (same ∙ ending.0 new) ]),
-        (λ either. (union rank).1 (elim either [ inl had ↦ inl had | inr passes ↦ inr (ending.1 (sym same ∙ passes)) ])),
-      )))
-
-  pub ranks-same : (before : ℕ) → visit.action.ends ≡ false → IsSetOf (follows ranks free) (take k visits) before → IsSetOf (follows ranks free) (take (k + 1) visits) before
-  ranks-same before goes set =
-      subst (λ (vs : List Visit). IsSetOf (follows ranks free) vs before) (sym read)
-      (set-more (follows ranks free) (take k visits) visit before before set (λ rank. (
-        (λ has. inl has),
-        (λ either. elim either [ inl had ↦ had | inr passes ↦ absurd (ends-no ranks visit goes rank (sym (follows-is ranks visit rank stays) ∙ passes)) ]),
-      )))
 
 -- ---- one visit
 
@@ -82,16 +46,6 @@ module _ (course : Course) (ranks : Ranks) (visit : Visit) (mask asked wanted : 
 
     abbrev follows-by : ℕ → ℕ → Action → Bool
     follows-by other kind action = follows ranks free other (record { place = 0; kind = kind; action = action; first = false })
-
-    pub room-asked : (CanAsk : ℕ → ℕ → Type 0) → CanLookBehind course CanAsk visit → All (λ one. CanAsk one.kind one.action.state) room
-    room-asked CanAsk can k d inside =
-        let one : Visit = get_or room k d in
-        can.asked one ((are.exact one.place one.kind one.action).0 (one, Contains-get_or room k d inside, refl, refl, refl))
-
-    -- what goes on there
-    pub goes-there : (rank : ℕ) → Has wanted rank → HasOne (λ one. one.action.more) room → GoesOnBehind course ranks rank (visit ∷ [])
-    goes-there rank has one =
-        behind-one course ranks rank (λ next. next.action.more) visit (wanted-opens rank has).1 (found-behind course visit room are goes-on (λ next. next.action.more) (λ next. refl) one)
 
     pub quiet-there : (HasOne (λ one. one.action.more) room → ⊥) → (rank : ℕ) → GoesOnBehind course ranks rank (visit ∷ []) → ⊥
     quiet-there quiet rank goes =

@@ -3,4 +3,5 @@ pub mod Behind
 pub mod Counts
 pub mod Longer
 -- what the proofs keep
+pub mod Following
 pub mod Kept

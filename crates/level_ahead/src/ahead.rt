@@ -15,7 +15,7 @@ use super::next_of::NextOf;
 use mask_sums::Masks;
 use member_counts::MemberCounts;
 use mine_model::NoMemory;
-use place_walk::{Visit, Visits};
+use place_walk::Visit;
 use stand_sums::NextRank;
 use state_bits::StateSet;
 use std::alloc::Global;
@@ -35,7 +35,6 @@ pub struct Ahead {
     gathered: Gathered,
     // By rank. What is not asked about counts for nothing.
     counts: Vec<MemberCounts<4>>,
-    visits: Visits,
 }
 
 // Written out, so that it is let go of by a call, and not part by part wherever one is.
@@ -46,7 +45,6 @@ impl Drop for Ahead {
             asked: _,
             gathered: _,
             counts: _,
-            visits: _,
         } = self;
     }
 }
@@ -73,7 +71,6 @@ impl Ahead {
             asked: StateSet::new(),
             gathered: Gathered::new(alloc),
             counts: Vec::new(alloc),
-            visits: Visits::new(alloc),
         }
     }
 
@@ -130,7 +127,6 @@ impl Ahead {
             &self.asked,
             &mut self.gathered,
             self.counts.as_mut_slice(),
-            &mut self.visits,
         )
     }
 

@@ -16,7 +16,7 @@ use super::reading::read_visit;
 use mask_sums::Masks;
 use member_counts::MemberCounts;
 use mine_model::NoMemory;
-use place_walk::{Visit, Visits};
+use place_walk::Visit;
 use state_bits::StateSet;
 use walk_memo::Memo;
 use walk_places::Places;
@@ -31,7 +31,6 @@ pub(crate) fn count_all<const W: usize, T: Masks>(
     asked: &StateSet<4>,
     gathered: &mut Gathered,
     counts: &mut [MemberCounts<4>],
-    room: &mut Visits,
 ) -> Result<bool, NoMemory>
     requires width { W ≤ 17 }
     requires few { length places.now < 2 ^ 32 }
@@ -56,7 +55,7 @@ pub(crate) fn count_all<const W: usize, T: Masks>(
 {
     let mut from = 0;
     'sequences: while from < visits.len() {
-        match read_sequence(memo, places, table, visits, from, asked, gathered, room)? {
+        match read_sequence(memo, places, table, visits, from, asked, gathered)? {
             Some(end) => {
                 count_sequence(gathered, counts)?;
                 from = end;
@@ -77,7 +76,6 @@ fn read_sequence<const W: usize, T: Masks>(
     from: usize,
     asked: &StateSet<4>,
     gathered: &mut Gathered,
-    room: &mut Visits,
 ) -> Result<Option<usize>, NoMemory>
     requires width { W ≤ 17 }
     requires few { length places.now < 2 ^ 32 }
@@ -98,7 +96,7 @@ fn read_sequence<const W: usize, T: Masks>(
     gathered.forget();
     let mut end = from;
     'visits: while end < visits.len() && (end == from || !visits[end].first) {
-        if !read_visit(memo, places, table, visits[end], asked, gathered, room)? {
+        if !read_visit(memo, places, table, visits[end], asked, gathered)? {
             return Ok(None);
         }
         end += 1;

@@ -4,6 +4,7 @@
 
 mod ahead;
 mod counting;
+mod following;
 mod gathered;
 mod laws;
 mod next_of;

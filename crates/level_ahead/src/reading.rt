@@ -12,10 +12,11 @@ ghost use Rattle.mask_sums.specs.Kept.{free};
 ghost use Rattle.level_ahead.specs.Behind.{IsBehind, FollowsBehind, GoesOnBehind, CanLookBehind};
 ghost use Rattle.level_ahead.specs.Kept.{HasGathered};
 
+use super::following::follow_behind;
 use super::gathered::Gathered;
 use mask_sums::Masks;
 use mine_model::NoMemory;
-use place_walk::{Stand, Stands, Visit, Visits, walk_some};
+use place_walk::Visit;
 use state_bits::StateSet;
 use walk_memo::Memo;
 use walk_places::Places;
@@ -29,7 +30,6 @@ pub(crate) fn read_visit<const W: usize, T: Masks>(
     visit: Visit,
     asked: &StateSet<4>,
     gathered: &mut Gathered,
-    room: &mut Visits,
 ) -> Result<bool, NoMemory>
     requires width { W ≤ 17 }
     requires few { length places.now < 2 ^ 32 }
@@ -61,8 +61,7 @@ pub(crate) fn read_visit<const W: usize, T: Masks>(
         Some(first) => first,
         None => return Ok(true),
     };
-    walk_behind(memo, places, visit, room)?;
-    match ended_ranks(table, room.as_slice()) {
+    match follow_behind(memo, places, table, visit)? {
         Some(next) => {
             gathered.gather(&wanted, &next);
             Ok(true)
@@ -78,52 +77,4 @@ fn first_of(set: &StateSet<4>) -> Option<u32>
     ensures none { IfNone result ((rank : ℕ) → Has set.now rank → ⊥) }
 {
     set.iter().next()
-}
-
-/// Walks from where the path stands behind the visit.
-#[inline]
-fn walk_behind<const W: usize>(
-    memo: &mut Memo<W>,
-    places: &Places,
-    visit: Visit,
-    room: &mut Visits,
-) -> Result<(), NoMemory>
-    requires width { W ≤ 17 }
-    requires few { length places.now < 2 ^ 32 }
-    requires moves { All (λ entry. entry.of < length memo.old.moves) places.now }
-    requires place { visit.place < length places.now }
-    requires state { visit.action.state < length memo.old.rows }
-    ensures rows { memo.new.rows ≡ memo.old.rows }
-    ensures moves { memo.new.moves ≡ memo.old.moves }
-    ensures visits { OnOk result (AreVisits (course_of memo.old places.now) (stand_at true visit ∷ [])
-        room.new) }
-{
-    let stands = [Stand {
-        place: visit.place,
-        state: visit.action.state,
-        first: true,
-    }];
-    walk_some(memo, places, &Stands::of(&stands), 0, room)?;
-    Ok(())
-}
-
-/// The ranks that follow by these visits, unless one of them goes on.
-fn ended_ranks<T: Masks>(table: &T, visits: &[Visit]) -> Option<StateSet<4>>
-    requires kept { IsTrue (T.keeps table.now) }
-    requires asked { All (λ visit. T.CanAsk table.now visit.kind visit.action.state) visits.now }
-    ensures ranks { IfSome result (λ set. (rank : ℕ) → Has set rank
-        ↔ HasOne (follows (T.ranks table.now) free rank) visits.now) }
-    ensures ended { IfSome result (λ set. HasOne (λ visit. visit.action.more) visits.now → ⊥) }
-    ensures goes { IfNone result (HasOne (λ visit. visit.action.more) visits.now) }
-{
-    let mut ranks = StateSet::new();
-    for visit in visits {
-        if visit.action.more {
-            return None;
-        }
-        if visit.action.ends {
-            ranks.union_with(table.mask(visit.kind, visit.action.state));
-        }
-    }
-    Some(ranks)
 }

@@ -1,5 +1,6 @@
-use Rattle.std.proofs.Common.{ℕ, true, List, [], ◌∷◌, sym, subst}
+use Rattle.std.proofs.Common.{ℕ, ◌↔◌, inl, inr, true, Option, IfSome, List, [], ◌∷◌, subst}
 use Rattle.state_bits.specs.Members.{Has}
+use Rattle.state_bits.proofs.NeighbourLemmas.{Has-none}
 use Rattle.place_walk.specs.declared.visit.Visit.{Visit}
 use Rattle.place_walk.specs.Courses.{course_of}
 use Rattle.place_walk.specs.Visits.{AreVisits}
@@ -8,9 +9,14 @@ use Rattle.stand_sums.specs.Files.{stand_at}
 use Rattle.mask_sums.specs.Kept.{free}
 use Rattle.mask_sums.proofs.RunLemmas.{not-false}
 use Rattle.level_ahead.specs.Behind.{FollowsBehind}
+use Rattle.level_ahead.specs.Following.{HasEnded}
 use Rattle.level_ahead.specs.Kept.{HasGathered}
-use Rattle.level_ahead.proofs.ReadLemmas.{either-none, either-by, closed-behind, wanted-opens, opens-wanted, room-asked, goes-there, quiet-there, follows-there}
+use Rattle.level_ahead.proofs.ReadLemmas.{either-none, either-by, closed-behind, opens-wanted, quiet-there, follows-there}
+use Rattle.stand_sums.specs.Sequences.{HasOne}
+use Rattle.stand_sums.specs.Writings.{Ranks}
+use Rattle.level_ahead.proofs.reading.read_visit.Given.{Over}
 use Rattle.level_ahead.proofs.reading.read_visit.Goals as goal
+use Rattle.level_ahead.proofs.reading.read_visit.Goals.{In-Some-2}
 
 pub returns-in-None-clause-gathered : goal.returns-in-None-clause-gathered
 returns-in-None-clause-gathered g c ended rank other asks =
@@ -33,55 +39,38 @@ returns-in-None-clause-ended g c ended rank asks =
     let wanted : ℕ = c.intersect_with.new.self in
     closed-behind course ranks rank (λ next. next.action.more) visit (λ opening. c.in-None.ensures.none rank (opens-wanted course ranks visit mask asked wanted c.mask.ensures (not-false c.args.visit.action.more c.if-not-visit.false) c.intersect_with.ensures rank asks opening))
 
-pub ended_ranks-requires-clause-asked : goal.ended_ranks-requires-clause-asked
-ended_ranks-requires-clause-asked g c =
-    let course = course_of c.args.memo.now c.args.places.now in
-    let ranks = g.T.Outputs.ranks c.args.table.now in
-    let visit : Visit = c.args.visit in
-    let mask : ℕ = c.mask.result.now in
-    let asked : ℕ = c.args.asked.now in
-    let wanted : ℕ = c.intersect_with.new.self in
-    let room : List Visit = c.as_slice.result.now in
-    let are : AreVisits course (stand_at true visit ∷ []) room = subst (AreVisits course (stand_at true visit ∷ [])) (sym c.as_slice.ensures) c.in_ok-walk_behind.ensures.visits in
-    let (asks, opening) = wanted-opens course ranks visit mask asked wanted c.mask.ensures (not-false c.args.visit.action.more c.if-not-visit.false) c.intersect_with.ensures c.in-Some.first c.in-Some.ensures.some in
-    room-asked course ranks visit mask asked wanted c.mask.ensures (not-false c.args.visit.action.more c.if-not-visit.false) c.intersect_with.ensures room are (g.T.Outputs.CanAsk c.args.table.now) (c.requires.behind c.in-Some.first asks opening)
+module _ (g : Over) (c : In-Some-2 g) where
+  -- what was found on the way behind the visit
+  found : (room : List Visit) × AreVisits (course_of c.args.memo.now c.args.places.now) (stand_at true c.args.visit ∷ []) room
+      × HasEnded (g.T.Outputs.ranks c.args.table.now) room 0 c.in-Some-2.next
+  found =
+      subst (λ (o : Option ℕ). IfSome o (λ set. (room : List Visit) × AreVisits (course_of c.args.memo.now c.args.places.now) (stand_at true c.args.visit ∷ []) room
+      × HasEnded (g.T.Outputs.ranks c.args.table.now) room 0 set)) c.in-Some-2.is c.in_ok-next.ensures.some
 
-pub returns-in-Some-ended_ranks-clause-gathered : goal.returns-in-Some-ended_ranks-clause-gathered
-returns-in-Some-ended_ranks-clause-gathered g c ended rank other asks =
+pub returns-in-Some-2-clause-gathered : goal.returns-in-Some-2-clause-gathered
+returns-in-Some-2-clause-gathered g c ended rank other asks =
     let course = course_of c.args.memo.now c.args.places.now in
-    let ranks = g.T.Outputs.ranks c.args.table.now in
+    let ranks : Ranks = g.T.Outputs.ranks c.args.table.now in
     let visit : Visit = c.args.visit in
     let mask : ℕ = c.mask.result.now in
     let asked : ℕ = c.args.asked.now in
     let wanted : ℕ = c.intersect_with.new.self in
-    let room : List Visit = c.as_slice.result.now in
-    let are : AreVisits course (stand_at true visit ∷ []) room = subst (AreVisits course (stand_at true visit ∷ [])) (sym c.as_slice.ensures) c.in_ok-walk_behind.ensures.visits in
-    let next : ℕ = c.in-Some-ended_ranks.next in
+    let next : ℕ = c.in-Some-2.next in
+    let (room, are, is) = found g (goal.at.returns-in-Some-2-clause-gathered g c).In-Some-2 in
+    let set : (one : ℕ) → Has next one ↔ HasOne (follows ranks free one) room = λ one. (
+      (λ has. elim ((is.added one).0 has) [ inl none ↦ absurd (Has-none one none) | inr follows ↦ follows ]),
+      (λ follows. (is.added one).1 (inr follows)),
+    ) in
     either-by (HasGathered c.gather.new.self rank other) (HasGathered c.args.gathered.now rank other) (Has wanted rank × Has next other) (FollowsBehind course ranks rank other (visit ∷ []))
-    (c.gather.ensures.gathered rank other) (follows-there course ranks visit mask asked wanted c.mask.ensures (not-false c.args.visit.action.more c.if-not-visit.false) c.intersect_with.ensures room are next c.in-Some-ended_ranks.ensures.ranks rank other asks)
+    (c.gather.ensures.gathered rank other) (follows-there course ranks visit mask asked wanted c.mask.ensures (not-false c.args.visit.action.more c.if-not-visit.false) c.intersect_with.ensures room are next set rank other asks)
 
-pub returns-in-Some-ended_ranks-clause-ended : goal.returns-in-Some-ended_ranks-clause-ended
-returns-in-Some-ended_ranks-clause-ended g c ended rank asks =
+pub returns-in-Some-2-clause-ended : goal.returns-in-Some-2-clause-ended
+returns-in-Some-2-clause-ended g c ended rank asks =
     let course = course_of c.args.memo.now c.args.places.now in
-    let ranks = g.T.Outputs.ranks c.args.table.now in
+    let ranks : Ranks = g.T.Outputs.ranks c.args.table.now in
     let visit : Visit = c.args.visit in
     let mask : ℕ = c.mask.result.now in
     let asked : ℕ = c.args.asked.now in
     let wanted : ℕ = c.intersect_with.new.self in
-    let room : List Visit = c.as_slice.result.now in
-    let are : AreVisits course (stand_at true visit ∷ []) room = subst (AreVisits course (stand_at true visit ∷ [])) (sym c.as_slice.ensures) c.in_ok-walk_behind.ensures.visits in
-    quiet-there course ranks visit mask asked wanted c.mask.ensures (not-false c.args.visit.action.more c.if-not-visit.false) c.intersect_with.ensures room are c.in-Some-ended_ranks.ensures.ended rank
-
-pub returns-in-None-ended_ranks-clause-goes : goal.returns-in-None-ended_ranks-clause-goes
-returns-in-None-ended_ranks-clause-goes g c same =
-    let course = course_of c.args.memo.now c.args.places.now in
-    let ranks = g.T.Outputs.ranks c.args.table.now in
-    let visit : Visit = c.args.visit in
-    let mask : ℕ = c.mask.result.now in
-    let asked : ℕ = c.args.asked.now in
-    let wanted : ℕ = c.intersect_with.new.self in
-    let room : List Visit = c.as_slice.result.now in
-    let are : AreVisits course (stand_at true visit ∷ []) room = subst (AreVisits course (stand_at true visit ∷ [])) (sym c.as_slice.ensures) c.in_ok-walk_behind.ensures.visits in
-    let first : ℕ = c.in-Some.first in
-    let (asks, opening) = wanted-opens course ranks visit mask asked wanted c.mask.ensures (not-false c.args.visit.action.more c.if-not-visit.false) c.intersect_with.ensures first c.in-Some.ensures.some in
-    (first, asks, goes-there course ranks visit mask asked wanted c.mask.ensures (not-false c.args.visit.action.more c.if-not-visit.false) c.intersect_with.ensures room are first c.in-Some.ensures.some c.in-None-ended_ranks.ensures.goes)
+    let (room, are, is) = found g (goal.at.returns-in-Some-2-clause-ended g c).In-Some-2 in
+    quiet-there course ranks visit mask asked wanted c.mask.ensures (not-false c.args.visit.action.more c.if-not-visit.false) c.intersect_with.ensures room are is.ended rank
