@@ -105,7 +105,7 @@ module _ (part : GridList) (is : IsPart part) (width : ℕ) (rows : List ℕ) (r
         (supported next.rank tally.support (support-all ranks aim weights next.rank visits sequences tally count))
         (light-behind next.rank tally.longer (longer-all ranks aim weights next.rank visits sequences tally count)) in
         empty-next part is least some (prefixes ++ next.rank ∷ [])
-        (record { seen = sees list.seen part.bound.need next.rank; support = next.support; stands = slice_range [] next.first next.last; next = None }) bare refl
+        (record { seen = sees list.seen part.bound.need next.rank; support = next.support; stands = slice_range [] next.first next.last; next = None; bytes = None }) bare refl refl
         (ap (λ (l : List Stand). length l) (range-none [] next.first next.last none))
 
     -- what is kept of the prefix with it
@@ -131,7 +131,7 @@ module _ (part : GridList) (is : IsPart part) (width : ℕ) (rows : List ℕ) (r
               next.rank low high next.support support;
           seen = is_kept.seen;
           support = is_kept.support;
-          stands = subst (TellNext part least (prefixes ++ next.rank ∷ []) mine.snapshots kept.stands) (sym is_kept.next_is) last;
+          stands = subst (λ (told : Option (List Next)). TellNext part least (prefixes ++ next.rank ∷ []) mine kept.stands told kept.bytes) (sym is_kept.next_is) last;
         }
 
   -- so of each rank that was found
@@ -149,7 +149,7 @@ module _ (part : GridList) (is : IsPart part) (width : ℕ) (rows : List ℕ) (r
 
 module _ (part : GridList) (is : IsPart part) (least : ℕ) (some : 1 ≤ least) (room : ℕ) (most : length part.problem.ranking.order < room)
     (prefixes : List ℕ) (kept : StandList) (projected : IsProjected part least prefixes kept) (aim : Aim) (seen : aim.seen ≡ kept.seen)
-    (need : aim.need ≡ part.bound.need) (untold : kept.next ≡ None) (any : 0 < length kept.stands) (found : List NextRank) (run : List Stand)
+    (need : aim.need ≡ part.bound.need) (untold : kept.next ≡ None) (loose : kept.bytes ≡ None) (any : 0 < length kept.stands) (found : List NextRank) (run : List Stand)
     (longer : Option (List StandList)) (is_found : IsFoundIn part aim least room kept.stands found run longer) where
   abbrev own : Aim
   own = aim_of part projected.snapshots.seen
@@ -168,7 +168,7 @@ module _ (part : GridList) (is : IsPart part) (least : ℕ) (some : 1 ≤ least)
     ahead-each : (next : NextRank) → Contains found next → (list : StandList) → IsKeptAhead own least ahead.behinds next list → IsProjected part least (prefixes ++ next.rank ∷ []) list
     ahead-each =
         let list : SnapshotList = projected.snapshots in
-        let stands_are = some-stands part is least some prefixes kept projected untold any in
+        let stands_are = some-stands part is least some prefixes kept projected untold loose any in
         let (groups, groups_are, groups_in, all_grids) = stands-cut part is prefixes list projected.are stands_are.grids kept.stands stands_are.rising stands_are.are in
         let fact = moved.found_are in
         let summed = fact.summed groups groups_are in
@@ -199,7 +199,7 @@ module _ (part : GridList) (is : IsPart part) (least : ℕ) (some : 1 ≤ least)
     where
       by : (o : Option (List StandList)) → longer ≡ o → IsProjected part least (prefixes ++ n.rank ∷ []) list
       by None none =
-          grown-all part is least some room most prefixes kept projected aim seen need untold any found run longer is_found none next all nexts (filed none) i n list at beside
+          grown-all part is least some room most prefixes kept projected aim seen need untold loose any found run longer is_found none next all nexts (filed none) i n list at beside
       by (Some those) some_are =
           let same_all : all ≡ those = subst (λ (o : Option (List StandList)). IfSome o (λ l. all ≡ l)) some_are told in
           ahead-all those some_are next nexts i n list at (subst (λ (l : List StandList). slice_get l i ≡ Some list) same_all beside)

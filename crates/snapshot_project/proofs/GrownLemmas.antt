@@ -81,33 +81,35 @@ module _ (part : GridList) (is : IsPart part) (least : ℕ) (some : 1 ≤ least)
 
   module _ (kept : StandList) (projected : IsProjected part least prefixes kept) where
     -- nor behind one without stands
-    by-stands : kept.next ≡ None → TellNext part least prefixes projected.snapshots.snapshots kept.stands None
-    by-stands untold = subst (TellNext part least prefixes projected.snapshots.snapshots kept.stands) untold projected.stands
+    by-stands : kept.next ≡ None → kept.bytes ≡ None → TellNext part least prefixes projected.snapshots kept.stands None None
+    by-stands untold loose =
+        subst (TellNext part least prefixes projected.snapshots kept.stands None) loose
+        (subst (λ (next : Option (List Next)). TellNext part least prefixes projected.snapshots kept.stands next kept.bytes) untold projected.stands)
 
-    pub empty-next : kept.next ≡ None → length kept.stands ≡ 0 → AreNextRanks part prefixes least []
-    empty-next untold none = elim (by-stands untold) [
+    pub empty-next : kept.next ≡ None → kept.bytes ≡ None → length kept.stands ≡ 0 → AreNextRanks part prefixes least []
+    empty-next untold loose none = elim (by-stands untold loose) [
       | inl are ↦ light-next (none-light projected.snapshots projected.are
           (stands-none part are.grids projected.snapshots.snapshots (subst (AreStandsIn part are.grids projected.snapshots.snapshots) (none-of kept.stands none) are.are)))
       | inr light ↦ light-next light.1
     ]
 
     -- else the stands are those of its snapshots
-    pub some-stands : kept.next ≡ None → 0 < length kept.stands → AreStandsOf part projected.snapshots.snapshots kept.stands
-    some-stands untold any = elim (by-stands untold) [
+    pub some-stands : kept.next ≡ None → kept.bytes ≡ None → 0 < length kept.stands → AreStandsOf part projected.snapshots.snapshots kept.stands
+    some-stands untold loose any = elim (by-stands untold loose) [
       | inl are ↦ are
       | inr light ↦ absurd (let none : length kept.stands ≡ 0 = ap length light.0 in omega arith)
     ]
 
-    pub stands-for : kept.next ≡ None → (aim : Aim) → aim.seen ≡ kept.seen → aim.need ≡ part.bound.need → (stands : List Stand) → stands ≡ kept.stands → 0 < length kept.stands
+    pub stands-for : kept.next ≡ None → kept.bytes ≡ None → (aim : Aim) → aim.seen ≡ kept.seen → aim.need ≡ part.bound.need → (stands : List Stand) → stands ≡ kept.stands → 0 < length kept.stands
         → AreStandsFor part aim stands
-    stands-for untold aim seen need stands told any = record {
+    stands-for untold loose aim seen need stands told any = record {
       is = is;
       need = need;
       prefixes = prefixes;
       list = projected.snapshots;
       are = projected.are;
       seen = seen ∙ projected.seen;
-      stands_are = subst (AreStandsOf part projected.snapshots.snapshots) (sym told) (some-stands untold any);
+      stands_are = subst (AreStandsOf part projected.snapshots.snapshots) (sym told) (some-stands untold loose any);
     }
 
 -- ---- what was found
@@ -177,7 +179,7 @@ module _ (part : GridList) (is : IsPart part) (least : ℕ) (some : 1 ≤ least)
 -- so for the aim of what is kept of the prefix
 module _ (part : GridList) (is : IsPart part) (least : ℕ) (some : 1 ≤ least) (room : ℕ) (most : length part.problem.ranking.order < room)
     (prefixes : List ℕ) (kept : StandList) (projected : IsProjected part least prefixes kept) (aim : Aim) (seen : aim.seen ≡ kept.seen)
-    (need : aim.need ≡ part.bound.need) (untold : kept.next ≡ None) (any : 0 < length kept.stands) (found : List NextRank) (run : List Stand)
+    (need : aim.need ≡ part.bound.need) (untold : kept.next ≡ None) (loose : kept.bytes ≡ None) (any : 0 < length kept.stands) (found : List NextRank) (run : List Stand)
     (longer : Option (List StandList)) (is_found : IsFoundIn part aim least room kept.stands found run longer) where
   abbrev own : Aim
   own = aim_of part projected.snapshots.seen
@@ -190,16 +192,16 @@ module _ (part : GridList) (is : IsPart part) (least : ℕ) (some : 1 ≤ least)
 
   pub grown-next : AreNextRanks part prefixes least (map told_of found)
   grown-next =
-      found-next part is least some room most prefixes projected.snapshots projected.are kept.stands (some-stands part is least some prefixes kept projected untold any) found run longer moved
+      found-next part is least some room most prefixes projected.snapshots projected.are kept.stands (some-stands part is least some prefixes kept projected untold loose any) found run longer moved
 
   pub grown-each : longer ≡ None → (next : NextRank) → Contains found next → IsProjected part least (prefixes ++ next.rank ∷ []) (kept_of aim run next)
   grown-each filed next held =
       subst (λ (a : Aim). IsProjected part least (prefixes ++ next.rank ∷ []) (kept_of a run next)) (sym same)
-      (found-each part is least some room most prefixes projected.snapshots projected.are kept.stands (some-stands part is least some prefixes kept projected untold any) found run longer moved filed next held)
+      (found-each part is least some room most prefixes projected.snapshots projected.are kept.stands (some-stands part is least some prefixes kept projected untold loose any) found run longer moved filed next held)
 
   pub grown-within : longer ≡ None → All (IsWithin run) found
   grown-within filed k d below =
-      found-within part is least some room most prefixes projected.snapshots projected.are kept.stands (some-stands part is least some prefixes kept projected untold any) found run longer moved filed
+      found-within part is least some room most prefixes projected.snapshots projected.are kept.stands (some-stands part is least some prefixes kept projected untold loose any) found run longer moved filed
       (get_or found k d) (Contains-get_or found k d below)
 
   -- where what may follow and what is kept were listed side by side

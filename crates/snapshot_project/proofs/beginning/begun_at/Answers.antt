@@ -29,6 +29,6 @@ returns-clause-start c =
     let last : c.len-last.result ≡ length starts = omega (arith, c.len-last.ensures, c.args.starts.ok) in
     let whole : slice_range (arc_value c.in_ok-run.run').stands 0 c.len-last.result ≡ starts =
     ap (λ (l : List Stand). slice_range l 0 c.len-last.result) run ∙ take_all (c.len-last.result - 0) starts (omega arith) in
-    let list : c.new-2.result ≡ record { seen = false; support = 0; stands = starts; next = None } = c.new-2.ensures
-    ∙ ap (λ (l : List Stand). record { seen = false; support = 0; stands = l; next = None }) whole in
+    let list : c.new-2.result ≡ record { seen = false; support = 0; stands = starts; next = None; bytes = None } = c.new-2.ensures
+    ∙ ap (λ (l : List Stand). record { seen = false; support = 0; stands = l; next = None; bytes = None }) whole in
     rw c.in_ok-part.ensures (starts-projected part c.requires.part starts c.requires.starts c.new-2.result list)
