@@ -32,11 +32,11 @@ use Rattle.snapshot_project.specs.Aims.{sees, goes}
 use Rattle.snapshot_project.specs.Extensions.{CanFollow, IsSupportOf, AreNextRanks}
 use Rattle.snapshot_project.specs.Grouped.{course_for, AreGroupsIn, AreAllGrids, AreWeights}
 use Rattle.snapshot_project.specs.Founds.{course_over, IsFoundIn}
-use Rattle.snapshot_project.specs.Longer.{told_of, kept_of}
+use Rattle.snapshot_project.specs.Longer.{told_of, IsKeptOf}
 use Rattle.snapshot_project.specs.Snapshots.{IsPart, SnapshotList, AreSnapshots}
 use Rattle.snapshot_project.specs.Stands.{IsLight, AreLastRanks, StandList, TellNext, IsProjected}
 use Rattle.snapshot_project.proofs.AheadNextLemmas.{visits-in, kid, kid-is, kid-told}
-use Rattle.snapshot_project.proofs.GrownLemmas.{aim-same, empty-next, some-stands, grown-all}
+use Rattle.snapshot_project.proofs.GrownLemmas.{aim-same, empty-next, some-stands}
 use Rattle.snapshot_project.proofs.FoundLemmas.{walked-whole}
 use Rattle.snapshot_project.proofs.GroupLemmas.{stands-cut}
 use Rattle.snapshot_project.proofs.LongerLemmas.{aim_of}
@@ -192,24 +192,31 @@ module _ (part : GridList) (is : IsPart part) (least : ℕ) (some : 1 ≤ least)
         (ahead-each one (get-held found i one there) list (zip-at (IsKeptAhead own least ahead.behinds) found all ahead.kept i one list there beside))
 
   -- in either case
-  pub grown-longer : (next : List Next) (all : List StandList) → next ≡ map told_of found → (longer ≡ None → all ≡ map (kept_of aim run) found)
+  pub grown-longer : (next : List Next) (all : List StandList) → next ≡ map told_of found
+      → (longer ≡ None → AllZip (IsKeptOf part least prefixes) found all)
       → IfSome longer (λ ahead. all ≡ ahead) → (i : ℕ) (n : Next) (list : StandList) → slice_get next i ≡ Some n → slice_get all i ≡ Some list
       → IsProjected part least (prefixes ++ n.rank ∷ []) list
   grown-longer next all nexts filed told i n list at beside = by longer refl
     where
       by : (o : Option (List StandList)) → longer ≡ o → IsProjected part least (prefixes ++ n.rank ∷ []) list
       by None none =
-          grown-all part is least some room most prefixes kept projected aim seen need untold loose any found run longer is_found none next all nexts (filed none) i n list at beside
+          let here : slice_get (map told_of found) i ≡ Some n = subst (λ (l : List Next). slice_get l i ≡ Some n) nexts at in
+          let inside : i < length found = subst (λ (k : ℕ). i < k) (length-map found told_of) (slice_get_within (map told_of found) i n here) in
+          let (one, there) = get-some found i inside in
+          let n_is : told_of one ≡ n = same_Some (told_of one) n (sym (slice_get-mapped_by told_of found i one there) ∙ here) in
+          subst (λ (m : Next). IsProjected part least (prefixes ++ m.rank ∷ []) list) n_is
+          (zip-at (IsKeptOf part least prefixes) found all (filed none) i one list there beside)
       by (Some those) some_are =
           let same_all : all ≡ those = subst (λ (o : Option (List StandList)). IfSome o (λ l. all ≡ l)) some_are told in
           ahead-all those some_are next nexts i n list at (subst (λ (l : List StandList). slice_get l i ≡ Some list) same_all beside)
 
   -- one for each
-  pub grown-count : (all : List StandList) → (longer ≡ None → all ≡ map (kept_of aim run) found) → IfSome longer (λ ahead. all ≡ ahead) → length all ≡ length found
+  pub grown-count : (all : List StandList) → (longer ≡ None → AllZip (IsKeptOf part least prefixes) found all) → IfSome longer (λ ahead. all ≡ ahead)
+      → length all ≡ length found
   grown-count all filed told = by longer refl
     where
       by : (o : Option (List StandList)) → longer ≡ o → length all ≡ length found
-      by None none = ap length (filed none) ∙ length-map found (kept_of aim run)
+      by None none = AllZip-long (IsKeptOf part least prefixes) found all (filed none)
       by (Some those) some_are =
           let same_all : all ≡ those = subst (λ (o : Option (List StandList)). IfSome o (λ l. all ≡ l)) some_are told in
           ap length same_all ∙ AllZip-long (IsKeptAhead own least (ahead those some_are).behinds) found those (ahead those some_are).kept

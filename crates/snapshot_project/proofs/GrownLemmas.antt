@@ -203,17 +203,3 @@ module _ (part : GridList) (is : IsPart part) (least : ℕ) (some : 1 ≤ least)
   grown-within filed k d below =
       found-within part is least some room most prefixes projected.snapshots projected.are kept.stands (some-stands part is least some prefixes kept projected untold loose any) found run longer moved filed
       (get_or found k d) (Contains-get_or found k d below)
-
-  -- where what may follow and what is kept were listed side by side
-  pub grown-all : longer ≡ None → (next : List Next) (all : List StandList) → next ≡ map told_of found → all ≡ map (kept_of aim run) found
-      → (i : ℕ) (n : Next) (list : StandList) → slice_get next i ≡ Some n → slice_get all i ≡ Some list
-      → IsProjected part least (prefixes ++ n.rank ∷ []) list
-  grown-all filed next all nexts alls i n list at beside =
-      let told : slice_get (map told_of found) i ≡ Some n = subst (λ (l : List Next). slice_get l i ≡ Some n) nexts at in
-      let held : slice_get (map (kept_of aim run) found) i ≡ Some list = subst (λ (l : List StandList). slice_get l i ≡ Some list) alls beside in
-      let inside : i < length found = subst (λ (k : ℕ). i < k) (length-map found told_of) (slice_get_within (map told_of found) i n told) in
-      let (one, here) = get-some found i inside in
-      let n_is : told_of one ≡ n = same_Some (told_of one) n (sym (slice_get-mapped_by told_of found i one here) ∙ told) in
-      let list_is : kept_of aim run one ≡ list = same_Some (kept_of aim run one) list (sym (slice_get-mapped_by (kept_of aim run) found i one here) ∙ held) in
-      subst (λ (l : StandList). IsProjected part least (prefixes ++ n.rank ∷ []) l) list_is
-      (subst (λ (m : Next). IsProjected part least (prefixes ++ m.rank ∷ []) (kept_of aim run one)) n_is (grown-each filed one (get-held found i one here)))

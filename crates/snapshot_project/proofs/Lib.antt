@@ -25,6 +25,7 @@ pub mod LongerLemmas
 pub mod KidLemmas
 pub mod FitLemmas
 pub mod PlacedLemmas
+pub mod PackedLemmas
 pub mod LastLemmas
 pub mod AheadLemmas
 pub mod AheadNextLemmas

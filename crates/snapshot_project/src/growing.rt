@@ -3,6 +3,7 @@
 ghost use Rattle.std.specs.Prelude.{◌≡◌, ℕ, ◌+◌, ◌≤◌, ◌<◌, ◌++◌, ◌∷◌, [], false, IsTrue, List, length, map, filter, drop, All, AllPairs, None, Some, IfSome, IfOk, OnOk, slice_get, slice_range};
 ghost use Rattle.std.specs.Arc.{arc_value};
 ghost use Rattle.std.specs.List.{AllZip};
+ghost use Rattle.packed_snapshots.specs.Packed.{IsPacked};
 ghost use Rattle.place_walk.specs.declared.stand.Stand.{Stand as Standing};
 ghost use Rattle.place_walk.specs.declared.visit.Visit.{Visit as Visited};
 ghost use Rattle.place_walk.specs.Courses.{course_of};
@@ -19,9 +20,11 @@ ghost use Rattle.snapshot_project.specs.Ahead.{next_of, last_of, items_if, IsKep
 ghost use Rattle.snapshot_project.specs.Aims.{goes, sees};
 ghost use Rattle.snapshot_project.specs.Extensions.{AreNextRanks};
 ghost use Rattle.snapshot_project.specs.Founds.{AreStandsFor, IsReady, course_over, AreWalked, AreSummed, AreInRun, AreFound, IsFoundIn};
-ghost use Rattle.snapshot_project.specs.Longer.{told_of, kept_of, HaveAllPlaces, IsWithin};
+ghost use Rattle.snapshot_project.specs.Layouts.{HasStarts};
+ghost use Rattle.snapshot_project.specs.Longer.{told_of, kept_of, AreKept, IsKeptOf, HaveAllPlaces, IsWithin};
 ghost use Rattle.snapshot_project.specs.Rooms.{AreMemosOver};
-ghost use Rattle.snapshot_project.specs.Stands.{IsProjected, StandList};
+ghost use Rattle.snapshot_project.specs.Snapshots.{SnapshotList, AreSnapshots, IsPart};
+ghost use Rattle.snapshot_project.specs.Stands.{AreStandsOf, IsProjected, StandList, plain, standing};
 ghost use Rattle.sequence_grids.specs.Grids.{GridList};
 
 use super::beginning::first_places;
@@ -865,6 +868,7 @@ fn packed_in(
     found: &[Counted],
     run: &Run,
 ) -> Result<Vec<Snapshots>, NoMemory>
+    requires starts { HasStarts part.now starts.now }
     requires within { All (IsWithin run.now.stands) found.now }
     requires kept { (least : ℕ) × (ranks : List ℕ) × AreKept part.now aim least ranks run.now.stands found.now }
     ensures { IfOk result (λ longer. (least : ℕ) (ranks : List ℕ)
@@ -889,6 +893,13 @@ fn packed(
     run: &Run,
     none: Arc<Run>,
 ) -> Result<Snapshots, NoMemory>
+    requires starts { HasStarts part.now starts.now }
+    requires within { IsWithin run.now.stands next }
+    requires kept { (least : ℕ) × (ranks : List ℕ)
+        × IsKeptOf part.now least ranks next (kept_of aim run.now.stands next) }
+    ensures { IfOk result (λ kept. (least : ℕ) (ranks : List ℕ)
+        → IsKeptOf part.now least ranks next (kept_of aim run.now.stands next)
+        → IsKeptOf part.now least ranks next kept) }
 {
     let seen = sees(aim, next.rank);
     if next.first < next.last {

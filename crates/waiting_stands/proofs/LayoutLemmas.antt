@@ -1,5 +1,5 @@
 -- Lemmas on layouts, and on stands in them one behind another.
-use Rattle.std.proofs.Common.{◌≡◌, ◌≢◌, ℕ, zero, suc, ◌+◌, ◌-◌, ◌≤◌, ◌<◌, ◌^◌, ◌⊎◌, inl, inr, Some, List, [], ◌∷◌, ◌++◌, length, take, fold, get_or, refl, sym, ◌∙◌, ap, subst, arith}
+use Rattle.std.proofs.Common.{◌≡◌, ℕ, zero, suc, ◌+◌, ◌-◌, ◌≤◌, ◌<◌, ◌^◌, ◌⊎◌, inl, inr, Bool, Some, List, [], ◌∷◌, ◌++◌, length, take, fold, get_or, refl, sym, ◌∙◌, ap, subst, arith}
 use Rattle.std.specs.List.{All, AllPairs, AllZip, slice_get}
 use Rattle.std.proofs.lemmas.Option.{slice_get_within, get_or_from_slice_get, slice_get-get_or}
 use Rattle.packed_snapshots.specs.declared.snapshot.PlainSnapshot.{PlainSnapshot}
@@ -14,6 +14,7 @@ rising-le list i j rising ordered within = by (apart i j ordered)
   where
     apart : (m n : ℕ) → m ≤ n → (m < n) ⊎ (m ≡ n)
     apart m n le = grind (arith)
+
     by : (i < j) ⊎ (i ≡ j) → get_or list i 0 ≤ get_or list j 0
     by (inl below) = let pair = rising i j 0 below within in omega (arith, pair)
     by (inr same) = let e : get_or list i 0 ≡ get_or list j 0 = ap (λ (k : ℕ). get_or list k 0) same in omega (arith, e)
@@ -24,6 +25,7 @@ rising-back list i j rising within le there = by (apart i j)
   where
     apart : (m n : ℕ) → (n < m) ⊎ (m ≤ n)
     apart m n = grind (arith)
+
     by : (j < i) ⊎ (i ≤ j) → i ≤ j
     by (inl below) = let pair = rising j i 0 below within in absurd (omega (arith, pair, le))
     by (inr ordered) = ordered
@@ -34,6 +36,7 @@ last-is list value index at rising last within least most = by (apart index at)
   where
     apart : (m n : ℕ) → (m < n) ⊎ ((n < m) ⊎ (m ≡ n))
     apart m n = grind (arith)
+
     by : (index < at) ⊎ ((at < index) ⊎ (index ≡ at)) → index ≡ at
     by (inl below) =
         let long : index + 1 < length list = omega arith in
@@ -157,3 +160,35 @@ is-read sequences starts one stand at layout is last =
       least = omega (arith, its, place);
       position = omega (arith, its, place);
     }
+
+-- the snapshot that is read of a stand at its grid
+abbrev pub read_at : (sequences starts : List ℕ) (at : ℕ) (stand : Stand) (seen : Bool) → PlainSnapshot
+read_at sequences starts at stand seen = record {
+  sequence = get_or sequences at 0;
+  position = stand.place - get_or starts at 0;
+  state = stand.state;
+  seen = seen;
+}
+
+pub read-is : (sequences starts : List ℕ) (one : PlainSnapshot) (stand : Stand) (at : ℕ) (seen : Bool) → IsLayout sequences starts → IsStandOf sequences starts one stand → IsLastUpTo starts stand.place at → one.seen ≡ seen → read_at sequences starts at stand seen ≡ one
+read-is sequences starts one stand at seen layout is last same =
+    let read = is-read sequences starts one stand at layout is last in
+    let sequence = read.sequence in
+    let position = read.position in
+    let state = is.state in
+    λ i. record { sequence = sequence i; position = position i; state = state i; seen = sym same i }
+
+pub read-place : (sequences starts : List ℕ) (one : PlainSnapshot) (stand : Stand) (at : ℕ) (seen : Bool) → IsLayout sequences starts → IsStandOf sequences starts one stand → IsLastUpTo starts stand.place at → place_of (read_at sequences starts at stand seen) ≡ place_of one
+read-place sequences starts one stand at seen layout is last =
+    let read = is-read sequences starts one stand at layout is last in
+    let sequence = read.sequence in
+    let position = read.position in
+    λ i. record { sequence = sequence i; position = position i }
+
+pub last-push : (before : Place) (list : List PlainSnapshot) (one : PlainSnapshot) → fold (λ _ next. place_of next) before (list ++ one ∷ []) ≡ place_of one
+last-push before [] one = refl
+last-push before (next ∷ list) one = last-push (place_of next) list one
+
+-- what each of a list has seen
+pub seen-at : (list : List PlainSnapshot) (i : ℕ) (one : PlainSnapshot) (seen : Bool) → All (λ snapshot. snapshot.seen ≡ seen) list → slice_get list i ≡ Some one → one.seen ≡ seen
+seen-at list i one seen all is = subst (λ snapshot. snapshot.seen ≡ seen) (get_or_from_slice_get list i one one is) (all i one (slice_get_within list i one is))

@@ -1,14 +1,14 @@
 -- Lemmas on marks.
-use Rattle.std.proofs.Common.{◌≡◌, ◌≢◌, ℕ, zero, suc, ◌+◌, ◌≤◌, ◌<◌, ◌↔◌, ◌⊎◌, inl, inr, Bool, true, false, IsTrue, Option, None, Some, List, [], ◌∷◌, ◌++◌, length, fold, get_or, refl, sym, ◌∙◌, ap, subst, arith}
-use Rattle.std.specs.List.{All, AllPairs, AllZip, slice_get}
+use Rattle.std.proofs.Common.{◌≡◌, ◌≢◌, ℕ, suc, ◌+◌, ◌≤◌, ◌<◌, ◌↔◌, ◌⊎◌, inl, inr, Bool, true, false, IsTrue, Option, None, Some, List, [], ◌∷◌, ◌++◌, length, fold, get_or, refl, sym, ◌∙◌, ap, subst, arith}
+use Rattle.std.specs.List.{All, slice_get}
 use Rattle.std.proofs.lemmas.List.Elements.{All-contains, Contains-append_right}
-use Rattle.std.proofs.lemmas.Option.{slice_get_within, get_or_from_slice_get, slice_get-get_or}
+use Rattle.std.proofs.lemmas.Option.{slice_get_within, get_or_from_slice_get}
 use Rattle.packed_snapshots.specs.declared.snapshot.PlainSnapshot.{PlainSnapshot}
 use Rattle.packed_snapshots.specs.declared.snapshot.Place.{Place}
 use Rattle.packed_snapshots.specs.Snapshots.{place_of, start, IsBehind, RisesBehind}
 use Rattle.place_walk.specs.declared.stand.Stand.{Stand}
 use Rattle.waiting_stands.specs.Layouts.{IsLayout, IsStandOf, HasStand, AreMarked, IsLastUpTo}
-use Rattle.waiting_stands.proofs.LayoutLemmas.{rising-le, last-is}
+use Rattle.waiting_stands.proofs.LayoutLemmas.{rising-le, rising-back, last-is}
 
 -- the sequence of the last one
 abbrev pub last_sequence : Option ℕ → List PlainSnapshot → Option ℕ
@@ -27,7 +27,7 @@ marked-more before (next ∷ list) [] one stand long marked mark = absurd (omega
 marked-more before (next ∷ list) (other ∷ stands) one stand long (first, more) mark =
     (first, marked-more (Some next.sequence) list stands one stand (let l : length stands ≡ length list = omega (arith, long) in l) more mark)
 
-last-more : (before : Option ℕ) (list : List PlainSnapshot) (one : PlainSnapshot) → last_sequence before (list ++ one ∷ []) ≡ Some one.sequence
+pub last-more : (before : Option ℕ) (list : List PlainSnapshot) (one : PlainSnapshot) → last_sequence before (list ++ one ∷ []) ≡ Some one.sequence
 last-more before [] one = refl
 last-more before (next ∷ list) one = last-more (Some next.sequence) list one
 
@@ -61,13 +61,16 @@ is-coming sequences starts list one more all grid first layout rises have whole 
     held =
         let joined : All (HasStand sequences starts) (list ++ one ∷ more) = subst (All (HasStand sequences starts)) (sym whole) have in
         All-contains (HasStand sequences starts) (list ++ one ∷ more) one joined (Contains-append_right list (one ∷ more) one (0, (let some : 0 < suc (length more) = omega arith in some), refl))
+
     there : held.is.grid < length sequences
     there = slice_get_within sequences held.is.grid one.sequence held.is.sequence
+
     its : get_or sequences held.is.grid 0 ≡ one.sequence
     its = get_or_from_slice_get sequences held.is.grid one.sequence 0 held.is.sequence
+
     by : (b : Bool) → first ≡ b → IsComing sequences starts list one grid first
     by true is =
-        let (none, zero') = reached.none (subst IsTrue (sym is) tt) in
+        let (none, zero') = reached.none is in
         let up = rising-le sequences 0 held.is.grid layout.rising (let le : 0 ≤ held.is.grid = omega arith in le) there in
         record {
           has = held;
@@ -92,14 +95,14 @@ is-marked sequences starts list one grid at first mark layout reached coming fou
   where
     by : (b : Bool) → first ≡ b → IsTrue mark ↔ (last_sequence None list ≢ Some one.sequence)
     by true begun =
-        let (none, zero') = reached.none (subst IsTrue (sym begun) tt) in (
+        let (none, zero') = reached.none begun in (
           (λ marked same. let nothing : last_sequence None [] ≡ Some one.sequence = subst (λ l. last_sequence None l ≡ Some one.sequence) none same in cc),
-          (λ other. is.1 (inl (subst IsTrue (sym begun) tt))),
+          (λ other. is.1 (inl begun)),
         )
     by false begun =
         let (sequence, last, here) = reached.some begun in (
           (λ marked same. elim (is.0 marked) [
-            | inl other ↦ absurd (subst IsTrue begun other)
+            | inl other ↦ absurd (cc)
             | inr later ↦
                 let equal : sequence ≡ one.sequence = (let both : Some sequence ≡ Some one.sequence = sym last ∙ same in cc) in
                 let within = slice_get_within sequences at one.sequence found in
@@ -118,3 +121,21 @@ is-marked sequences starts list one grid at first mark layout reached coming fou
       where
         apart : (m n : ℕ) → m ≤ n → (m < n) ⊎ (m ≡ n)
         apart m n le = grind (arith)
+
+-- what is read at the grid that was found
+pub stand-at : (sequences starts : List ℕ) (one : PlainSnapshot) (stand : Stand) (at : ℕ) → IsLayout sequences starts → IsStandOf sequences starts one stand → IsLastUpTo sequences one.sequence at → stand.place ≡ get_or starts at 0 + one.position
+stand-at sequences starts one stand at layout is last =
+    let same = at-sequence sequences starts one stand at layout is last in
+    is.place ∙ ap (λ (k : ℕ). get_or starts k 0 + one.position) (sym same)
+
+pub found-at : (sequences starts : List ℕ) (one : PlainSnapshot) (stand : Stand) (at : ℕ) → IsLayout sequences starts → IsStandOf sequences starts one stand → IsLastUpTo sequences one.sequence at → slice_get sequences at ≡ Some one.sequence
+found-at sequences starts one stand at layout is last =
+    let same = at-sequence sequences starts one stand at layout is last in
+    ap (slice_get sequences) same ∙ is.sequence
+
+pub forward-to : (sequences starts : List ℕ) (one : PlainSnapshot) (stand : Stand) (grid at : ℕ) → IsLayout sequences starts → IsStandOf sequences starts one stand → IsLastUpTo sequences one.sequence at → grid < length sequences → get_or sequences grid 0 ≤ one.sequence → grid ≤ at
+forward-to sequences starts one stand grid at layout is last within not_above =
+    let found = found-at sequences starts one stand at layout is last in
+    let there = slice_get_within sequences at one.sequence found in
+    let its = get_or_from_slice_get sequences at one.sequence 0 found in
+    rising-back sequences grid at layout.rising within (let le : get_or sequences grid 0 ≤ get_or sequences at 0 = omega (arith, its, not_above) in le) there

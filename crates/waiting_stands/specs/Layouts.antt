@@ -1,5 +1,5 @@
 -- Where the snapshots of sequences stand among places that lie one behind another.
-use Rattle.std.specs.Prelude.{◌≡◌, ◌≢◌, ℕ, ◌+◌, ◌<◌, ◌≤◌, ◌^◌, ◌↔◌, Bool, IsTrue, Option, Some, List, [], ◌∷◌, ⊤, length, AllPairs, All, slice_get, slice_index}
+use Rattle.std.specs.Prelude.{◌≡◌, ◌≢◌, ℕ, ◌+◌, ◌<◌, ◌≤◌, ◌^◌, ◌↔◌, Bool, IsTrue, Option, Some, List, ◌∷◌, ⊤, length, AllPairs, All, slice_get, slice_index}
 use Rattle.std.specs.List.{AllZip}
 use Rattle.packed_snapshots.specs.declared.snapshot.PlainSnapshot.{PlainSnapshot}
 use Rattle.packed_snapshots.specs.Snapshots.{start, RisesBehind}

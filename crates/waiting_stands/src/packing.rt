@@ -22,7 +22,7 @@ pub fn pack(
 ) -> Result<Vec<u8>, NoMemory>
     requires layout { IsLayout sequences.now starts.now }
     requires stands { (list : List Plain) × AreStandsOf sequences.now starts.now list stands }
-    ensures { (list : List Plain) → AreStandsOf sequences.now starts.now list stands
+    ensures { (list : List Plain) → AreStandsOf sequences.now starts.now list stands.entry
         → All (HasSeen seen) list → IfOk result (λ bytes. IsPacked list bytes.items) }
 {
     let mut bytes = Vec::with_capacity(alloc, stands.len().saturating_mul(4).saturating_add(8))?;

@@ -1,6 +1,6 @@
 //! Bytes as stands.
 
-ghost use Rattle.std.specs.Prelude.{◌≡◌, List, All, IfOk, None};
+ghost use Rattle.std.specs.Prelude.{◌<◌, ◌⊎◌, ◌↔◌, IsTrue, List, All, IfOk, None};
 ghost use Rattle.std.specs.List.{AllZip};
 ghost use Rattle.packed_snapshots.specs.declared.snapshot.PlainSnapshot.{PlainSnapshot as Plain};
 ghost use Rattle.packed_snapshots.specs.Packed.{IsPacked};
@@ -35,10 +35,18 @@ pub fn unpack(
         stands.push(Stand {
             place: starts[at] + next.position as u32,
             state: next.state,
-            first: first || grid < at,
+            first: begins(first, grid, at),
         })?;
         grid = at;
         first = false;
     }
     Ok(stands)
+}
+
+/// Whether the stands of a sequence begin at this grid, behind those of the other, or first of all.
+#[inline]
+fn begins(first: bool, grid: usize, at: usize) -> bool
+    ensures { IsTrue result ↔ (IsTrue first ⊎ (grid < at)) }
+{
+    first || grid < at
 }
