@@ -222,10 +222,10 @@ module _ (part : GridList) where
           support = ap (λ (l : StandList). l.support) same;
           stands = subst (TellNext part least [] snapshots list.stands list.next) (sym (ap (λ (l : StandList). l.bytes) same))
               (subst (λ (next : Option (List NextRank)). TellNext part least [] snapshots list.stands next None) (sym (ap (λ (l : StandList). l.next) same)) (inl (record {
-            grids = grids;
-            rising = rising;
-            are = subst (AreStandsIn part grids (map start_of_grid grids)) (sym places) (starts-in grids all);
-          })));
+                grids = grids;
+                rising = rising;
+                are = subst (AreStandsIn part grids (map start_of_grid grids)) (sym places) (starts-in grids all);
+              })));
         }
 
 -- ---- what the sequences weigh

@@ -26,6 +26,8 @@ pub mod KidLemmas
 pub mod FitLemmas
 pub mod PlacedLemmas
 pub mod PackedLemmas
+pub mod FormLemmas
+pub mod FirstLemmas
 pub mod LastLemmas
 pub mod AheadLemmas
 pub mod AheadNextLemmas

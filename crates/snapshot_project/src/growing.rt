@@ -84,7 +84,14 @@ pub fn grow<'a>(
     }
     if let Some(bytes) = snapshots.bytes() {
         let stands = unpacked(alloc, part, bytes)?;
-        return grow_from(alloc, part, aim, &Stands::of(stands.as_slice()), least, room);
+        return grow_from(
+            alloc,
+            part,
+            aim,
+            &Stands::of(stands.as_slice()),
+            least,
+            room,
+        );
     }
     grow_from(alloc, part, aim, &snapshots.stands(), least, room)
 }
@@ -818,14 +825,33 @@ fn longer_by(
     ensures ahead { IfOk result (λ longer. IfSome (items_if found.longer) (λ ahead. longer.items ≡ ahead)) }
 {
     let Found { ranks, run, longer } = found;
-    if let Some(longer) = longer {
-        return Ok(longer);
+    match longer {
+        Some(longer) => Ok(longer),
+        None => longer_from(alloc, part, aim, ranks.as_slice(), run, packs),
     }
+}
+
+// What is kept of the prefixes with these ranks, who stand in the run: as bytes, where they are to be.
+fn longer_from(
+    alloc: Global,
+    part: &Part,
+    aim: Aim,
+    found: &[Counted],
+    run: Run,
+    packs: bool,
+) -> Result<Vec<Snapshots>, NoMemory>
+    requires within { All (IsWithin run.stands) found.now }
+    requires kept { (least : ℕ) × (ranks : List ℕ) × AreKept part.now aim least ranks run.stands found.now }
+    ensures { IfOk result (λ longer. (least : ℕ) (ranks : List ℕ)
+        → AreKept part.now aim least ranks run.stands found.now
+        → AllZip (IsKeptOf part.now least ranks) found.now longer.items) }
+{
     let starts = part.starts();
     if packs && !starts.is_empty() {
-        return packed_in(alloc, part, starts, aim, ranks.as_slice(), &run);
+        packed_in(alloc, part, starts, aim, found, &run)
+    } else {
+        longer_in(alloc, aim, found, run)
     }
-    longer_in(alloc, aim, ranks.as_slice(), run)
 }
 
 // What is kept of the prefixes with these ranks, whose stands are pieces of the run.
@@ -868,6 +894,7 @@ fn packed_in(
     found: &[Counted],
     run: &Run,
 ) -> Result<Vec<Snapshots>, NoMemory>
+    requires is { IsPart part.now }
     requires starts { HasStarts part.now starts.now }
     requires within { All (IsWithin run.now.stands) found.now }
     requires kept { (least : ℕ) × (ranks : List ℕ) × AreKept part.now aim least ranks run.now.stands found.now }
@@ -893,6 +920,7 @@ fn packed(
     run: &Run,
     none: Arc<Run>,
 ) -> Result<Snapshots, NoMemory>
+    requires is { IsPart part.now }
     requires starts { HasStarts part.now starts.now }
     requires within { IsWithin run.now.stands next }
     requires kept { (least : ℕ) × (ranks : List ℕ)

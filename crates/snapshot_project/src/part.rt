@@ -91,7 +91,8 @@ impl<'a> Part<'a> {
     /// The place of the first item of each sequence, where there may be stands that do not fit into four
     /// bytes, and else nothing.
     pub(crate) fn starts(&self) -> &[u32]
-        ensures { MayHaveStarts self.now result.now }
+        ensures starts { MayHaveStarts self.now result.now }
+        ensures part { IsPart self.now }
     {
         self.ground.starts.as_slice()
     }
