@@ -20,7 +20,7 @@ use Rattle.waiting_stands.specs.Layouts.{IsLayout, IsStandOf as IsLaidOut, HasSt
 use Rattle.snapshot_project.specs.declared.snapshot.Snapshot.{Snapshot}
 use Rattle.snapshot_project.specs.Snapshots.{IsSnapshotOf, ComesBefore, SnapshotList, AreSnapshots, IsPart}
 use Rattle.snapshot_project.specs.Stands.{IsStandOf, IsGroupOf, AreStandsIn, AreStandsOf, plain}
-use Rattle.snapshot_project.specs.Layouts.{HasStarts}
+use Rattle.snapshot_project.specs.Layouts.{HasStarts, MayHaveStarts}
 use Rattle.snapshot_project.proofs.StartLemmas.{start-next, start-rises, start-whole, sequence-at, sequence-once}
 use Rattle.snapshot_project.proofs.StandLemmas.{stand-snapshot, stand-inside}
 
@@ -342,3 +342,10 @@ module _ (part : GridList) (is : IsPart part) (starts : List ℕ) (has : HasStar
     pub all-have-stands : (seen : Bool) → All (HasStand part.sequences starts) (map (plain seen) list.snapshots)
     all-have-stands seen = All-map (HasStand part.sequences starts) (plain seen) list.snapshots
         (λ k d within. has-stand are.prefix seen (get_or list.snapshots k d) (are.right (get_or list.snapshots k d) (Contains-get_or list.snapshots k d within)))
+
+-- where starts are kept, they are those of the part
+pub has-starts : (part : GridList) (starts : List ℕ) → MayHaveStarts part starts → length starts ≢ 0 → HasStarts part starts
+has-starts part starts may some = elim may [
+  | inl none ↦ absurd (some (ap length none))
+  | inr has ↦ has
+]

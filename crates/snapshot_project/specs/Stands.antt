@@ -85,8 +85,8 @@ standing seen support stands = record {
   bytes = None;
 }
 
--- what follows the prefix is told; or the bytes are those of its snapshots, which say nothing of places; or the
--- stands are those of its snapshots, or there are none, and no longer prefix weighs so much
+-- what follows the prefix is told; or the bytes are those of its snapshots, which say nothing of places; or
+-- the stands are those of its snapshots, or there are none, and no longer prefix weighs so much
 abbrev pub TellNext : GridList → ℕ → List ℕ → SnapshotList → List Stand → Option (List NextRank)
     → Option (List ℕ) → Type 0
 TellNext part least ranks list stands (Some next) bytes = AreLastRanks part least ranks next

@@ -106,9 +106,29 @@ fn unpacked(alloc: Global, part: &Part, bytes: &[u8]) -> Result<Vec<Stand>, NoMe
 {
     let starts = part.starts();
     if starts.is_empty() {
+        // Where bytes were made, the part had starts.
         let made = first_places(alloc, part.job(), part.sequences())?;
-        return unpack(alloc, part.sequences(), made.as_slice(), bytes);
+        unpacked_by(alloc, part, made.as_slice(), bytes)
+    } else {
+        unpacked_by(alloc, part, starts, bytes)
     }
+}
+
+// The same by the places of the first items.
+fn unpacked_by(
+    alloc: Global,
+    part: &Part,
+    starts: &[u32],
+    bytes: &[u8],
+) -> Result<Vec<Stand>, NoMemory>
+    requires is { IsPart part.now }
+    requires starts { HasStarts part.now starts.now }
+    requires packed { (ranks : List ℕ) × (list : SnapshotList) × AreSnapshots part.now ranks list
+        × IsPacked (map (plain list.seen) list.snapshots) bytes.now }
+    ensures { IfOk result (λ stands. (ranks : List ℕ) (list : SnapshotList) → AreSnapshots part.now ranks list
+        → IsPacked (map (plain list.seen) list.snapshots) bytes.now
+        → AreStandsOf part.now list.snapshots stands.items) }
+{
     unpack(alloc, part.sequences(), starts, bytes)
 }
 
@@ -897,7 +917,8 @@ fn packed_in(
     requires is { IsPart part.now }
     requires starts { HasStarts part.now starts.now }
     requires within { All (IsWithin run.now.stands) found.now }
-    requires kept { (least : ℕ) × (ranks : List ℕ) × AreKept part.now aim least ranks run.now.stands found.now }
+    requires kept { (least : ℕ) × (ranks : List ℕ)
+        × AreKept part.now aim least ranks run.now.stands found.now }
     ensures { IfOk result (λ longer. (least : ℕ) (ranks : List ℕ)
         → AreKept part.now aim least ranks run.now.stands found.now
         → AllZip (IsKeptOf part.now least ranks) found.now longer.items) }

@@ -3,7 +3,8 @@
 ghost use Rattle.std.specs.Prelude.{◌<◌, ◌≤◌, length, slice_index};
 ghost use Rattle.waiting_stands.specs.Layouts.{IsLastUpTo};
 
-/// The last index, from this one on, whose number is not above the value. It takes few steps where it is near.
+/// The last index, from this one on, whose number is not above the value. It takes few steps where that is
+/// near.
 #[inline]
 pub(crate) fn last_up_to(list: &[u32], from: usize, value: u32) -> usize
     requires within { from < length list.now }

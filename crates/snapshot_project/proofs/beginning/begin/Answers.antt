@@ -7,6 +7,7 @@ use Rattle.sequence_grids.specs.Grids.{GridList}
 use Rattle.place_walk.specs.declared.stand.Stand.{Stand}
 use Rattle.snapshot_project.specs.Snapshots.{bound_of}
 use Rattle.snapshot_project.specs.Grouped.{AreWeights}
+use Rattle.snapshot_project.specs.Layouts.{MayHaveStarts}
 use Rattle.snapshot_project.specs.Terrains.{IsTerrainOf, AreStarts}
 use Rattle.snapshot_project.proofs.PartLemmas.{rising-few, part-begun}
 use Rattle.snapshot_project.proofs.BeginLemmas.{all-by-place, starts-projected}
@@ -37,6 +38,7 @@ part_of-requires c =
         part_is = part-begun job c.ranks.ensures.whole part.bound c.args.pivot bound c.requires.most part.sequences c.requires.rising c.requires.within;
         terrain_is = subst (λ (g : GridList). IsTerrainOf g c.in_ok-terrain.terrain) grids c.in_ok-terrain.ensures;
         weights_are = subst (λ (l : List ℕ). AreWeights (record part { sequences = l }) c.in_ok-weights.weights.items) c.as_slice-2.ensures.value weights;
+        starts_are = subst (λ (l : List ℕ). MayHaveStarts (record part { sequences = l }) c.in_ok-firsts.firsts.items) c.as_slice-3.ensures.value (c.in_ok-firsts.ensures part.bound);
       };
     }
 

@@ -6,6 +6,7 @@ use Rattle.std.proofs.lemmas.List.{take_all}
 use Rattle.sequence_grids.specs.Grids.{GridList}
 use Rattle.place_walk.specs.declared.stand.Stand.{Stand}
 use Rattle.snapshot_project.specs.Grouped.{AreWeights}
+use Rattle.snapshot_project.specs.Layouts.{MayHaveStarts}
 use Rattle.snapshot_project.proofs.BeginLemmas.{starts-projected}
 use Rattle.snapshot_project.proofs.beginning.begun_at.Goals as goal
 
@@ -18,6 +19,7 @@ part_of-requires c =
         part_is = c.requires.part;
         terrain_is = c.requires.terrain;
         weights_are = subst (λ (l : List ℕ). AreWeights (record part { sequences = l }) c.in_ok-weights.weights.items) c.as_slice.ensures.value weights;
+        starts_are = subst (λ (l : List ℕ). MayHaveStarts (record part { sequences = l }) c.in_ok-firsts.firsts.items) c.as_slice-2.ensures.value (c.in_ok-firsts.ensures part.bound);
       };
     }
 

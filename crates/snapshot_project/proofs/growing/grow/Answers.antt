@@ -26,3 +26,8 @@ returns-in-Some-clause-each c =
     grown.next.items grown.longer.items both.0 both.1)
     (both-ok c.told_before.result (λ grown. grown.next.items ≡ map next_of c.in-Some.next.now) (λ grown. grown.longer.items ≡ map (last_of aim) c.in-Some.next.now)
     c.told_before.ensures.next c.told_before.ensures.longer)
+
+pub unpacked-stands-requires : goal.unpacked-stands-requires
+unpacked-stands-requires c =
+    let (ranks, projected) = c.requires.projected in
+    (ranks, projected.snapshots, projected.are, as-bytes c.args.part.now c.args.least ranks c.args.snapshots.now projected c.in_default.ensures.none c.in-Some.bytes.now c.in-Some.ensures.some)
