@@ -1,5 +1,5 @@
 -- The forms in which what is kept of a prefix waits.
-use Rattle.std.proofs.Common.{◌≡◌, ℕ, ◌+◌, ◌-◌, ◌≤◌, ◌<◌, inl, inr, Option, None, Some, List, [], ◌∷◌, ◌++◌, length, map, drop, min, sym, ap, ◌∙◌, subst, arith, length-take, length-drop}
+use Rattle.std.proofs.Common.{◌≡◌, ℕ, ◌+◌, ◌-◌, ◌≤◌, ◌<◌, inl, inr, Bool, Option, None, Some, List, [], ◌∷◌, ◌++◌, length, map, drop, min, sym, ap, ◌∙◌, subst, arith, length-take, length-drop}
 use Rattle.std.specs.List.{AllZip, Contains, slice_range}
 use Rattle.mine_model.proofs.ListLemmas.{Contains-first, Contains-other}
 use Rattle.packed_snapshots.specs.Packed.{IsPacked}
@@ -75,3 +75,21 @@ module _ (part : GridList) (aim : Aim) (least : ℕ) (ranks : List ℕ) (run : L
     stands = subst (TellNext part least (ranks ++ next.rank ∷ []) kept.snapshots list.stands list.next) (sym some)
         (subst (λ (told : Option (List Next)). TellNext part least (ranks ++ next.rank ∷ []) kept.snapshots list.stands told (Some bytes)) (sym untold) packed);
   }
+
+-- what was unpacked stands for what is kept
+pub bytes-standing : (part : GridList) (least : ℕ) (ranks : List ℕ) (kept : StandList) (projected : IsProjected part least ranks kept) → kept.next ≡ None
+    → (seen : Bool) → seen ≡ kept.seen → (bytes : List ℕ) → kept.bytes ≡ Some bytes → (stands told : List Stand) → told ≡ stands
+    → ((ranks : List ℕ) (list : SnapshotList) → AreSnapshots part ranks list → IsPacked (map (plain list.seen) list.snapshots) bytes → AreStandsOf part list.snapshots stands)
+    → IsProjected part least ranks (standing seen kept.support told)
+bytes-standing part least ranks kept projected untold seen same bytes some stands told is unpacked =
+    let are : AreStandsOf part projected.snapshots.snapshots stands =
+    unpacked ranks projected.snapshots projected.are (as-bytes part least ranks kept projected untold bytes some) in
+    subst (λ (b : Bool). IsProjected part least ranks (standing b kept.support told)) (sym same)
+    (subst (λ (l : List Stand). IsProjected part least ranks (standing kept.seen kept.support l)) (sym is) (from-bytes part least ranks kept projected stands are))
+
+-- and so do its stands
+pub stands-standing : (part : GridList) (least : ℕ) (ranks : List ℕ) (kept : StandList) (projected : IsProjected part least ranks kept) → kept.next ≡ None → kept.bytes ≡ None
+    → (seen : Bool) → seen ≡ kept.seen → (told : List Stand) → told ≡ kept.stands → IsProjected part least ranks (standing seen kept.support told)
+stands-standing part least ranks kept projected untold loose seen same told is =
+    subst (λ (b : Bool). IsProjected part least ranks (standing b kept.support told)) (sym same)
+    (subst (λ (l : List Stand). IsProjected part least ranks (standing kept.seen kept.support l)) (sym is) (as-stands part least ranks kept projected untold loose))

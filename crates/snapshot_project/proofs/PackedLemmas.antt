@@ -108,23 +108,26 @@ module _ (part : GridList) (is : IsPart part) (starts : List ℕ) (has : HasStar
           state = of.state;
         }
 
+    abbrev LaidFor : Bool → Snapshot → Stand → Type 0
+    LaidFor seen snapshot stand = IsLaidOut part.sequences starts (plain seen snapshot) stand
+
+    each-laid-out : (seen : Bool) (grids : List ℕ) (snapshots : List Snapshot) (stands : List Stand) → AreStandsIn part grids snapshots stands
+        → ((snapshot : Snapshot) → Contains snapshots snapshot → IsSnapshotOf part prefix snapshot) → AllZip (LaidFor seen) snapshots stands
+    each-laid-out seen [] snapshots stands (none, empty) right =
+        subst (λ (l : List Snapshot). AllZip (LaidFor seen) l stands) (sym none) (subst (AllZip (LaidFor seen) []) (sym empty) tt)
+    each-laid-out seen (grid ∷ grids) snapshots stands (here, others, cut, group, behind, split, of, rest) right =
+        subst (λ (l : List Snapshot). AllZip (LaidFor seen) l stands) (sym cut)
+        (subst (AllZip (LaidFor seen) (here ++ others)) (sym split)
+        (zip-append (LaidFor seen) here others group behind
+        (zip-weaker (IsStandOf part grid) (LaidFor seen) here group
+        (λ snapshot stand held one. laid-out seen grid snapshot stand (right snapshot (subst (λ (l : List Snapshot). Contains l snapshot) (sym cut) (Contains-append_left here others snapshot held))) one) of.are)
+        (each-laid-out seen grids others behind rest (λ snapshot held. right snapshot (subst (λ (l : List Snapshot). Contains l snapshot) (sym cut) (Contains-append_right here others snapshot held))))))
+
     all-laid-out : (seen : Bool) (grids : List ℕ) (snapshots : List Snapshot) (stands : List Stand) → AreStandsIn part grids snapshots stands
         → ((snapshot : Snapshot) → Contains snapshots snapshot → IsSnapshotOf part prefix snapshot)
         → AllZip (IsLaidOut part.sequences starts) (map (plain seen) snapshots) stands
-    all-laid-out seen grids snapshots stands are right = zip-mapped (IsLaidOut part.sequences starts) (plain seen) snapshots stands (by grids snapshots stands are right)
-      where
-        abbrev R : Snapshot → Stand → Type 0
-        R snapshot stand = IsLaidOut part.sequences starts (plain seen snapshot) stand
-        by : (grids : List ℕ) (snapshots : List Snapshot) (stands : List Stand) → AreStandsIn part grids snapshots stands
-            → ((snapshot : Snapshot) → Contains snapshots snapshot → IsSnapshotOf part prefix snapshot) → AllZip R snapshots stands
-        by [] snapshots stands (none, empty) right = subst (λ (l : List Snapshot). AllZip R l stands) (sym none) (subst (AllZip R []) (sym empty) tt)
-        by (grid ∷ grids) snapshots stands (here, others, cut, group, behind, split, of, rest) right =
-            subst (λ (l : List Snapshot). AllZip R l stands) (sym cut)
-            (subst (AllZip R (here ++ others)) (sym split)
-            (zip-append R here others group behind
-            (zip-weaker (IsStandOf part grid) R here group
-            (λ snapshot stand held one. laid-out seen grid snapshot stand (right snapshot (subst (λ (l : List Snapshot). Contains l snapshot) (sym cut) (Contains-append_left here others snapshot held))) one) of.are)
-            (by grids others behind rest (λ snapshot held. right snapshot (subst (λ (l : List Snapshot). Contains l snapshot) (sym cut) (Contains-append_right here others snapshot held))))))
+    all-laid-out seen grids snapshots stands are right =
+        zip-mapped (IsLaidOut part.sequences starts) (plain seen) snapshots stands (each-laid-out seen grids snapshots stands are right)
 
     -- a snapshot has a grid
     grid-of : (snapshot : Snapshot) → IsSnapshotOf part prefix snapshot
@@ -236,6 +239,58 @@ module _ (part : GridList) (is : IsPart part) (starts : List ℕ) (has : HasStar
   abbrev Marked : Option ℕ → Bool → List Snapshot → List Stand → Type 0
   Marked before seen snapshots stands = AreMarked before (map (plain seen) snapshots) stands
 
+  grids-above : (low next : ℕ) (grids : List ℕ) → low < next → AllPairs (λ (low high : ℕ). low < high) (next ∷ grids) → (k d : ℕ) → k < length (next ∷ grids) → low < get_or (next ∷ grids) k d
+  grids-above low next grids less pairs zero d within = less
+  grids-above low next grids less pairs (suc k) d within =
+      let rises : next < get_or grids k d = pairs 0 (suc k) d (let some : 0 < suc k = omega arith in some) within in omega (arith, rises, less)
+
+  bare-more : (first : Stand) (group : List Stand) → (IsTrue first.first → ⊥) → ((k : ℕ) (other : Stand) → slice_get group k ≡ Some other → IsTrue other.first → ⊥)
+      → (k : ℕ) (other : Stand) → slice_get (first ∷ group) k ≡ Some other → IsTrue other.first → ⊥
+  bare-more first group none bare zero other there marked = none (subst (λ (s : Stand). IsTrue s.first) (sym (same_Some first other there)) marked)
+  bare-more first group none bare (suc k) other there marked = bare k other there marked
+
+  -- a stand in a later grid, and those behind it
+  span-later : (seen : Bool) (one : Snapshot) (more : List Snapshot) (stand : Stand) (stands : List Stand) (grid s : ℕ) → slice_get part.sequences grid ≡ Some s
+      → (of : IsLaidOut part.sequences starts (plain seen one) stand) → (IsTrue stand.first ↔ (Some s ≢ Some one.sequence)) → s < one.sequence → IsSpan of.grid more stands
+      → IsSpan grid (one ∷ more) (stand ∷ stands)
+  span-later seen one more stand stands grid s at of mark later next =
+      let ahead : grid < of.grid = grid-later grid of.grid s one.sequence at of.sequence later in
+      let marked : IsTrue stand.first = mark.1 (λ same. let equal : s ≡ one.sequence = same_Some s one.sequence same in omega arith) in
+      record {
+        here = [];
+        others = one ∷ more;
+        cut = refl;
+        group = [];
+        behind = stand ∷ stands;
+        split = refl;
+        are = tt;
+        bare = λ k other there. absurd (cc);
+        grids = of.grid ∷ next.grids;
+        rising = AllPairs-cons (λ (low high : ℕ). low < high) grid (of.grid ∷ next.grids) (grids-above grid of.grid next.grids ahead next.rising) next.rising;
+        rest = more-stands seen one stand more stands of marked next;
+      }
+
+  -- one in the same grid
+  span-same : (seen : Bool) (one : Snapshot) (more : List Snapshot) (stand : Stand) (stands : List Stand) (grid s : ℕ) → slice_get part.sequences grid ≡ Some s
+      → IsLaidOut part.sequences starts (plain seen one) stand → (IsTrue stand.first ↔ (Some s ≢ Some one.sequence)) → s ≡ one.sequence → IsSpan grid more stands
+      → IsSpan grid (one ∷ more) (stand ∷ stands)
+  span-same seen one more stand stands grid s at of mark same next =
+      let here : slice_get part.sequences grid ≡ Some one.sequence = at ∙ ap Some same in
+      let unmarked : IsTrue stand.first → ⊥ = λ marked. mark.0 marked (ap Some same) in
+      record {
+        here = one ∷ next.here;
+        others = next.others;
+        cut = ap (λ (l : List Snapshot). one ∷ l) next.cut;
+        group = stand ∷ next.group;
+        behind = next.behind;
+        split = ap (λ (l : List Stand). stand ∷ l) next.split;
+        are = (laid-back seen grid one stand here of, next.are);
+        bare = bare-more stand next.group unmarked next.bare;
+        grids = next.grids;
+        rising = next.rising;
+        rest = next.rest;
+      }
+
   span : (seen : Bool) (snapshots : List Snapshot) (stands : List Stand) (grid s : ℕ) → slice_get part.sequences grid ≡ Some s → AllPairs ComesBefore snapshots
       → ((snapshot : Snapshot) → Contains snapshots snapshot → s ≤ snapshot.sequence) → Laid seen snapshots stands → Marked (Some s) seen snapshots stands
       → IsSpan grid snapshots stands
@@ -254,57 +309,16 @@ module _ (part : GridList) (is : IsPart part) (starts : List ℕ) (has : HasStar
   }
   span seen [] (stand ∷ stands) grid s at rising above zip marks = absurd zip
   span seen (one ∷ more) [] grid s at rising above zip marks = absurd zip
-  span seen (one ∷ more) (stand ∷ stands) grid s at rising above (of, zip) (mark, marks) = by (cases_lt s one.sequence)
-    where
-      tail : AllPairs ComesBefore more
-      tail = AllPairs-tail ComesBefore one more rising
-      by : (s < one.sequence) ⊎ (one.sequence ≤ s) → IsSpan grid (one ∷ more) (stand ∷ stands)
-      by (inl later) =
-          let next : IsSpan of.grid more stands = span seen more stands of.grid one.sequence of.sequence tail (later-above one more rising) zip marks in
-          let ahead : grid < of.grid = grid-later grid of.grid s one.sequence at of.sequence later in
-          let marked : IsTrue stand.first = mark.1 (λ same. let equal : s ≡ one.sequence = same_Some s one.sequence same in omega arith) in
-          record {
-            here = [];
-            others = one ∷ more;
-            cut = refl;
-            group = [];
-            behind = stand ∷ stands;
-            split = refl;
-            are = tt;
-            bare = λ k other there. absurd (cc);
-            grids = of.grid ∷ next.grids;
-            rising = AllPairs-cons (λ (low high : ℕ). low < high) grid (of.grid ∷ next.grids) (grids-above grid of.grid next.grids ahead next.rising) next.rising;
-            rest = more-stands seen one stand more stands of marked next;
-          }
-      by (inr not) =
-          let least : s ≤ one.sequence = above one (Contains-first one more) in
-          let same : s ≡ one.sequence = omega arith in
-          let here : slice_get part.sequences grid ≡ Some one.sequence = at ∙ ap Some same in
-          let next : IsSpan grid more stands =
-          span seen more stands grid s at tail (λ other held. above other (Contains-other one more other held)) zip (subst (λ (n : ℕ). Marked (Some n) seen more stands) (sym same) marks) in
-          let unmarked : IsTrue stand.first → ⊥ = λ marked. mark.0 marked (ap Some same) in
-          record {
-            here = one ∷ next.here;
-            others = next.others;
-            cut = ap (λ (l : List Snapshot). one ∷ l) next.cut;
-            group = stand ∷ next.group;
-            behind = next.behind;
-            split = ap (λ (l : List Stand). stand ∷ l) next.split;
-            are = (laid-back seen grid one stand here of, next.are);
-            bare = bare-more stand next.group unmarked next.bare;
-            grids = next.grids;
-            rising = next.rising;
-            rest = next.rest;
-          }
-        where
-          bare-more : (first : Stand) (group : List Stand) → (IsTrue first.first → ⊥) → ((k : ℕ) (other : Stand) → slice_get group k ≡ Some other → IsTrue other.first → ⊥)
-              → (k : ℕ) (other : Stand) → slice_get (first ∷ group) k ≡ Some other → IsTrue other.first → ⊥
-          bare-more first group none bare zero other there marked = none (subst (λ (s : Stand). IsTrue s.first) (sym (same_Some first other there)) marked)
-          bare-more first group none bare (suc k) other there marked = bare k other there marked
-      grids-above : (low next : ℕ) (grids : List ℕ) → low < next → AllPairs (λ (low high : ℕ). low < high) (next ∷ grids) → (k d : ℕ) → k < length (next ∷ grids) → low < get_or (next ∷ grids) k d
-      grids-above low next grids less pairs zero d within = less
-      grids-above low next grids less pairs (suc k) d within =
-          let rises : next < get_or grids k d = pairs 0 (suc k) d (let some : 0 < suc k = omega arith in some) within in omega (arith, rises, less)
+  span seen (one ∷ more) (stand ∷ stands) grid s at rising above (of, zip) (mark, marks) =
+      let tail : AllPairs ComesBefore more = AllPairs-tail ComesBefore one more rising in
+      let least : s ≤ one.sequence = above one (Contains-first one more) in
+      elim (cases_lt s one.sequence) [
+        | inl later ↦ span-later seen one more stand stands grid s at of mark later (span seen more stands of.grid one.sequence of.sequence tail (later-above one more rising) zip marks)
+        | inr not ↦
+            let same : s ≡ one.sequence = omega arith in
+            span-same seen one more stand stands grid s at of mark same
+            (span seen more stands grid s at tail (λ other held. above other (Contains-other one more other held)) zip (subst (λ (n : ℕ). Marked (Some n) seen more stands) (sym same) marks))
+      ]
 
   -- THE WAY BACK: the stands of the snapshots in the layout are their stands in the part
   pub stands-back : (seen : Bool) (snapshots : List Snapshot) (stands : List Stand) → AllPairs ComesBefore snapshots → Laid seen snapshots stands → Marked None seen snapshots stands

@@ -1,7 +1,23 @@
 //! What lies behind in a list that rises.
 
-ghost use Rattle.std.specs.Prelude.{◌<◌, ◌≤◌, length, slice_index};
+ghost use Rattle.std.specs.Prelude.{◌<◌, ◌≤◌, AllPairs, length, slice_index};
 ghost use Rattle.waiting_stands.specs.Layouts.{IsLastUpTo};
+
+/// The same as `last_up_to`, and at once where the numbers up to the value follow each other without a gap.
+#[inline]
+pub(crate) fn last_in_rising(list: &[u32], from: usize, value: u32) -> usize
+    requires rising { AllPairs (λ low high. low < high) list.now }
+    requires within { from < length list.now }
+    requires not_above { slice_index list.now from ≤ value }
+    ensures { IsLastUpTo list.now value result }
+{
+    let ahead = (value - list[from]) as usize;
+    if ahead < list.len() - from && list[from + ahead] == value {
+        from + ahead
+    } else {
+        last_up_to(list, from, value)
+    }
+}
 
 /// The last index, from this one on, whose number is not above the value. It takes few steps where that is
 /// near.

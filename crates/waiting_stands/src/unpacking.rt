@@ -6,7 +6,7 @@ ghost use Rattle.packed_snapshots.specs.declared.snapshot.PlainSnapshot.{PlainSn
 ghost use Rattle.packed_snapshots.specs.Packed.{IsPacked};
 ghost use Rattle.waiting_stands.specs.Layouts.{IsLayout, HasStand, IsStandOf, AreMarked};
 
-use crate::searching::last_up_to;
+use crate::searching::last_in_rising;
 use mine_model::NoMemory;
 use packed_snapshots::PackedSnapshots;
 use place_walk::Stand;
@@ -31,7 +31,7 @@ pub fn unpack(
     let mut grid = 0;
     let mut first = true;
     for next in PackedSnapshots::new(bytes) {
-        let at = last_up_to(sequences, grid, next.sequence);
+        let at = last_in_rising(sequences, grid, next.sequence);
         stands.push(Stand {
             place: starts[at] + next.position as u32,
             state: next.state,

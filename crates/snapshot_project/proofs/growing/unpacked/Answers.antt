@@ -1,18 +1,12 @@
-use Rattle.std.proofs.Common.{◌≡◌, ℕ, List, length, sym, ap, subst, arith}
-use Rattle.std.specs.List.{AllByRecursion}
+use Rattle.std.proofs.Common.{◌≡◌, ℕ, List, length, sym, ap, subst, arith, rules}
 use Rattle.mining_job.specs.Problems.{Problem}
 use Rattle.sequence_grids.specs.Grids.{GridList}
 use Rattle.snapshot_project.specs.Layouts.{HasStarts}
 use Rattle.snapshot_project.proofs.PackedLemmas.{has-starts}
 use Rattle.snapshot_project.proofs.growing.unpacked.Goals as goal
 
-pub first_places-made-requires : goal.first_places-made-requires
-first_places-made-requires c =
-    subst (λ (p : Problem). AllByRecursion (λ (i : ℕ). i < length p.sequences) c.sequences.result.now) (sym c.job.ensures)
-    (subst (AllByRecursion (λ (i : ℕ). i < length c.args.part.now.problem.sequences)) (sym c.sequences.ensures) c.starts-starts.ensures.part.within)
-
-pub unpacked_by-requires-then-is_empty-clause-starts : goal.unpacked_by-requires-then-is_empty-clause-starts
-unpacked_by-requires-then-is_empty-clause-starts c =
+pub unpacked_by-requires-clause-starts : goal.unpacked_by-requires-clause-starts
+unpacked_by-requires-clause-starts c =
     let part : GridList = c.args.part.now in
     subst (HasStarts part) (sym c.as_slice.ensures.value)
     (subst (λ (p : Problem). HasStarts (record part { problem = p }) c.in_ok-made.made.items) c.job.ensures
