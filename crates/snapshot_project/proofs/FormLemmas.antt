@@ -1,6 +1,6 @@
 -- The forms in which what is kept of a prefix waits.
-use Rattle.std.proofs.Common.{◌≡◌, ℕ, ◌+◌, ◌-◌, ◌≤◌, ◌<◌, inl, inr, Bool, Option, None, Some, List, [], ◌∷◌, ◌++◌, length, map, drop, min, sym, ap, ◌∙◌, subst, arith, length-take, length-drop}
-use Rattle.std.specs.List.{AllZip, Contains, slice_range}
+use Rattle.std.proofs.Common.{◌≡◌, ℕ, ◌-◌, ◌≤◌, ◌<◌, inl, inr, Bool, Option, None, Some, List, [], ◌∷◌, ◌++◌, length, map, drop, min, sym, ap, ◌∙◌, subst, arith, length-take, length-drop}
+use Rattle.std.specs.List.{AllZip, slice_range}
 use Rattle.mine_model.proofs.ListLemmas.{Contains-first, Contains-other}
 use Rattle.packed_snapshots.specs.Packed.{IsPacked}
 use Rattle.place_walk.specs.declared.stand.Stand.{Stand}
@@ -10,7 +10,7 @@ use Rattle.stand_sums.specs.declared.next_rank.NextRank.{NextRank}
 use Rattle.snapshot_project.specs.declared.next_rank.NextRank.{NextRank as Next}
 use Rattle.snapshot_project.specs.Longer.{kept_of, AreKept, IsKeptOf}
 use Rattle.snapshot_project.specs.Snapshots.{SnapshotList, AreSnapshots}
-use Rattle.snapshot_project.specs.Stands.{AreStandsOf, IsLight, TellNext, StandList, IsProjected, standing, plain}
+use Rattle.snapshot_project.specs.Stands.{AreStandsOf, TellNext, StandList, IsProjected, standing, plain}
 
 module _ (part : GridList) (least : ℕ) (ranks : List ℕ) (kept : StandList) (projected : IsProjected part least ranks kept) where
   -- by stands

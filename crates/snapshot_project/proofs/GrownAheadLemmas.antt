@@ -1,5 +1,5 @@
 -- What is kept of longer prefixes where it was counted ahead what follows them.
-use Rattle.std.proofs.Common.{◌≡◌, ◌↔◌, ℕ, zero, suc, ◌+◌, ◌≤◌, ◌<◌, ◌⊎◌, inl, inr, Bool, IsTrue, Option, Some, None, List, [], ◌∷◌, ◌++◌, length, map, refl, sym, ap, ◌∙◌, subst, arith}
+use Rattle.std.proofs.Common.{◌≡◌, ℕ, zero, suc, ◌≤◌, ◌<◌, ◌⊎◌, inl, inr, IsTrue, Option, Some, None, List, [], ◌∷◌, ◌++◌, length, map, refl, sym, ap, ◌∙◌, subst, arith}
 use Rattle.std.specs.List.{AllPairs, AllZip, Contains, slice_get, slice_range}
 use Rattle.std.proofs.lemmas.Bool.{cases_lt}
 use Rattle.std.specs.Option.{IfSome}
@@ -8,7 +8,7 @@ use Rattle.std.proofs.lemmas.Option.{same_Some, slice_get_within}
 use Rattle.std.proofs.lemmas.Slice.Zip.{AllZip-long}
 use Rattle.mine_model.proofs.ElementLemmas.{get-some, get-held, slice_get-mapped_by}
 use Rattle.mine_model.proofs.ListLemmas.{Contains-none}
-use Rattle.sequence_grids.specs.Grids.{GridList, items_at}
+use Rattle.sequence_grids.specs.Grids.{GridList}
 use Rattle.sequence_grids.specs.Successors.{AreSuccessors}
 use Rattle.walk_memo.specs.Moves.{MoveSets}
 use Rattle.walk_places.specs.declared.places.Record.{Record}

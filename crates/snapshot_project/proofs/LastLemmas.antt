@@ -1,5 +1,5 @@
 -- Prefixes behind which nothing more follows.
-use Rattle.std.proofs.Common.{◌≡◌, ℕ, ◌+◌, ◌-◌, ◌≤◌, ◌<◌, inl, inr, Bool, Option, Some, None, Result, Ok, Err, List, [], ◌∷◌, ◌++◌, length, map, refl, sym, ap, ◌∙◌, subst, arith}
+use Rattle.std.proofs.Common.{◌≡◌, ℕ, ◌-◌, ◌≤◌, ◌<◌, inr, Bool, Option, Some, None, Result, Ok, Err, List, [], ◌∷◌, ◌++◌, length, map, refl, sym, ◌∙◌, subst, arith}
 use Rattle.std.specs.List.{Contains, slice_get}
 use Rattle.std.specs.Result.{IfOk}
 use Rattle.std.proofs.lemmas.List.{length-map}
@@ -19,7 +19,7 @@ use Rattle.level_ahead.specs.declared.next_of.NextOf.{NextOf}
 use Rattle.snapshot_project.specs.declared.next_rank.NextRank.{NextRank}
 use Rattle.snapshot_project.specs.Ahead.{next_of, last_of}
 use Rattle.snapshot_project.specs.Aims.{sees}
-use Rattle.snapshot_project.specs.Extensions.{sequences_of, GrowsBehind, CanFollow, IsSupportOf, AreNextRanks}
+use Rattle.snapshot_project.specs.Extensions.{sequences_of, GrowsBehind, CanFollow, IsSupportOf}
 use Rattle.snapshot_project.specs.Snapshots.{IsPart, SnapshotList, AreSnapshots}
 use Rattle.snapshot_project.specs.Stands.{IsLight, IsLast, AreLastRanks, StandList, TellNext, IsProjected}
 use Rattle.snapshot_project.proofs.ExtensionLemmas.{ranked-allowed}

@@ -1,6 +1,6 @@
 -- Snapshots of a prefix as bytes, which say nothing of places: their stands are found again where the sequences
 -- of the part begin.
-use Rattle.std.proofs.Common.{◌≡◌, ◌≢◌, ℕ, zero, suc, ◌+◌, ◌≤◌, ◌<◌, ◌^◌, ◌↔◌, ◌⊎◌, inl, inr, Bool, true, false, IsTrue, Option, Some, None, List, [], ◌∷◌, ◌++◌, length, map, get_or, refl, sym, ap, ◌∙◌, subst, arith}
+use Rattle.std.proofs.Common.{◌≡◌, ◌≢◌, ℕ, zero, suc, ◌+◌, ◌≤◌, ◌<◌, ◌↔◌, inl, inr, Bool, false, IsTrue, Option, Some, None, List, [], ◌∷◌, ◌++◌, length, map, get_or, refl, sym, ap, ◌∙◌, subst, arith}
 use Rattle.std.specs.List.{All, AllPairs, AllZip, Contains, slice_get, slice_index}
 use Rattle.std.proofs.lemmas.Bool.{cases_lt}
 use Rattle.std.proofs.lemmas.List.Elements.{All-map, Contains-get_or, Contains-append_left, Contains-append_right}
@@ -13,7 +13,6 @@ use Rattle.packed_snapshots.specs.declared.snapshot.PlainSnapshot.{PlainSnapshot
 use Rattle.packed_snapshots.specs.declared.snapshot.Place.{Place}
 use Rattle.packed_snapshots.specs.Snapshots.{place_of, start, IsBehind, RisesBehind}
 use Rattle.place_walk.specs.declared.stand.Stand.{Stand}
-use Rattle.place_walk.specs.Groups.{IsGroup}
 use Rattle.sequence_grids.specs.Grids.{GridList, items_at}
 use Rattle.place_records.specs.Records.{start_of}
 use Rattle.waiting_stands.specs.Layouts.{IsLayout, IsStandOf as IsLaidOut, HasStand, AreStandsOf as AreLaidOut, AreMarked, HasSeen}
@@ -22,7 +21,7 @@ use Rattle.snapshot_project.specs.Snapshots.{IsSnapshotOf, ComesBefore, Snapshot
 use Rattle.snapshot_project.specs.Stands.{IsStandOf, IsGroupOf, AreStandsIn, AreStandsOf, plain}
 use Rattle.snapshot_project.specs.Layouts.{HasStarts, MayHaveStarts}
 use Rattle.snapshot_project.proofs.StartLemmas.{start-next, start-rises, start-whole, sequence-at, sequence-once}
-use Rattle.snapshot_project.proofs.StandLemmas.{stand-snapshot, stand-inside}
+use Rattle.snapshot_project.proofs.StandLemmas.{stand-inside}
 
 -- ---- the order of snapshots is that of their bytes
 

@@ -1,5 +1,4 @@
-use Rattle.std.proofs.Common.{◌≡◌, ℕ, ◌+◌, ◌≤◌, ◌<◌, None, List, ◌∷◌, [], ◌++◌, length, get_or, refl, sym, ap, ◌∙◌, subst, arith}
-use Rattle.mining_job.specs.Problems.{items_of}
+use Rattle.std.proofs.Common.{◌≡◌, ℕ, ◌+◌, ◌≤◌, ◌<◌, None, ◌∷◌, [], ◌++◌, length, refl, sym, ap, ◌∙◌, subst, arith}
 use Rattle.sequence_grids.specs.Grids.{GridList, items_at}
 use Rattle.place_records.specs.Records.{start_of}
 use Rattle.snapshot_project.proofs.FirstLemmas.{AreFirsts, firsts-none, firsts-more}

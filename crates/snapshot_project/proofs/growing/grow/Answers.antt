@@ -1,13 +1,12 @@
-use Rattle.std.proofs.Common.{◌≡◌, ◌∙◌, ℕ, ◌≤◌, None, Some, IfSome, List, ◌∷◌, [], ◌++◌, map, sym, ap, subst, arith}
+use Rattle.std.proofs.Common.{◌≡◌, ◌∙◌, ℕ, Some, List, ◌∷◌, [], ◌++◌, map}
 use Rattle.std.specs.List.{slice_get}
 use Rattle.std.proofs.lemmas.Result.{IfOk-weaker}
 use Rattle.sequence_grids.specs.Grids.{GridList}
-use Rattle.place_walk.specs.declared.stand.Stand.{Stand}
 use Rattle.stand_sums.specs.declared.aim.Aim.{Aim}
 use Rattle.snapshot_project.specs.declared.next_rank.NextRank.{NextRank}
 use Rattle.snapshot_project.specs.Ahead.{next_of, last_of}
 use Rattle.snapshot_project.specs.Extensions.{AreNextRanks}
-use Rattle.snapshot_project.specs.Stands.{AreStandsOf, StandList, IsProjected, standing}
+use Rattle.snapshot_project.specs.Stands.{StandList, IsProjected, standing}
 use Rattle.snapshot_project.proofs.FormLemmas.{bytes-standing, stands-standing}
 use Rattle.snapshot_project.proofs.LastLemmas.{both-ok, told-each}
 use Rattle.snapshot_project.proofs.growing.grow.Goals as goal

@@ -1,12 +1,10 @@
-use Rattle.std.proofs.Common.{◌≡◌, ◌∙◌, ℕ, ◌+◌, ◌≤◌, ◌<◌, None, Some, Option, List, length, map, refl, sym, ap, arith}
+use Rattle.std.proofs.Common.{◌≡◌, ◌∙◌, ◌+◌, ◌<◌, None, length, map, refl, sym, ap, arith}
 use Rattle.std.proofs.lemmas.List.{length-map}
 use Rattle.sequence_grids.specs.Grids.{GridList}
-use Rattle.place_walk.specs.declared.stand.Stand.{Stand}
-use Rattle.stand_sums.specs.declared.aim.Aim.{Aim}
 use Rattle.snapshot_project.specs.Ahead.{items_if}
 use Rattle.snapshot_project.specs.Founds.{IsFoundIn}
 use Rattle.snapshot_project.specs.Longer.{told_of, AreKept}
-use Rattle.snapshot_project.specs.Stands.{StandList, IsProjected, standing}
+use Rattle.snapshot_project.specs.Stands.{StandList, standing}
 use Rattle.snapshot_project.proofs.GrownLemmas.{empty-next, stands-for, grown-next, grown-each, grown-within}
 use Rattle.snapshot_project.proofs.GrownAheadLemmas.{grown-longer, grown-count}
 use Rattle.snapshot_project.proofs.growing.grow_from.Goals as goal

@@ -1,11 +1,11 @@
-use Rattle.std.proofs.Common.{◌≡◌, ◌∙◌, ℕ, ◌+◌, ◌≤◌, ◌<◌, true, false, Some, List, [], ◌∷◌, ◌++◌, length, filter, take, get_or, min, length-take, refl, sym, ap, subst, arith, rules}
+use Rattle.std.proofs.Common.{◌≡◌, ◌∙◌, ℕ, ◌+◌, ◌≤◌, ◌<◌, Some, List, [], ◌∷◌, ◌++◌, length, filter, take, get_or, min, length-take, sym, ap, subst, arith, rules}
 use Rattle.std.specs.List.{AllZip, slice_get}
 use Rattle.std.proofs.lemmas.Bool.{lt-ltb, le-ltb}
 use Rattle.std.proofs.lemmas.List.{take_more}
 use Rattle.std.proofs.lemmas.Option.{slice_get-get_or, slice_get_within}
 use Rattle.mine_model.proofs.ElementLemmas.{get-held}
 use Rattle.stand_sums.specs.declared.next_rank.NextRank.{NextRank}
-use Rattle.level_ahead.specs.Counts.{Behind, has_places}
+use Rattle.level_ahead.specs.Counts.{has_places}
 use Rattle.snapshot_project.specs.Ahead.{IsKeptAhead}
 use Rattle.snapshot_project.specs.Stands.{StandList}
 use Rattle.snapshot_project.proofs.PlacedLemmas.{entry-of, zip-push, count-yes, count-no, count-most}

@@ -1,10 +1,9 @@
-use Rattle.std.proofs.Common.{◌≡◌, ◌∙◌, ℕ, ◌≤◌, ◌<◌, None, Some, Bool, List, ◌∷◌, [], ◌++◌, length, map, sym, ap, subst, arith}
+use Rattle.std.proofs.Common.{◌≡◌, ◌∙◌, ℕ, ◌<◌, Bool, List, ◌∷◌, [], ◌++◌, map, sym, ap, subst}
 use Rattle.std.specs.List.{slice_range}
 use Rattle.packed_snapshots.specs.Packed.{IsPacked}
 use Rattle.place_walk.specs.declared.stand.Stand.{Stand}
 use Rattle.sequence_grids.specs.Grids.{GridList}
 use Rattle.waiting_stands.specs.Layouts.{IsLayout, AreStandsOf as AreLaidOut}
-use Rattle.snapshot_project.specs.Longer.{kept_of, IsKeptOf}
 use Rattle.snapshot_project.specs.Stands.{StandList, plain}
 use Rattle.snapshot_project.proofs.FormLemmas.{piece-stands, piece-packed}
 use Rattle.snapshot_project.proofs.PackedLemmas.{part-layout, stands-laid, plain-seen}

@@ -1,4 +1,4 @@
-use Rattle.std.proofs.Common.{◌≡◌, ℕ, ◌+◌, ◌<◌, Some, List, ◌∷◌, [], ◌++◌, length, take, get_or, sym, subst}
+use Rattle.std.proofs.Common.{◌≡◌, ℕ, ◌<◌, Some, List, ◌∷◌, [], ◌++◌, length, take, get_or, sym, subst}
 use Rattle.std.specs.List.{AllZip, slice_get}
 use Rattle.std.proofs.lemmas.List.{take_more}
 use Rattle.std.proofs.lemmas.Option.{slice_get-get_or}
@@ -6,7 +6,6 @@ use Rattle.mine_model.proofs.ElementLemmas.{get-held}
 use Rattle.sequence_grids.specs.Grids.{GridList}
 use Rattle.stand_sums.specs.declared.next_rank.NextRank.{NextRank}
 use Rattle.snapshot_project.specs.Longer.{IsKeptOf}
-use Rattle.snapshot_project.specs.Stands.{StandList}
 use Rattle.snapshot_project.proofs.PlacedLemmas.{zip-push}
 use Rattle.snapshot_project.proofs.growing.packed_in.Goals as goal
 

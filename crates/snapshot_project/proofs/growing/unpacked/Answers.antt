@@ -1,4 +1,4 @@
-use Rattle.std.proofs.Common.{◌≡◌, ℕ, List, length, sym, ap, subst, arith, rules}
+use Rattle.std.proofs.Common.{ℕ, List, sym, subst, rules}
 use Rattle.mining_job.specs.Problems.{Problem}
 use Rattle.sequence_grids.specs.Grids.{GridList}
 use Rattle.snapshot_project.specs.Layouts.{HasStarts}

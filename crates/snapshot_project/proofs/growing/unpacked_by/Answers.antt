@@ -1,12 +1,11 @@
-use Rattle.std.proofs.Common.{◌≡◌, ℕ, None, Result, Ok, Err, List, map, sym, ap, subst}
+use Rattle.std.proofs.Common.{ℕ, None, Result, Ok, Err, List, map, sym, subst}
 use Rattle.std.specs.List.{All, AllZip}
 use Rattle.std.specs.Result.{IfOk}
 use Rattle.std.proofs.lemmas.Result.{IfOk-weaker}
 use Rattle.packed_snapshots.specs.declared.snapshot.PlainSnapshot.{PlainSnapshot}
 use Rattle.packed_snapshots.specs.Packed.{IsPacked}
-use Rattle.place_walk.specs.declared.stand.Stand.{Stand}
 use Rattle.sequence_grids.specs.Grids.{GridList}
-use Rattle.waiting_stands.specs.Layouts.{IsLayout, HasStand, IsStandOf as IsLaidOut, AreMarked}
+use Rattle.waiting_stands.specs.Layouts.{HasStand, IsStandOf as IsLaidOut, AreMarked}
 use Rattle.snapshot_project.specs.Snapshots.{SnapshotList, AreSnapshots}
 use Rattle.snapshot_project.specs.Stands.{AreStandsOf, plain}
 use Rattle.snapshot_project.proofs.PackedLemmas.{part-layout, all-have-stands, stands-back}
