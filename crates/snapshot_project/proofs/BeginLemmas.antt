@@ -1,5 +1,5 @@
 -- What a part begins with, found sequence by sequence: the stands of the empty prefix, and weights.
-use Rattle.std.proofs.Common.{◌≡◌, ℕ, ◌+◌, ◌≤◌, ◌<◌, inl, inr, true, false, IsTrue, Some, None, List, [], ◌∷◌, ◌++◌, length, map, replicate, refl, sym, ap, ◌∙◌, subst, arith}
+use Rattle.std.proofs.Common.{◌≡◌, ℕ, ◌+◌, ◌≤◌, ◌<◌, inl, inr, true, false, IsTrue, Option, Some, None, List, [], ◌∷◌, ◌++◌, length, map, replicate, refl, sym, ap, ◌∙◌, subst, arith}
 use Rattle.std.specs.List.{AllPairs, AllByRecursion, Contains, slice_get, slice_index}
 use Rattle.std.proofs.lemmas.Bool.{cases_lt}
 use Rattle.std.proofs.lemmas.List.{length-append, length-replicate, get_or_append_left, get_or-append-add, get_or-replicate}
@@ -13,6 +13,7 @@ use Rattle.sequence_grids.specs.Grids.{GridList, Completes, items_at}
 use Rattle.place_walk.specs.declared.stand.Stand.{Stand}
 use Rattle.stand_sums.specs.Sequences.{weight_at}
 use Rattle.place_records.specs.Records.{start_of}
+use Rattle.snapshot_project.specs.declared.next_rank.NextRank.{NextRank}
 use Rattle.snapshot_project.specs.declared.snapshot.Snapshot.{Snapshot}
 use Rattle.snapshot_project.specs.Snapshots.{ComesBefore, SnapshotList, IsPart}
 use Rattle.snapshot_project.specs.Stands.{AreStandsIn, StandList, TellNext, IsProjected}
@@ -187,7 +188,7 @@ module _ (part : GridList) where
 
     -- the starts of all sequences are what is kept of the empty prefix
     pub starts-projected : (starts : List Stand) → AreStarts part (length part.sequences) starts → (list : StandList)
-        → list ≡ record { seen = false; support = 0; stands = starts; next = None } → (least : ℕ) → IsProjected part least [] list
+        → list ≡ record { seen = false; support = 0; stands = starts; next = None; bytes = None } → (least : ℕ) → IsProjected part least [] list
     starts-projected starts are list same least =
         let (grids, cut, rising, all) = starts-cut starts are.rising (λ stand held.
         let (grid, inside, here, completes) = (are.exact stand).0 held in (grid, (inside, completes), here)) in
@@ -219,11 +220,12 @@ module _ (part : GridList) where
           ));
           seen = ap (λ (l : StandList). l.seen) same;
           support = ap (λ (l : StandList). l.support) same;
-          stands = subst (TellNext part least [] snapshots.snapshots list.stands) (sym (ap (λ (l : StandList). l.next) same)) (inl (record {
-            grids = grids;
-            rising = rising;
-            are = subst (AreStandsIn part grids (map start_of_grid grids)) (sym places) (starts-in grids all);
-          }));
+          stands = subst (TellNext part least [] snapshots list.stands list.next) (sym (ap (λ (l : StandList). l.bytes) same))
+              (subst (λ (next : Option (List NextRank)). TellNext part least [] snapshots list.stands next None) (sym (ap (λ (l : StandList). l.next) same)) (inl (record {
+                grids = grids;
+                rising = rising;
+                are = subst (AreStandsIn part grids (map start_of_grid grids)) (sym places) (starts-in grids all);
+              })));
         }
 
 -- ---- what the sequences weigh

@@ -58,7 +58,7 @@ module _ (part : GridList) (is : IsPart part) (prefixes : List ℕ) (list : Snap
       (each : All (λ (filed : Filed). slice_range run filed.first filed.last ≡ filed.stands) (map (with_more ranks aim sequences) (map unfiled found))) where
     pub all-projected : (next : NextRank) → Contains found next
         → IsProjected part least (prefixes ++ next.rank ∷ [])
-        (record { seen = sees list.seen part.bound.need next.rank; support = next.support; stands = slice_range run next.first next.last; next = None })
+        (record { seen = sees list.seen part.bound.need next.rank; support = next.support; stands = slice_range run next.first next.last; next = None; bytes = None })
     all-projected =
         kids-projected part is prefixes list are ranks grids rising all_grids sequences
         (λ rank. groups-visits part is prefixes list are ranks course within_is opens_is rank grids groups sequences groups_are visits_are)
@@ -84,7 +84,7 @@ module _ (part : GridList) (is : IsPart part) (width : ℕ) (rows : List ℕ) (r
     (map (with_more ranks (record { seen = list.seen; need = part.bound.need }) sequences) (map unfiled found))) where
   pub all-kids : (next : NextRank) → Contains found next
       → IsProjected part least (prefixes ++ next.rank ∷ [])
-      (record { seen = sees list.seen part.bound.need next.rank; support = next.support; stands = slice_range run next.first next.last; next = None })
+      (record { seen = sees list.seen part.bound.need next.rank; support = next.support; stands = slice_range run next.first next.last; next = None; bytes = None })
   all-kids =
       all-projected part is prefixes list are ranks (course_for rows places early late (goes list.seen part.bound.need))
       (λ grid group here those exact. visit-within part is width rows rows_are places early late ranks CanAsk records are.prefix list.seen grid group here (Contains those) exact.exact)

@@ -137,7 +137,7 @@ next-below least enough tallies found next k d below =
     slice_get_within tallies (get_or found k d).rank tally at
 
 -- what a part keeps, by what is seen of it
-pub kept-here : (view part : GridList) → view ≡ part → (terrain one : AnyTerrain) → terrain ≡ one → (kept weights : List ℕ) → weights ≡ kept → IsKept view terrain kept
+pub kept-here : {starts : List ℕ} → (view part : GridList) → view ≡ part → (terrain one : AnyTerrain) → terrain ≡ one → (kept weights : List ℕ) → weights ≡ kept → IsKept view terrain kept starts
     → IsTerrainOf part one × AreWeights part weights
 kept-here view part same terrain one is kept weights told keeps = (
   subst (λ (p : GridList). IsTerrainOf p one) same (subst (λ (t : AnyTerrain). IsTerrainOf view t) is keeps.terrain_is),

@@ -1,5 +1,5 @@
 -- What is kept of longer prefixes where it was counted ahead what follows them.
-use Rattle.std.proofs.Common.{◌≡◌, ◌↔◌, ℕ, zero, suc, ◌+◌, ◌≤◌, ◌<◌, ◌⊎◌, inl, inr, Bool, IsTrue, Option, Some, None, List, [], ◌∷◌, ◌++◌, length, map, refl, sym, ap, ◌∙◌, subst, arith}
+use Rattle.std.proofs.Common.{◌≡◌, ℕ, zero, suc, ◌≤◌, ◌<◌, ◌⊎◌, inl, inr, IsTrue, Option, Some, None, List, [], ◌∷◌, ◌++◌, length, map, refl, sym, ap, ◌∙◌, subst, arith}
 use Rattle.std.specs.List.{AllPairs, AllZip, Contains, slice_get, slice_range}
 use Rattle.std.proofs.lemmas.Bool.{cases_lt}
 use Rattle.std.specs.Option.{IfSome}
@@ -8,7 +8,7 @@ use Rattle.std.proofs.lemmas.Option.{same_Some, slice_get_within}
 use Rattle.std.proofs.lemmas.Slice.Zip.{AllZip-long}
 use Rattle.mine_model.proofs.ElementLemmas.{get-some, get-held, slice_get-mapped_by}
 use Rattle.mine_model.proofs.ListLemmas.{Contains-none}
-use Rattle.sequence_grids.specs.Grids.{GridList, items_at}
+use Rattle.sequence_grids.specs.Grids.{GridList}
 use Rattle.sequence_grids.specs.Successors.{AreSuccessors}
 use Rattle.walk_memo.specs.Moves.{MoveSets}
 use Rattle.walk_places.specs.declared.places.Record.{Record}
@@ -32,11 +32,11 @@ use Rattle.snapshot_project.specs.Aims.{sees, goes}
 use Rattle.snapshot_project.specs.Extensions.{CanFollow, IsSupportOf, AreNextRanks}
 use Rattle.snapshot_project.specs.Grouped.{course_for, AreGroupsIn, AreAllGrids, AreWeights}
 use Rattle.snapshot_project.specs.Founds.{course_over, IsFoundIn}
-use Rattle.snapshot_project.specs.Longer.{told_of, kept_of}
+use Rattle.snapshot_project.specs.Longer.{told_of, IsKeptOf}
 use Rattle.snapshot_project.specs.Snapshots.{IsPart, SnapshotList, AreSnapshots}
 use Rattle.snapshot_project.specs.Stands.{IsLight, AreLastRanks, StandList, TellNext, IsProjected}
 use Rattle.snapshot_project.proofs.AheadNextLemmas.{visits-in, kid, kid-is, kid-told}
-use Rattle.snapshot_project.proofs.GrownLemmas.{aim-same, empty-next, some-stands, grown-all}
+use Rattle.snapshot_project.proofs.GrownLemmas.{aim-same, empty-next, some-stands}
 use Rattle.snapshot_project.proofs.FoundLemmas.{walked-whole}
 use Rattle.snapshot_project.proofs.GroupLemmas.{stands-cut}
 use Rattle.snapshot_project.proofs.LongerLemmas.{aim_of}
@@ -105,7 +105,7 @@ module _ (part : GridList) (is : IsPart part) (width : ℕ) (rows : List ℕ) (r
         (supported next.rank tally.support (support-all ranks aim weights next.rank visits sequences tally count))
         (light-behind next.rank tally.longer (longer-all ranks aim weights next.rank visits sequences tally count)) in
         empty-next part is least some (prefixes ++ next.rank ∷ [])
-        (record { seen = sees list.seen part.bound.need next.rank; support = next.support; stands = slice_range [] next.first next.last; next = None }) bare refl
+        (record { seen = sees list.seen part.bound.need next.rank; support = next.support; stands = slice_range [] next.first next.last; next = None; bytes = None }) bare refl refl
         (ap (λ (l : List Stand). length l) (range-none [] next.first next.last none))
 
     -- what is kept of the prefix with it
@@ -131,7 +131,7 @@ module _ (part : GridList) (is : IsPart part) (width : ℕ) (rows : List ℕ) (r
               next.rank low high next.support support;
           seen = is_kept.seen;
           support = is_kept.support;
-          stands = subst (TellNext part least (prefixes ++ next.rank ∷ []) mine.snapshots kept.stands) (sym is_kept.next_is) last;
+          stands = subst (λ (told : Option (List Next)). TellNext part least (prefixes ++ next.rank ∷ []) mine kept.stands told kept.bytes) (sym is_kept.next_is) last;
         }
 
   -- so of each rank that was found
@@ -149,7 +149,7 @@ module _ (part : GridList) (is : IsPart part) (width : ℕ) (rows : List ℕ) (r
 
 module _ (part : GridList) (is : IsPart part) (least : ℕ) (some : 1 ≤ least) (room : ℕ) (most : length part.problem.ranking.order < room)
     (prefixes : List ℕ) (kept : StandList) (projected : IsProjected part least prefixes kept) (aim : Aim) (seen : aim.seen ≡ kept.seen)
-    (need : aim.need ≡ part.bound.need) (untold : kept.next ≡ None) (any : 0 < length kept.stands) (found : List NextRank) (run : List Stand)
+    (need : aim.need ≡ part.bound.need) (untold : kept.next ≡ None) (loose : kept.bytes ≡ None) (any : 0 < length kept.stands) (found : List NextRank) (run : List Stand)
     (longer : Option (List StandList)) (is_found : IsFoundIn part aim least room kept.stands found run longer) where
   abbrev own : Aim
   own = aim_of part projected.snapshots.seen
@@ -168,7 +168,7 @@ module _ (part : GridList) (is : IsPart part) (least : ℕ) (some : 1 ≤ least)
     ahead-each : (next : NextRank) → Contains found next → (list : StandList) → IsKeptAhead own least ahead.behinds next list → IsProjected part least (prefixes ++ next.rank ∷ []) list
     ahead-each =
         let list : SnapshotList = projected.snapshots in
-        let stands_are = some-stands part is least some prefixes kept projected untold any in
+        let stands_are = some-stands part is least some prefixes kept projected untold loose any in
         let (groups, groups_are, groups_in, all_grids) = stands-cut part is prefixes list projected.are stands_are.grids kept.stands stands_are.rising stands_are.are in
         let fact = moved.found_are in
         let summed = fact.summed groups groups_are in
@@ -192,24 +192,31 @@ module _ (part : GridList) (is : IsPart part) (least : ℕ) (some : 1 ≤ least)
         (ahead-each one (get-held found i one there) list (zip-at (IsKeptAhead own least ahead.behinds) found all ahead.kept i one list there beside))
 
   -- in either case
-  pub grown-longer : (next : List Next) (all : List StandList) → next ≡ map told_of found → (longer ≡ None → all ≡ map (kept_of aim run) found)
+  pub grown-longer : (next : List Next) (all : List StandList) → next ≡ map told_of found
+      → (longer ≡ None → AllZip (IsKeptOf part least prefixes) found all)
       → IfSome longer (λ ahead. all ≡ ahead) → (i : ℕ) (n : Next) (list : StandList) → slice_get next i ≡ Some n → slice_get all i ≡ Some list
       → IsProjected part least (prefixes ++ n.rank ∷ []) list
   grown-longer next all nexts filed told i n list at beside = by longer refl
     where
       by : (o : Option (List StandList)) → longer ≡ o → IsProjected part least (prefixes ++ n.rank ∷ []) list
       by None none =
-          grown-all part is least some room most prefixes kept projected aim seen need untold any found run longer is_found none next all nexts (filed none) i n list at beside
+          let here : slice_get (map told_of found) i ≡ Some n = subst (λ (l : List Next). slice_get l i ≡ Some n) nexts at in
+          let inside : i < length found = subst (λ (k : ℕ). i < k) (length-map found told_of) (slice_get_within (map told_of found) i n here) in
+          let (one, there) = get-some found i inside in
+          let n_is : told_of one ≡ n = same_Some (told_of one) n (sym (slice_get-mapped_by told_of found i one there) ∙ here) in
+          subst (λ (m : Next). IsProjected part least (prefixes ++ m.rank ∷ []) list) n_is
+          (zip-at (IsKeptOf part least prefixes) found all (filed none) i one list there beside)
       by (Some those) some_are =
           let same_all : all ≡ those = subst (λ (o : Option (List StandList)). IfSome o (λ l. all ≡ l)) some_are told in
           ahead-all those some_are next nexts i n list at (subst (λ (l : List StandList). slice_get l i ≡ Some list) same_all beside)
 
   -- one for each
-  pub grown-count : (all : List StandList) → (longer ≡ None → all ≡ map (kept_of aim run) found) → IfSome longer (λ ahead. all ≡ ahead) → length all ≡ length found
+  pub grown-count : (all : List StandList) → (longer ≡ None → AllZip (IsKeptOf part least prefixes) found all) → IfSome longer (λ ahead. all ≡ ahead)
+      → length all ≡ length found
   grown-count all filed told = by longer refl
     where
       by : (o : Option (List StandList)) → longer ≡ o → length all ≡ length found
-      by None none = ap length (filed none) ∙ length-map found (kept_of aim run)
+      by None none = AllZip-long (IsKeptOf part least prefixes) found all (filed none)
       by (Some those) some_are =
           let same_all : all ≡ those = subst (λ (o : Option (List StandList)). IfSome o (λ l. all ≡ l)) some_are told in
           ap length same_all ∙ AllZip-long (IsKeptAhead own least (ahead those some_are).behinds) found those (ahead those some_are).kept

@@ -1,14 +1,12 @@
 -- What is found from the stands of a prefix: what may follow it, and what is kept of each longer prefix.
-use Rattle.std.proofs.Common.{◌≡◌, ℕ, ◌+◌, ◌-◌, ◌≤◌, ◌<◌, inl, inr, Bool, Option, Some, None, List, [], ◌∷◌, ◌++◌, length, map, drop, get_or, min, refl, sym, ap, ◌∙◌, subst, arith, length-take, length-drop}
-use Rattle.std.specs.List.{All, Contains, slice_get, slice_range}
-use Rattle.std.proofs.lemmas.List.{length-append, length-map}
+use Rattle.std.proofs.Common.{◌≡◌, ℕ, ◌+◌, ◌-◌, ◌≤◌, ◌<◌, inl, inr, Bool, Option, None, List, [], ◌∷◌, ◌++◌, length, map, drop, get_or, min, refl, sym, ap, ◌∙◌, subst, arith, length-take, length-drop}
+use Rattle.std.specs.List.{All, Contains, slice_range}
+use Rattle.std.proofs.lemmas.List.{length-append}
 use Rattle.std.proofs.lemmas.List.Elements.{Contains-get_or}
-use Rattle.std.proofs.lemmas.Option.{same_Some, slice_get_within}
 use Rattle.mine_model.specs.Support.{Sequence}
 use Rattle.mine_model.specs.declared.item.Item.{Item}
 use Rattle.mine_model.specs.Database.{sequence_at}
 use Rattle.mine_model.proofs.AliveLemmas.{WeighAtLeast-some}
-use Rattle.mine_model.proofs.ElementLemmas.{get-some, get-held, slice_get-mapped_by}
 use Rattle.mine_model.proofs.ListLemmas.{Contains-none, Contains-from}
 use Rattle.sequence_grids.specs.Grids.{GridList}
 use Rattle.place_walk.specs.declared.stand.Stand.{Stand}
@@ -81,33 +79,35 @@ module _ (part : GridList) (is : IsPart part) (least : ℕ) (some : 1 ≤ least)
 
   module _ (kept : StandList) (projected : IsProjected part least prefixes kept) where
     -- nor behind one without stands
-    by-stands : kept.next ≡ None → TellNext part least prefixes projected.snapshots.snapshots kept.stands None
-    by-stands untold = subst (TellNext part least prefixes projected.snapshots.snapshots kept.stands) untold projected.stands
+    by-stands : kept.next ≡ None → kept.bytes ≡ None → TellNext part least prefixes projected.snapshots kept.stands None None
+    by-stands untold loose =
+        subst (TellNext part least prefixes projected.snapshots kept.stands None) loose
+        (subst (λ (next : Option (List Next)). TellNext part least prefixes projected.snapshots kept.stands next kept.bytes) untold projected.stands)
 
-    pub empty-next : kept.next ≡ None → length kept.stands ≡ 0 → AreNextRanks part prefixes least []
-    empty-next untold none = elim (by-stands untold) [
+    pub empty-next : kept.next ≡ None → kept.bytes ≡ None → length kept.stands ≡ 0 → AreNextRanks part prefixes least []
+    empty-next untold loose none = elim (by-stands untold loose) [
       | inl are ↦ light-next (none-light projected.snapshots projected.are
           (stands-none part are.grids projected.snapshots.snapshots (subst (AreStandsIn part are.grids projected.snapshots.snapshots) (none-of kept.stands none) are.are)))
       | inr light ↦ light-next light.1
     ]
 
     -- else the stands are those of its snapshots
-    pub some-stands : kept.next ≡ None → 0 < length kept.stands → AreStandsOf part projected.snapshots.snapshots kept.stands
-    some-stands untold any = elim (by-stands untold) [
+    pub some-stands : kept.next ≡ None → kept.bytes ≡ None → 0 < length kept.stands → AreStandsOf part projected.snapshots.snapshots kept.stands
+    some-stands untold loose any = elim (by-stands untold loose) [
       | inl are ↦ are
       | inr light ↦ absurd (let none : length kept.stands ≡ 0 = ap length light.0 in omega arith)
     ]
 
-    pub stands-for : kept.next ≡ None → (aim : Aim) → aim.seen ≡ kept.seen → aim.need ≡ part.bound.need → (stands : List Stand) → stands ≡ kept.stands → 0 < length kept.stands
+    pub stands-for : kept.next ≡ None → kept.bytes ≡ None → (aim : Aim) → aim.seen ≡ kept.seen → aim.need ≡ part.bound.need → (stands : List Stand) → stands ≡ kept.stands → 0 < length kept.stands
         → AreStandsFor part aim stands
-    stands-for untold aim seen need stands told any = record {
+    stands-for untold loose aim seen need stands told any = record {
       is = is;
       need = need;
       prefixes = prefixes;
       list = projected.snapshots;
       are = projected.are;
       seen = seen ∙ projected.seen;
-      stands_are = subst (AreStandsOf part projected.snapshots.snapshots) (sym told) (some-stands untold any);
+      stands_are = subst (AreStandsOf part projected.snapshots.snapshots) (sym told) (some-stands untold loose any);
     }
 
 -- ---- what was found
@@ -177,7 +177,7 @@ module _ (part : GridList) (is : IsPart part) (least : ℕ) (some : 1 ≤ least)
 -- so for the aim of what is kept of the prefix
 module _ (part : GridList) (is : IsPart part) (least : ℕ) (some : 1 ≤ least) (room : ℕ) (most : length part.problem.ranking.order < room)
     (prefixes : List ℕ) (kept : StandList) (projected : IsProjected part least prefixes kept) (aim : Aim) (seen : aim.seen ≡ kept.seen)
-    (need : aim.need ≡ part.bound.need) (untold : kept.next ≡ None) (any : 0 < length kept.stands) (found : List NextRank) (run : List Stand)
+    (need : aim.need ≡ part.bound.need) (untold : kept.next ≡ None) (loose : kept.bytes ≡ None) (any : 0 < length kept.stands) (found : List NextRank) (run : List Stand)
     (longer : Option (List StandList)) (is_found : IsFoundIn part aim least room kept.stands found run longer) where
   abbrev own : Aim
   own = aim_of part projected.snapshots.seen
@@ -190,28 +190,14 @@ module _ (part : GridList) (is : IsPart part) (least : ℕ) (some : 1 ≤ least)
 
   pub grown-next : AreNextRanks part prefixes least (map told_of found)
   grown-next =
-      found-next part is least some room most prefixes projected.snapshots projected.are kept.stands (some-stands part is least some prefixes kept projected untold any) found run longer moved
+      found-next part is least some room most prefixes projected.snapshots projected.are kept.stands (some-stands part is least some prefixes kept projected untold loose any) found run longer moved
 
   pub grown-each : longer ≡ None → (next : NextRank) → Contains found next → IsProjected part least (prefixes ++ next.rank ∷ []) (kept_of aim run next)
   grown-each filed next held =
       subst (λ (a : Aim). IsProjected part least (prefixes ++ next.rank ∷ []) (kept_of a run next)) (sym same)
-      (found-each part is least some room most prefixes projected.snapshots projected.are kept.stands (some-stands part is least some prefixes kept projected untold any) found run longer moved filed next held)
+      (found-each part is least some room most prefixes projected.snapshots projected.are kept.stands (some-stands part is least some prefixes kept projected untold loose any) found run longer moved filed next held)
 
   pub grown-within : longer ≡ None → All (IsWithin run) found
   grown-within filed k d below =
-      found-within part is least some room most prefixes projected.snapshots projected.are kept.stands (some-stands part is least some prefixes kept projected untold any) found run longer moved filed
+      found-within part is least some room most prefixes projected.snapshots projected.are kept.stands (some-stands part is least some prefixes kept projected untold loose any) found run longer moved filed
       (get_or found k d) (Contains-get_or found k d below)
-
-  -- where what may follow and what is kept were listed side by side
-  pub grown-all : longer ≡ None → (next : List Next) (all : List StandList) → next ≡ map told_of found → all ≡ map (kept_of aim run) found
-      → (i : ℕ) (n : Next) (list : StandList) → slice_get next i ≡ Some n → slice_get all i ≡ Some list
-      → IsProjected part least (prefixes ++ n.rank ∷ []) list
-  grown-all filed next all nexts alls i n list at beside =
-      let told : slice_get (map told_of found) i ≡ Some n = subst (λ (l : List Next). slice_get l i ≡ Some n) nexts at in
-      let held : slice_get (map (kept_of aim run) found) i ≡ Some list = subst (λ (l : List StandList). slice_get l i ≡ Some list) alls beside in
-      let inside : i < length found = subst (λ (k : ℕ). i < k) (length-map found told_of) (slice_get_within (map told_of found) i n told) in
-      let (one, here) = get-some found i inside in
-      let n_is : told_of one ≡ n = same_Some (told_of one) n (sym (slice_get-mapped_by told_of found i one here) ∙ told) in
-      let list_is : kept_of aim run one ≡ list = same_Some (kept_of aim run one) list (sym (slice_get-mapped_by (kept_of aim run) found i one here) ∙ held) in
-      subst (λ (l : StandList). IsProjected part least (prefixes ++ n.rank ∷ []) l) list_is
-      (subst (λ (m : Next). IsProjected part least (prefixes ++ m.rank ∷ []) (kept_of aim run one)) n_is (grown-each filed one (get-held found i one here)))

@@ -73,7 +73,7 @@ module _ (part : GridList) (is : IsPart part) (prefixes : List ℕ) (list : Snap
 
     pub kid-projected : IsSupportOf part (prefixes ++ next.rank ∷ []) tally.support → (tally.longer < least → IsLight part (prefixes ++ next.rank ∷ []) least)
         → IsProjected part least (prefixes ++ next.rank ∷ [])
-        (record { seen = sees list.seen part.bound.need next.rank; support = next.support; stands = slice_range run next.first next.last; next = None })
+        (record { seen = sees list.seen part.bound.need next.rank; support = next.support; stands = slice_range run next.first next.last; next = None; bytes = None })
     kid-projected support light =
         let support' : IsSupportOf part (prefixes ++ next.rank ∷ []) next.support = subst (IsSupportOf part (prefixes ++ next.rank ∷ [])) (sym told.support) support in
         let (snapshots, taken, stands) = longer-stands part is prefixes list are ranks next.rank grids rising all_grids sequences (all next.rank) next.support low high support' in
@@ -107,7 +107,7 @@ module _ (part : GridList) (is : IsPart part) (prefixes : List ℕ) (list : Snap
         → ((next : NextRank) → Contains found next → next.first < next.last → slice_range run next.first next.last ≡ stands_of ranks aim next.rank sequences)
         → (next : NextRank) → Contains found next
         → IsProjected part least (prefixes ++ next.rank ∷ [])
-        (record { seen = sees list.seen part.bound.need next.rank; support = next.support; stands = slice_range run next.first next.last; next = None })
+        (record { seen = sees list.seen part.bound.need next.rank; support = next.support; stands = slice_range run next.first next.last; next = None; bytes = None })
     kids-projected follow support light run filed next held =
         let (tally, at, heavy, told) = are_next.right next held in
         let count = counted next.rank tally at in

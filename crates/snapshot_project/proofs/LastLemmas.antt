@@ -1,5 +1,5 @@
 -- Prefixes behind which nothing more follows.
-use Rattle.std.proofs.Common.{◌≡◌, ℕ, ◌+◌, ◌-◌, ◌≤◌, ◌<◌, inl, inr, Bool, Option, Some, None, Result, Ok, Err, List, [], ◌∷◌, ◌++◌, length, map, refl, sym, ap, ◌∙◌, subst, arith}
+use Rattle.std.proofs.Common.{◌≡◌, ℕ, ◌-◌, ◌≤◌, ◌<◌, inr, Bool, Option, Some, None, Result, Ok, Err, List, [], ◌∷◌, ◌++◌, length, map, refl, sym, ◌∙◌, subst, arith}
 use Rattle.std.specs.List.{Contains, slice_get}
 use Rattle.std.specs.Result.{IfOk}
 use Rattle.std.proofs.lemmas.List.{length-map}
@@ -19,7 +19,7 @@ use Rattle.level_ahead.specs.declared.next_of.NextOf.{NextOf}
 use Rattle.snapshot_project.specs.declared.next_rank.NextRank.{NextRank}
 use Rattle.snapshot_project.specs.Ahead.{next_of, last_of}
 use Rattle.snapshot_project.specs.Aims.{sees}
-use Rattle.snapshot_project.specs.Extensions.{sequences_of, GrowsBehind, CanFollow, IsSupportOf, AreNextRanks}
+use Rattle.snapshot_project.specs.Extensions.{sequences_of, GrowsBehind, CanFollow, IsSupportOf}
 use Rattle.snapshot_project.specs.Snapshots.{IsPart, SnapshotList, AreSnapshots}
 use Rattle.snapshot_project.specs.Stands.{IsLight, IsLast, AreLastRanks, StandList, TellNext, IsProjected}
 use Rattle.snapshot_project.proofs.ExtensionLemmas.{ranked-allowed}
@@ -43,7 +43,7 @@ module _ (part : GridList) (is : IsPart part) (least : ℕ) (some : 1 ≤ least)
     -- what is kept of a prefix with a rank, where nothing more follows it
     pub last-projected : (n : NextRank) → least ≤ n.weight → CanFollow part prefixes n.rank n.weight → IsSupportOf part (prefixes ++ n.rank ∷ []) n.support
         → IsLast part (prefixes ++ n.rank ∷ [])
-        → IsProjected part least (prefixes ++ n.rank ∷ []) (record { seen = sees list.seen part.bound.need n.rank; support = n.support; stands = []; next = None })
+        → IsProjected part least (prefixes ++ n.rank ∷ []) (record { seen = sees list.seen part.bound.need n.rank; support = n.support; stands = []; next = None; bytes = None })
     last-projected n heavy follows is_support last =
         let (low, high) = follow-ranked part is prefixes list are n.rank n.weight follows (omega arith) in
         let top : part.bound.top ≤ length part.problem.ranking.order = is.top in
@@ -77,7 +77,7 @@ module _ (part : GridList) (is : IsPart part) (least : ℕ) (some : 1 ≤ least)
   module _ (prefixes : List ℕ) (kept : StandList) (projected : IsProjected part least prefixes kept) where
     pub told-next : (next : List NextRank) → kept.next ≡ Some next → AreLastRanks part least prefixes next
     told-next next told =
-        subst (TellNext part least prefixes projected.snapshots.snapshots kept.stands) told projected.stands
+        subst (λ (next : Option (List NextRank)). TellNext part least prefixes projected.snapshots kept.stands next kept.bytes) told projected.stands
 
     -- what is kept of the prefixes with the ranks that follow
     pub told-each : (aim : Aim) → aim.seen ≡ kept.seen → aim.need ≡ part.bound.need → (next : List NextOf) → kept.next ≡ Some (map next_of next)
@@ -99,4 +99,4 @@ module _ (part : GridList) (is : IsPart part) (least : ℕ) (some : 1 ≤ least)
         let made = last-projected prefixes projected.snapshots projected.are (next_of one) heavy follows is_support (ranks.last (next_of one) mine) in
         subst (λ (l : StandList). IsProjected part least (prefixes ++ n.rank ∷ []) l) list_is
         (subst (λ (m : NextRank). IsProjected part least (prefixes ++ m.rank ∷ []) (last_of aim one)) n_is
-        (subst (λ (b : Bool). IsProjected part least (prefixes ++ one.rank ∷ []) (record { seen = b; support = one.count; stands = []; next = None })) sees_is made))
+        (subst (λ (b : Bool). IsProjected part least (prefixes ++ one.rank ∷ []) (record { seen = b; support = one.count; stands = []; next = None; bytes = None })) sees_is made))

@@ -25,6 +25,9 @@ pub mod LongerLemmas
 pub mod KidLemmas
 pub mod FitLemmas
 pub mod PlacedLemmas
+pub mod PackedLemmas
+pub mod FormLemmas
+pub mod FirstLemmas
 pub mod LastLemmas
 pub mod AheadLemmas
 pub mod AheadNextLemmas

@@ -34,6 +34,7 @@ last_of aim next = record {
   support = next.count;
   stands = [];
   next = None;
+  bytes = None;
 }
 
 -- what is kept of the prefix with the rank: what follows behind it by one of these counts, if it has places,

@@ -8,8 +8,10 @@ pub mod Stands
 pub mod Live
 pub mod Walks
 pub mod Grouped
+pub mod Layouts
 pub mod Terrains
 pub mod Rooms
 pub mod Ahead
+pub mod Kept
 pub mod Founds
 pub mod Longer

@@ -29,5 +29,5 @@ AreMemosOf (Wide terrain) one four wide = AreMemosOver terrain wide
 
 -- a part is made of it, and the memos are those of its terrain
 pub record IsKnown (one : Memos 1) (four : Memos 4) (wide : Memos 17) (made : Ground) : Type 0 where
-  pub kept : IsKept (part_on made) made.terrain made.weights.items
+  pub kept : IsKept (part_on made) made.terrain made.weights.items made.starts.items
   pub memos : AreMemosOf made.terrain one four wide

@@ -1,8 +1,10 @@
 -- Where the snapshots of a prefix stand among the places of a part, one sequence behind another.
-use Rattle.std.specs.Prelude.{◌≡◌, ℕ, ◌+◌, ◌<◌, ◌⊎◌, Bool, Option, Some, None, List, [], ◌∷◌, ◌++◌, AllPairs, Contains, slice_get}
+use Rattle.std.specs.Prelude.{◌≡◌, ℕ, ◌+◌, ◌<◌, ◌⊎◌, Bool, Option, Some, None, List, [], ◌∷◌, ◌++◌, map, AllPairs, Contains, slice_get}
 use Rattle.std.specs.List.{AllZip}
 use Rattle.mine_model.specs.Growth.{WeighAtLeast}
 use Rattle.mining_job.specs.Problems.{items_of}
+use Rattle.packed_snapshots.specs.declared.snapshot.PlainSnapshot.{PlainSnapshot}
+use Rattle.packed_snapshots.specs.Packed.{IsPacked}
 use Rattle.place_walk.specs.declared.stand.Stand.{Stand}
 use Rattle.place_walk.specs.Groups.{IsGroup}
 use Rattle.sequence_grids.specs.Grids.{GridList}
@@ -55,20 +57,43 @@ pub record AreLastRanks (part : GridList) (least : ℕ) (ranks : List ℕ) (next
   pub are : AreNextRanks part ranks least next
   pub last : (n : NextRank) → Contains next n → IsLast part (ranks ++ n.rank ∷ [])
 
+-- the snapshot with what its prefix has seen, which is of no part
+abbrev pub plain : Bool → Snapshot → PlainSnapshot
+plain seen snapshot = record {
+  sequence = snapshot.sequence;
+  position = snapshot.position;
+  state = snapshot.state;
+  seen = seen;
+}
+
 -- what is kept of a prefix: whether it holds what is needed, what it weighs by itself, and its stands; or
--- what follows it, where that is told
+-- what follows it, where that is told, or the bytes of its snapshots
 pub record StandList : Type 0 where
   pub seen : Bool
   pub support : ℕ
   pub stands : List Stand
   pub next : Option (List NextRank)
+  pub bytes : Option (List ℕ)
 
--- what follows the prefix is told; or the stands are those of its snapshots, or there are none, and no longer
--- prefix weighs so much
-abbrev pub TellNext : GridList → ℕ → List ℕ → List Snapshot → List Stand → Option (List NextRank) → Type 0
-TellNext part least ranks snapshots stands (Some next) = AreLastRanks part least ranks next
-TellNext part least ranks snapshots stands None =
-    AreStandsOf part snapshots stands ⊎ ((stands ≡ []) × IsLight part ranks least)
+-- the stands, and no more
+abbrev pub standing : Bool → ℕ → List Stand → StandList
+standing seen support stands = record {
+  seen = seen;
+  support = support;
+  stands = stands;
+  next = None;
+  bytes = None;
+}
+
+-- what follows the prefix is told; or the bytes are those of its snapshots, which say nothing of places; or
+-- the stands are those of its snapshots, or there are none, and no longer prefix weighs so much
+abbrev pub TellNext : GridList → ℕ → List ℕ → SnapshotList → List Stand → Option (List NextRank)
+    → Option (List ℕ) → Type 0
+TellNext part least ranks list stands (Some next) bytes = AreLastRanks part least ranks next
+TellNext part least ranks list stands None (Some bytes) =
+    IsPacked (map (plain list.seen) list.snapshots) bytes
+TellNext part least ranks list stands None None =
+    AreStandsOf part list.snapshots stands ⊎ ((stands ≡ []) × IsLight part ranks least)
 
 -- It is what is told of the prefix with these ranks, for a search that asks for so much weight.
 pub record IsProjected (part : GridList) (least : ℕ) (ranks : List ℕ) (list : StandList) : Type 0 where
@@ -76,4 +101,4 @@ pub record IsProjected (part : GridList) (least : ℕ) (ranks : List ℕ) (list 
   pub are : AreSnapshots part ranks snapshots
   pub seen : list.seen ≡ snapshots.seen
   pub support : list.support ≡ snapshots.support
-  pub stands : TellNext part least ranks snapshots.snapshots list.stands list.next
+  pub stands : TellNext part least ranks snapshots list.stands list.next list.bytes

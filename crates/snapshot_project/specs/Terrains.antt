@@ -14,6 +14,7 @@ use Rattle.snapshot_project.specs.declared.terrain.AnyTerrain.{AnyTerrain}
 use Rattle.snapshot_project.specs.declared.terrain.AnyTerrain.TheVariants.{One, Four, Wide}
 use Rattle.snapshot_project.specs.Snapshots.{IsPart, bound_of}
 use Rattle.snapshot_project.specs.Grouped.{AreWeights}
+use Rattle.snapshot_project.specs.Layouts.{MayHaveStarts}
 
 -- the rows are the successors of all states, for which sets of so many words have room, and the records are
 -- those of the part
@@ -32,10 +33,11 @@ IsTerrainOf part (Four terrain) = IsTerrain part terrain
 IsTerrainOf part (Wide terrain) = IsTerrain part terrain
 
 -- what a part keeps
-pub record IsKept (part : GridList) (terrain : AnyTerrain) (weights : List ℕ) : Type 0 where
+pub record IsKept (part : GridList) (terrain : AnyTerrain) (weights starts : List ℕ) : Type 0 where
   pub part_is : IsPart part
   pub terrain_is : IsTerrainOf part terrain
   pub weights_are : AreWeights part weights
+  pub starts_are : MayHaveStarts part starts
 
 -- the part that is made of it
 abbrev pub part_on : Ground → GridList

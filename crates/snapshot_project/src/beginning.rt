@@ -6,6 +6,7 @@ ghost use Rattle.snapshot_project.specs.Snapshots.{bound_of, IsPart};
 ghost use Rattle.snapshot_project.specs.Stands.{IsProjected};
 ghost use Rattle.snapshot_project.specs.Grouped.{AreWeights};
 ghost use Rattle.snapshot_project.specs.Terrains.{AreStarts, AreAll, IsWholePart, IsTerrainOf};
+ghost use Rattle.snapshot_project.specs.Layouts.{HasStarts, MayHaveStarts};
 ghost use Rattle.mine_model.specs.Database.{sequence_at};
 ghost use Rattle.mine_model.specs.Limits.{most_length};
 ghost use Rattle.mining_job.specs.declared.bound.Bound.{Bound as Bounded};
@@ -18,7 +19,7 @@ use super::terrain::{AnyTerrain, terrain_of, terrain_of_all, terrain_of_all_alon
 use fst_compile::State;
 use mine_model::NoMemory;
 use mining_job::{Bound, Job};
-use place_walk::Stand;
+use place_walk::{Stand, fits};
 use sequence_grids::Grids;
 use stand_sums::Run;
 use std::alloc::Global;
@@ -50,7 +51,8 @@ pub fn begin<'a>(
     let last = starts.len();
     let weights = weights_of(alloc, job, sequences.as_slice())?;
     let terrain = terrain_of(alloc, job, grids)?;
-    let part = part_of(alloc, job, bound, sequences, terrain, weights)?;
+    let firsts = starts_if_wide(alloc, job, sequences.as_slice(), &terrain)?;
+    let part = part_of(alloc, job, bound, sequences, terrain, weights, firsts)?;
     let run = Arc::new(alloc, Run::of(alloc, starts))?;
     Ok((part, Snapshots::new(false, 0, run, 0, last)))
 }
@@ -145,7 +147,8 @@ fn begun_at<'a>(
 {
     let last = starts.len();
     let weights = weights_of(alloc, job, sequences.as_slice())?;
-    let part = part_of(alloc, job, bound, sequences, terrain, weights)?;
+    let firsts = starts_if_wide(alloc, job, sequences.as_slice(), &terrain)?;
+    let part = part_of(alloc, job, bound, sequences, terrain, weights, firsts)?;
     let run = Arc::new(alloc, Run::of(alloc, starts))?;
     Ok((part, Snapshots::new(false, 0, run, 0, last)))
 }
@@ -203,6 +206,51 @@ fn starts_of_all(alloc: Global, job: &Job, sequences: &[u32]) -> Result<Vec<Stan
         starts.push(start_at(place)?)?;
         place += places_of(job, *number);
     }
+    Ok(starts)
+}
+
+// The place of the first item of each of the sequences, where a stand may not fit into four bytes, and else
+// nothing.
+fn starts_if_wide(
+    alloc: Global,
+    job: &Job,
+    sequences: &[u32],
+    terrain: &AnyTerrain,
+) -> Result<Vec<u32>, NoMemory>
+    requires { AllByRecursion (λ i. i < length job.now.sequences) sequences.now }
+    ensures { IfOk result (λ starts. (bound : Bounded) → MayHaveStarts (record {
+      problem = job.now;
+      bound = bound;
+      sequences = sequences.now;
+    }) starts.items) }
+{
+    let places = terrain.count().min(u32::MAX as usize) as u32;
+    if fits(places, job.fst().states() as u16) {
+        return Ok(Vec::new(alloc));
+    }
+    first_places(alloc, job, sequences)
+}
+
+/// The place of the first item of each of the sequences.
+pub(crate) fn first_places(
+    alloc: Global,
+    job: &Job,
+    sequences: &[u32],
+) -> Result<Vec<u32>, NoMemory>
+    requires { AllByRecursion (λ i. i < length job.now.sequences) sequences.now }
+    ensures { IfOk result (λ starts. (bound : Bounded) → HasStarts (record {
+      problem = job.now;
+      bound = bound;
+      sequences = sequences.now;
+    }) starts.items) }
+{
+    let mut starts = Vec::with_capacity(alloc, sequences.len())?;
+    let mut place: usize = 0;
+    for number in sequences {
+        starts.push(to_place(place)?)?;
+        place += places_of(job, *number);
+    }
+    let _end = to_place(place)?;
     Ok(starts)
 }
 

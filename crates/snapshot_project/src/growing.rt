@@ -3,6 +3,7 @@
 ghost use Rattle.std.specs.Prelude.{◌≡◌, ℕ, ◌+◌, ◌≤◌, ◌<◌, ◌++◌, ◌∷◌, [], false, IsTrue, List, length, map, filter, drop, All, AllPairs, None, Some, IfSome, IfOk, OnOk, slice_get, slice_range};
 ghost use Rattle.std.specs.Arc.{arc_value};
 ghost use Rattle.std.specs.List.{AllZip};
+ghost use Rattle.packed_snapshots.specs.Packed.{IsPacked};
 ghost use Rattle.place_walk.specs.declared.stand.Stand.{Stand as Standing};
 ghost use Rattle.place_walk.specs.declared.visit.Visit.{Visit as Visited};
 ghost use Rattle.place_walk.specs.Courses.{course_of};
@@ -19,11 +20,14 @@ ghost use Rattle.snapshot_project.specs.Ahead.{next_of, last_of, items_if, IsKep
 ghost use Rattle.snapshot_project.specs.Aims.{goes, sees};
 ghost use Rattle.snapshot_project.specs.Extensions.{AreNextRanks};
 ghost use Rattle.snapshot_project.specs.Founds.{AreStandsFor, IsReady, course_over, AreWalked, AreSummed, AreInRun, AreFound, IsFoundIn};
-ghost use Rattle.snapshot_project.specs.Longer.{told_of, kept_of, HaveAllPlaces, IsWithin};
+ghost use Rattle.snapshot_project.specs.Layouts.{HasStarts};
+ghost use Rattle.snapshot_project.specs.Longer.{told_of, kept_of, AreKept, IsKeptOf, HaveAllPlaces, IsWithin};
 ghost use Rattle.snapshot_project.specs.Rooms.{AreMemosOver};
-ghost use Rattle.snapshot_project.specs.Stands.{IsProjected, StandList};
+ghost use Rattle.snapshot_project.specs.Snapshots.{SnapshotList, AreSnapshots, IsPart};
+ghost use Rattle.snapshot_project.specs.Stands.{AreStandsOf, IsProjected, StandList, plain, standing};
 ghost use Rattle.sequence_grids.specs.Grids.{GridList};
 
+use super::beginning::first_places;
 use super::next_rank::NextRank;
 use super::part::Part;
 use super::room::{Memos, Room, Tables};
@@ -32,10 +36,11 @@ use super::terrain::{AnyTerrain, Terrain};
 use level_ahead::{Ahead, NextOf};
 use mask_sums::Masks;
 use mine_model::NoMemory;
-use place_walk::{Stands, walk_some};
+use place_walk::{Stand, Stands, walk_some};
 use stand_sums::{Aim, NextRank as Counted, Run};
 use std::alloc::Global;
 use std::sync::Arc;
+use waiting_stands::{pack, unpack};
 use walk_memo::Memo;
 
 /// The ranks that can follow a prefix, rising, and of each what is kept of the prefix with it.
@@ -77,17 +82,104 @@ pub fn grow<'a>(
     if let Some(next) = snapshots.next() {
         return told_before(alloc, aim, next);
     }
-    let stands = snapshots.stands();
+    if let Some(bytes) = snapshots.bytes() {
+        let stands = unpacked(alloc, part, bytes)?;
+        return grow_from(
+            alloc,
+            part,
+            aim,
+            &Stands::of(stands.as_slice()),
+            least,
+            room,
+        );
+    }
+    grow_from(alloc, part, aim, &snapshots.stands(), least, room)
+}
+
+// The stands of the snapshots of these bytes.
+fn unpacked(alloc: Global, part: &Part, bytes: &[u8]) -> Result<Vec<Stand>, NoMemory>
+    requires { (ranks : List ℕ) × (list : SnapshotList) × AreSnapshots part.now ranks list
+        × IsPacked (map (plain list.seen) list.snapshots) bytes.now }
+    ensures { IfOk result (λ stands. (ranks : List ℕ) (list : SnapshotList) → AreSnapshots part.now ranks list
+        → IsPacked (map (plain list.seen) list.snapshots) bytes.now
+        → AreStandsOf part.now list.snapshots stands.items) }
+{
+    let starts = part.starts();
+    if starts.is_empty() {
+        // Where bytes were made, the part had starts.
+        let made = first_places(alloc, part.job(), part.sequences())?;
+        unpacked_by(alloc, part, made.as_slice(), bytes)
+    } else {
+        unpacked_by(alloc, part, starts, bytes)
+    }
+}
+
+// The same by the places of the first items.
+fn unpacked_by(
+    alloc: Global,
+    part: &Part,
+    starts: &[u32],
+    bytes: &[u8],
+) -> Result<Vec<Stand>, NoMemory>
+    requires is { IsPart part.now }
+    requires starts { HasStarts part.now starts.now }
+    requires packed { (ranks : List ℕ) × (list : SnapshotList) × AreSnapshots part.now ranks list
+        × IsPacked (map (plain list.seen) list.snapshots) bytes.now }
+    ensures { IfOk result (λ stands. (ranks : List ℕ) (list : SnapshotList) → AreSnapshots part.now ranks list
+        → IsPacked (map (plain list.seen) list.snapshots) bytes.now
+        → AreStandsOf part.now list.snapshots stands.items) }
+{
+    unpack(alloc, part.sequences(), starts, bytes)
+}
+
+// What follows a prefix that stands there, in the part that is known.
+fn grow_from<'a>(
+    alloc: Global,
+    part: &Part<'a>,
+    aim: Aim,
+    stands: &Stands,
+    least: u64,
+    room: &mut Room<'a>,
+) -> Result<Grown, NoMemory>
+    requires least { 1 ≤ least }
+    requires is { IsPart part.now }
+    requires need { aim.need ≡ part.now.bound.need }
+    requires room { length part.now.problem.ranking.order ≤ room.old.ranks }
+    requires known { room.old.part ≡ Some part.now }
+    requires projected { (ranks : List ℕ) × (support : ℕ)
+        × IsProjected part.now least ranks (standing aim.seen support stands.now) }
+    ensures room { room.new ≡ room.old }
+    ensures next { IfOk result (λ grown. (ranks : List ℕ) (support : ℕ)
+        → IsProjected part.now least ranks (standing aim.seen support stands.now)
+        → AreNextRanks part.now ranks least grown.next.items) }
+    ensures all { IfOk result (λ grown. length grown.longer.items ≡ length grown.next.items) }
+    ensures each { IfOk result (λ grown. (ranks : List ℕ) (support : ℕ)
+        → IsProjected part.now least ranks (standing aim.seen support stands.now)
+        → (i : ℕ) (n : Next) (list : StandList) → slice_get grown.next.items i ≡ Some n
+        → slice_get grown.longer.items i ≡ Some list
+        → IsProjected part.now least (ranks ++ n.rank ∷ []) list) }
+{
     if stands.len() == 0 {
         return Ok(Grown {
             next: Vec::new(alloc),
             longer: Vec::new(alloc),
         });
     }
-    let found = find(alloc, aim, &stands, least, room)?;
+    let found = find(alloc, aim, stands, least, room)?;
     let next = told(alloc, found.ranks.as_slice())?;
-    let longer = longer_by(alloc, aim, found)?;
+    let packs = packs(part, &found.run, room);
+    let longer = longer_by(alloc, part, aim, found, packs)?;
     Ok(Grown { next, longer })
+}
+
+// Whether those who stand in the run are to wait as bytes: where stands take eight bytes each.
+fn packs(part: &Part, run: &Run, room: &mut Room) -> bool
+    ensures { room.new ≡ room.old }
+{
+    if part.starts().is_empty() {
+        return false;
+    }
+    room.has_wide(run)
 }
 
 // What was known before to follow; behind that follows nothing more.
@@ -472,18 +564,17 @@ fn longer_ahead(
     requires { asked_of ahead.now ≡ map (λ next. next.rank) (filter has_room found.now) }
     ensures { IfOk result (λ longer. AllZip (IsKeptAhead aim least ahead.now) found.now longer.items) }
 {
-    let none = Arc::new(alloc, Run::new(alloc))?;
     let mut longer = Vec::with_capacity(alloc, found.len())?;
     let mut entry = 0;
     for next in found {
         let seen = sees(aim, next.rank);
         if next.first < next.last {
             let behind = ahead.reaching(alloc, entry, least)?;
-            longer.push(Snapshots::told(seen, next.support, none.clone()?, behind))?;
+            longer.push(Snapshots::told(seen, next.support, behind))?;
             entry += 1;
         } else {
             let behind = Vec::new(alloc);
-            longer.push(Snapshots::told(seen, next.support, none.clone()?, behind))?;
+            longer.push(Snapshots::told(seen, next.support, behind))?;
         }
     }
     Ok(longer)
@@ -738,16 +829,48 @@ fn has_places(found: &[Counted]) -> bool
 }
 
 // What is kept of the prefixes with the ranks that were found.
-fn longer_by(alloc: Global, aim: Aim, found: Found) -> Result<Vec<Snapshots>, NoMemory>
-    requires { items_if found.longer ≡ None → All (IsWithin found.run.stands) found.ranks.items }
-    ensures stands { IfOk result (λ longer. items_if found.longer ≡ None
-        → longer.items ≡ map (kept_of aim found.run.stands) found.ranks.items) }
+fn longer_by(
+    alloc: Global,
+    part: &Part,
+    aim: Aim,
+    found: Found,
+    packs: bool,
+) -> Result<Vec<Snapshots>, NoMemory>
+    requires within { items_if found.longer ≡ None → All (IsWithin found.run.stands) found.ranks.items }
+    requires kept { items_if found.longer ≡ None → (least : ℕ) × (ranks : List ℕ)
+        × AreKept part.now aim least ranks found.run.stands found.ranks.items }
+    ensures stands { IfOk result (λ longer. items_if found.longer ≡ None → (least : ℕ) (ranks : List ℕ)
+        → AreKept part.now aim least ranks found.run.stands found.ranks.items
+        → AllZip (IsKeptOf part.now least ranks) found.ranks.items longer.items) }
     ensures ahead { IfOk result (λ longer. IfSome (items_if found.longer) (λ ahead. longer.items ≡ ahead)) }
 {
     let Found { ranks, run, longer } = found;
     match longer {
         Some(longer) => Ok(longer),
-        None => longer_in(alloc, aim, ranks.as_slice(), run),
+        None => longer_from(alloc, part, aim, ranks.as_slice(), run, packs),
+    }
+}
+
+// What is kept of the prefixes with these ranks, who stand in the run: as bytes, where they are to be.
+fn longer_from(
+    alloc: Global,
+    part: &Part,
+    aim: Aim,
+    found: &[Counted],
+    run: Run,
+    packs: bool,
+) -> Result<Vec<Snapshots>, NoMemory>
+    requires within { All (IsWithin run.stands) found.now }
+    requires kept { (least : ℕ) × (ranks : List ℕ) × AreKept part.now aim least ranks run.stands found.now }
+    ensures { IfOk result (λ longer. (least : ℕ) (ranks : List ℕ)
+        → AreKept part.now aim least ranks run.stands found.now
+        → AllZip (IsKeptOf part.now least ranks) found.now longer.items) }
+{
+    let starts = part.starts();
+    if packs && !starts.is_empty() {
+        packed_in(alloc, part, starts, aim, found, &run)
+    } else {
+        longer_in(alloc, aim, found, run)
     }
 }
 
@@ -779,6 +902,61 @@ fn piece(aim: Aim, next: Counted, run: Arc<Run>) -> Snapshots
         Snapshots::new(seen, next.support, run, next.first, next.last)
     } else {
         Snapshots::new(seen, next.support, run, 0, 0)
+    }
+}
+
+// The same, each as bytes of its own.
+fn packed_in(
+    alloc: Global,
+    part: &Part,
+    starts: &[u32],
+    aim: Aim,
+    found: &[Counted],
+    run: &Run,
+) -> Result<Vec<Snapshots>, NoMemory>
+    requires is { IsPart part.now }
+    requires starts { HasStarts part.now starts.now }
+    requires within { All (IsWithin run.now.stands) found.now }
+    requires kept { (least : ℕ) × (ranks : List ℕ)
+        × AreKept part.now aim least ranks run.now.stands found.now }
+    ensures { IfOk result (λ longer. (least : ℕ) (ranks : List ℕ)
+        → AreKept part.now aim least ranks run.now.stands found.now
+        → AllZip (IsKeptOf part.now least ranks) found.now longer.items) }
+{
+    let none = Arc::new(alloc, Run::new(alloc))?;
+    let mut longer = Vec::with_capacity(alloc, found.len())?;
+    for next in found {
+        longer.push(packed(alloc, part, starts, aim, *next, run, none.clone()?)?)?;
+    }
+    Ok(longer)
+}
+
+// What is kept of the prefix with the rank, as bytes where it stands somewhere.
+fn packed(
+    alloc: Global,
+    part: &Part,
+    starts: &[u32],
+    aim: Aim,
+    next: Counted,
+    run: &Run,
+    none: Arc<Run>,
+) -> Result<Snapshots, NoMemory>
+    requires is { IsPart part.now }
+    requires starts { HasStarts part.now starts.now }
+    requires within { IsWithin run.now.stands next }
+    requires kept { (least : ℕ) × (ranks : List ℕ)
+        × IsKeptOf part.now least ranks next (kept_of aim run.now.stands next) }
+    ensures { IfOk result (λ kept. (least : ℕ) (ranks : List ℕ)
+        → IsKeptOf part.now least ranks next (kept_of aim run.now.stands next)
+        → IsKeptOf part.now least ranks next kept) }
+{
+    let seen = sees(aim, next.rank);
+    if next.first < next.last {
+        let stands = run.piece(next.first, next.last);
+        let bytes = pack(alloc, part.sequences(), starts, stands, seen)?;
+        Ok(Snapshots::packed(seen, next.support, bytes))
+    } else {
+        Ok(Snapshots::new(seen, next.support, none, 0, 0))
     }
 }
 

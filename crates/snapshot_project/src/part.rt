@@ -17,6 +17,8 @@ pub(crate) struct Ground<'a> {
     pub(crate) terrain: AnyTerrain,
     // What the sequence of each place weighs; none where each weighs 1.
     pub(crate) weights: Vec<u32>,
+    // The place of the first item of each sequence; none where each stand fits into four bytes.
+    pub(crate) starts: Vec<u32>,
 }
 
 // Written out, since the sets in the terrain have one of three widths.
@@ -28,6 +30,7 @@ impl<'a> Drop for Ground<'a> {
             sequences: _,
             terrain: _,
             weights: _,
+            starts: _,
         } = self;
     }
 }
@@ -55,11 +58,12 @@ impl<'a> Model for Part<'a> {
     ghost view = { λ p. part_on (arc_value p.ground) };
 
     ghost invariant = { λ p. IsKept (part_on (arc_value p.ground)) (arc_value p.ground).terrain
-        (arc_value p.ground).weights.items };
+        (arc_value p.ground).weights.items (arc_value p.ground).starts.items };
 }
 
 impl<'a> Part<'a> {
     ghost use Rattle.snapshot_project.specs.Snapshots.{IsPart};
+    ghost use Rattle.snapshot_project.specs.Layouts.{MayHaveStarts};
 
     /// The same part.
     pub fn share(&self) -> Result<Part<'a>, NoMemory>
@@ -75,6 +79,22 @@ impl<'a> Part<'a> {
         ensures { result.now ≡ self.now.sequences }
     {
         self.ground.sequences.as_slice()
+    }
+
+    /// The job whose sequences they are.
+    pub(crate) fn job(&self) -> &'a Job
+        ensures { result.now ≡ self.now.problem }
+    {
+        self.ground.job
+    }
+
+    /// The place of the first item of each sequence, where there may be stands that do not fit into four
+    /// bytes, and else nothing.
+    pub(crate) fn starts(&self) -> &[u32]
+        ensures starts { MayHaveStarts self.now result.now }
+        ensures part { IsPart self.now }
+    {
+        self.ground.starts.as_slice()
     }
 
     /// The rank that a pattern has to hold, where there is one.
@@ -94,12 +114,13 @@ pub(crate) fn part_of<'a>(
     sequences: Vec<u32>,
     terrain: AnyTerrain,
     weights: Vec<u32>,
+    starts: Vec<u32>,
 ) -> Result<Part<'a>, NoMemory>
     requires kept { IsKept (record {
       problem = job.now;
       bound = bound;
       sequences = sequences.items;
-    }) terrain weights.items }
+    }) terrain weights.items starts.items }
     ensures { IfOk result (λ part. part ≡ record {
       problem = job.now;
       bound = bound;
@@ -112,6 +133,7 @@ pub(crate) fn part_of<'a>(
         sequences,
         terrain,
         weights,
+        starts,
     };
     Ok(Part {
         ground: Arc::new(alloc, made)?,

@@ -38,6 +38,17 @@ impl Drop for AnyTerrain {
     }
 }
 
+impl AnyTerrain {
+    /// How many places it has.
+    pub(crate) fn count(&self) -> usize {
+        match self {
+            AnyTerrain::One(over) => over.records.places().len(),
+            AnyTerrain::Four(over) => over.records.places().len(),
+            AnyTerrain::Wide(over) => over.records.places().len(),
+        }
+    }
+}
+
 /// The terrain of these grids.
 pub(crate) fn terrain_of(alloc: Global, job: &Job, grids: Grids) -> Result<AnyTerrain, NoMemory>
     requires problem { grids.problem ≡ job.now }

@@ -7,6 +7,7 @@ use Rattle.sequence_grids.specs.Grids.{GridList}
 use Rattle.place_walk.specs.declared.stand.Stand.{Stand}
 use Rattle.snapshot_project.specs.Snapshots.{bound_of}
 use Rattle.snapshot_project.specs.Grouped.{AreWeights}
+use Rattle.snapshot_project.specs.Layouts.{MayHaveStarts}
 use Rattle.snapshot_project.specs.Terrains.{IsTerrainOf, AreStarts}
 use Rattle.snapshot_project.proofs.PartLemmas.{rising-few, part-begun}
 use Rattle.snapshot_project.proofs.BeginLemmas.{all-by-place, starts-projected}
@@ -37,6 +38,7 @@ part_of-requires c =
         part_is = part-begun job c.ranks.ensures.whole part.bound c.args.pivot bound c.requires.most part.sequences c.requires.rising c.requires.within;
         terrain_is = subst (λ (g : GridList). IsTerrainOf g c.in_ok-terrain.terrain) grids c.in_ok-terrain.ensures;
         weights_are = subst (λ (l : List ℕ). AreWeights (record part { sequences = l }) c.in_ok-weights.weights.items) c.as_slice-2.ensures.value weights;
+        starts_are = subst (λ (l : List ℕ). MayHaveStarts (record part { sequences = l }) c.in_ok-firsts.firsts.items) c.as_slice-3.ensures.value (c.in_ok-firsts.ensures part.bound);
       };
     }
 
@@ -61,7 +63,7 @@ returns-clause-start c =
     let last : c.len-last.result ≡ length starts = omega (arith, c.len-last.ensures, c.in_ok-starts.starts.ok) in
     let whole : slice_range (arc_value c.in_ok-run.run').stands 0 c.len-last.result ≡ starts =
     ap (λ (l : List Stand). slice_range l 0 c.len-last.result) run ∙ take_all (c.len-last.result - 0) starts (omega arith) in
-    let list : c.new-2.result ≡ record { seen = false; support = 0; stands = starts; next = None } = c.new-2.ensures
-    ∙ ap (λ (l : List Stand). record { seen = false; support = 0; stands = l; next = None }) whole in
+    let list : c.new-2.result ≡ record { seen = false; support = 0; stands = starts; next = None; bytes = None } = c.new-2.ensures
+    ∙ ap (λ (l : List Stand). record { seen = false; support = 0; stands = l; next = None; bytes = None }) whole in
     rw c.in_ok-part.ensures (starts-projected part (part-begun job c.ranks.ensures.whole part.bound c.args.pivot bound c.requires.most part.sequences c.requires.rising c.requires.within)
     starts are c.new-2.result list)

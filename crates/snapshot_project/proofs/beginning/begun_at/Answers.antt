@@ -6,6 +6,7 @@ use Rattle.std.proofs.lemmas.List.{take_all}
 use Rattle.sequence_grids.specs.Grids.{GridList}
 use Rattle.place_walk.specs.declared.stand.Stand.{Stand}
 use Rattle.snapshot_project.specs.Grouped.{AreWeights}
+use Rattle.snapshot_project.specs.Layouts.{MayHaveStarts}
 use Rattle.snapshot_project.proofs.BeginLemmas.{starts-projected}
 use Rattle.snapshot_project.proofs.beginning.begun_at.Goals as goal
 
@@ -18,6 +19,7 @@ part_of-requires c =
         part_is = c.requires.part;
         terrain_is = c.requires.terrain;
         weights_are = subst (λ (l : List ℕ). AreWeights (record part { sequences = l }) c.in_ok-weights.weights.items) c.as_slice.ensures.value weights;
+        starts_are = subst (λ (l : List ℕ). MayHaveStarts (record part { sequences = l }) c.in_ok-firsts.firsts.items) c.as_slice-2.ensures.value (c.in_ok-firsts.ensures part.bound);
       };
     }
 
@@ -29,6 +31,6 @@ returns-clause-start c =
     let last : c.len-last.result ≡ length starts = omega (arith, c.len-last.ensures, c.args.starts.ok) in
     let whole : slice_range (arc_value c.in_ok-run.run').stands 0 c.len-last.result ≡ starts =
     ap (λ (l : List Stand). slice_range l 0 c.len-last.result) run ∙ take_all (c.len-last.result - 0) starts (omega arith) in
-    let list : c.new-2.result ≡ record { seen = false; support = 0; stands = starts; next = None } = c.new-2.ensures
-    ∙ ap (λ (l : List Stand). record { seen = false; support = 0; stands = l; next = None }) whole in
+    let list : c.new-2.result ≡ record { seen = false; support = 0; stands = starts; next = None; bytes = None } = c.new-2.ensures
+    ∙ ap (λ (l : List Stand). record { seen = false; support = 0; stands = l; next = None; bytes = None }) whole in
     rw c.in_ok-part.ensures (starts-projected part c.requires.part starts c.requires.starts c.new-2.result list)

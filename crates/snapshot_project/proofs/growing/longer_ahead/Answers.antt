@@ -1,15 +1,15 @@
-use Rattle.std.proofs.Common.{◌≡◌, ◌∙◌, ℕ, ◌+◌, ◌≤◌, ◌<◌, true, false, Some, List, [], ◌∷◌, ◌++◌, length, filter, take, get_or, min, length-take, refl, sym, ap, subst, arith, rules}
+use Rattle.std.proofs.Common.{◌≡◌, ◌∙◌, ℕ, ◌+◌, ◌≤◌, ◌<◌, Some, List, [], ◌∷◌, ◌++◌, length, filter, take, get_or, min, length-take, sym, ap, subst, arith, rules}
 use Rattle.std.specs.List.{AllZip, slice_get}
 use Rattle.std.proofs.lemmas.Bool.{lt-ltb, le-ltb}
 use Rattle.std.proofs.lemmas.List.{take_more}
 use Rattle.std.proofs.lemmas.Option.{slice_get-get_or, slice_get_within}
 use Rattle.mine_model.proofs.ElementLemmas.{get-held}
 use Rattle.stand_sums.specs.declared.next_rank.NextRank.{NextRank}
-use Rattle.level_ahead.specs.Counts.{Behind, has_places}
+use Rattle.level_ahead.specs.Counts.{has_places}
 use Rattle.snapshot_project.specs.Ahead.{IsKeptAhead}
 use Rattle.snapshot_project.specs.Stands.{StandList}
 use Rattle.snapshot_project.proofs.PlacedLemmas.{entry-of, zip-push, count-yes, count-no, count-most}
-use Rattle.snapshot_project.proofs.growing.longer_ahead.Goals.{then-next+in_ok-behind+in_ok-clone+in_ok-push, else-next+in_ok-clone-2+in_ok-push-2}
+use Rattle.snapshot_project.proofs.growing.longer_ahead.Goals.{then-next+in_ok-behind+in_ok-push, else-next+in_ok-push-2}
 use Rattle.snapshot_project.proofs.growing.longer_ahead.Goals as goal
 
 -- no rank
@@ -51,7 +51,7 @@ loop-next-preserved c =
     (subst (λ (l : List StandList). AllZip R (take k found ++ next ∷ []) l) (sym all_is)
     (zip-push R (take k found) c.loop-next.longer.items next kept c.loop-next.invariant.kept one)) in
     elim c.if-next.branch [
-      | then-next+in_ok-behind+in_ok-clone+in_ok-push w ↦
+      | then-next+in_ok-behind+in_ok-push w ↦
           let some : next.first < next.last = w.if-next.true in
           let counted = count-yes found k blank inside (lt-ltb next.first next.last some) in
           let told_is = w.told.ensures in
@@ -69,7 +69,7 @@ loop-next-preserved c =
               nothing = λ none. absurd (omega (arith, some, none));
             }) c.if-next.longer.items (ap (λ v. v.items) w.longer-is ∙ w.in_ok-push.ensures.items);
           }
-      | else-next+in_ok-clone-2+in_ok-push-2 w ↦
+      | else-next+in_ok-push-2 w ↦
           let past : next.last ≤ next.first = w.if-next.false in
           let counted = count-no found k blank inside (le-ltb next.first next.last past) in
           let told_is = w.told-else-next.ensures in
