@@ -1,11 +1,15 @@
 //! Rows of stands, and their bytes.
 
+ghost use Rattle.std.specs.Prelude.{◌≡◌};
+
 use crate::packing::pack;
 use crate::unpacking::unpack;
 use place_walk::{Stand, Stands};
 use std::test::Fail;
 
-fn stand(place: u32, state: u16, first: bool) -> Stand {
+fn stand(place: u32, state: u16, first: bool) -> Stand
+    ensures { result ≡ record { place = place; state = state; first = first } }
+{
     Stand {
         place,
         state,
