@@ -151,14 +151,16 @@ by_each("a gap of 509, lengths of 2 to 3, and 3,000 items", 1,
         ["--max-gap", "509", "--min-length", "2", "--max-length", "3", turns],
         answer((list(first + second + third), 1) for first in "abcd" for second in "abcd" for third in ["", *"abcd"]))
 
-# Paths that stand in states from the 64th on, so their stands take eight bytes and prefixes wait as bytes. The lines have four,
-# five and two different items where one is written, so 20 different ones, each twice, and 420 items between.
+# Paths that stand in states from the 64th on, so their stands take eight bytes. The lines have four, five and two different items
+# where one is written, so 20 different ones, each twice, and 420 items between.
 far = [[f"p{number % 4}", *["x"] * 210, f"q{number % 5}", *["x"] * 210, f"r{number % 2}"] for number in range(40)]
 by_each("items that are 210 places apart", 2, ["(.).{210}(.).{210}(.)", write("far", lines_of(far))],
         answer(([line[0], line[211], line[422]], 2) for line in far[:20]))
-by_each("the same in lines that weigh 2", 4, ["--weighted", "(.).{210}(.).{210}(.)",
-                                             write("far_weighted", "".join(f"2 {' '.join(line)}\n" for line in far))],
-        answer(([line[0], line[211], line[422]], 4) for line in far[:20]))
+# More than a million of them behind one item, so prefixes wait as bytes: each line stands at three places behind its first a.
+for name, more, line, weight in (("1,200,000 stands of eight bytes", [], "a a a b\n", 1),
+                                 ("the same in lines that weigh 2", ["--weighted"], "2 a a a b\n", 2)):
+    by_each(name, 400_000 * weight, [*more, "[b{64}]?.*(.).*(.).*", write("waiting", line * 400_000)],
+            answer((pattern, 400_000 * weight) for pattern in (["a", "a"], ["a", "b"])))
 
 # Every option at once. x is not frequent, and b ranks before A, and A before a.
 kinds = write("kinds", "a A\n")
