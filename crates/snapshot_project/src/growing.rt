@@ -172,11 +172,15 @@ fn grow_from<'a>(
     Ok(Grown { next, longer })
 }
 
-// Whether those who stand in the run are to wait as bytes: where stands take eight bytes each.
+// The least stands of a run for which bytes pay.
+const MANY_STANDS: usize = 1_048_576;
+
+// Whether those who stand in the run are to wait as bytes: where stands take eight bytes each, and there are
+// many.
 fn packs(part: &Part, run: &Run, room: &mut Room) -> bool
     ensures { room.new ≡ room.old }
 {
-    if part.starts().is_empty() {
+    if part.starts().is_empty() || run.stands().len() < MANY_STANDS {
         return false;
     }
     room.has_wide(run)
