@@ -78,7 +78,7 @@ ANSWERS = (
     ("1", "[(a)*]*", "", "a a\n", "1\ta a\n"),
     ("1", ".*(a){2}.*", "", "a a a\n", "1\ta a\n"),
     ("1", "(a){0}(b)", "", "b\na\n", "1\tb\n"),
-    # 76 states, so that stands take eight bytes and prefixes wait as bytes.
+    # 76 states, so that stands take eight bytes.
     ("2", ".{0,70}(.){4}.*", "", "a b c d\nx a b c d\n", "2\ta b c d\n"),
     ("2", ".*(a)(b).*", "", "a b\na b\na c\n", "2\ta b\n"),
     ("2", "(a)[(b)|.]", "", "a b\na b\n", "2\ta\n2\ta b\n"),

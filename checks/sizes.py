@@ -156,7 +156,8 @@ by_each("a gap of 509, lengths of 2 to 3, and 3,000 items", 1,
 far = [[f"p{number % 4}", *["x"] * 210, f"q{number % 5}", *["x"] * 210, f"r{number % 2}"] for number in range(40)]
 by_each("items that are 210 places apart", 2, ["(.).{210}(.).{210}(.)", write("far", lines_of(far))],
         answer(([line[0], line[211], line[422]], 2) for line in far[:20]))
-# More than a million of them behind one item, so prefixes wait as bytes: each line stands at three places behind its first a.
+# More than a million of them behind one item: each line stands at three places behind its first a. Where lines weigh more than
+# 1, what follows is not counted ahead, and the prefix waits as bytes.
 for name, more, line, weight in (("1,200,000 stands of eight bytes", [], "a a a b\n", 1),
                                  ("the same in lines that weigh 2", ["--weighted"], "2 a a a b\n", 2)):
     by_each(name, 400_000 * weight, [*more, "[b{64}]?.*(.).*(.).*", write("waiting", line * 400_000)],
