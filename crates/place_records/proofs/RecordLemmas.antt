@@ -11,11 +11,11 @@ use Rattle.state_bits.specs.Members.{Has}
 use Rattle.sequence_grids.specs.declared.kinds.Kind.{Kind}
 use Rattle.sequence_grids.specs.declared.kinds.Kinds.{Kinds}
 use Rattle.sequence_grids.specs.declared.places.Place.{Place}
-use Rattle.sequence_grids.specs.Grids.{Completes}
+use Rattle.sequence_grids.specs.Grids.{Completes, Continues}
 use Rattle.sequence_grids.specs.Kinds.{IsClassFor, IsTarget, HasKind}
-use Rattle.sequence_grids.specs.Tables.{ClassSets, TripleSets, TableValue, completing}
+use Rattle.sequence_grids.specs.Tables.{ClassSets, TripleSets, TableValue, completing, continuing}
 use Rattle.sequence_grids.specs.Places.{IsTripleOf, HasTriple, IsPlaceAt, ArePlaces}
-use Rattle.sequence_grids.proofs.GridLemmas.{completes_by, both_ways}
+use Rattle.sequence_grids.proofs.GridLemmas.{completes_by, continues_by, both_ways}
 use Rattle.walk_memo.specs.Moves.{MoveSets}
 use Rattle.place_records.specs.Records.{IsMoveAt, goes_with}
 use Rattle.place_records.specs.Twins.{IsMoveOf, IsTwinOf}
@@ -34,12 +34,12 @@ pub move_at : (problem : Problem) (bound : Bound) (t : Item) (rest : List Item) 
     → IsClassFor problem bound t class → IsTripleOf problem bound rest triple → needed ≡ goes_with bound.need → IsTarget problem k → IsMoveOf needed goes class triple move k
     → IsMoveAt problem bound goes t rest move k
 move_at problem bound t rest class triple needed goes move k of_class of_triple same target is =
-    let completes : (seen : Bool) → Has (completing triple seen) k ↔ Completes problem bound rest k seen = λ seen. completes_by problem bound rest triple of_triple seen k target.1 in
+    let continues : (seen : Bool) → Has (continuing triple seen) k ↔ Continues problem bound rest k seen = λ seen. continues_by problem bound rest triple of_triple seen k target.1 in
     record {
-      silent = both_ways is.silent (both_parts (of_class.silent k target) (completes goes));
-      writes = both_ways is.writes (both_parts (of_class.writes k target) (completes true));
-      more = where_written is.more (rw same (completes (goes_with bound.need)));
-      unseen = where_written is.unseen (completes false);
+      silent = both_ways is.silent (both_parts (of_class.silent k target) (continues goes));
+      writes = both_ways is.writes (both_parts (of_class.writes k target) (of_triple.seen k target.1));
+      more = where_written is.more (rw same (continues (goes_with bound.need)));
+      unseen = where_written is.unseen (of_triple.unseen k target.1);
       ends = where_written is.ends (of_triple.ends k target.1);
     }
 

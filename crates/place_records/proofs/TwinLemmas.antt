@@ -4,7 +4,7 @@ use Rattle.std.proofs.lemmas.Bool.{cases_eq, and_parts}
 use Rattle.state_bits.specs.Members.{Has, HasBit}
 use Rattle.state_bits.proofs.NeighbourLemmas.{Has-none}
 use Rattle.sequence_grids.specs.declared.table.Words.{Words}
-use Rattle.sequence_grids.specs.Tables.{ClassSets, TripleSets, completing}
+use Rattle.sequence_grids.specs.Tables.{ClassSets, TripleSets, continuing}
 use Rattle.sequence_grids.specs.Words.{AreWordsOf, AreClassWords, AreTripleWords}
 use Rattle.walk_memo.specs.Moves.{MoveSets, move_sets}
 use Rattle.walk_memo.proofs.MemoLemmas.{same_move, move_eq}
@@ -16,9 +16,9 @@ abbrev pub IsCut : ℕ → List ℕ → ℕ → Type 0
 IsCut set words found = (k : ℕ) → Has found k ↔ (Has set k × HasBit words k)
 
 module _ (states : ℕ) (class : ClassSets) (behind : TripleSets) (words : Words) (of_class : AreClassWords states class words) (of_triple : AreTripleWords states behind words) where
-  words_of_completing : (seen : Bool) → AreWordsOf states (completing behind seen) (words_for words seen)
-  words_of_completing true = of_triple.seen
-  words_of_completing false = of_triple.unseen
+  words_of_continuing : (seen : Bool) → AreWordsOf states (continuing behind seen) (words_for words seen)
+  words_of_continuing true = of_triple.more
+  words_of_continuing false = of_triple.unseen
 
   module _ (targets silent written writes : ℕ) (are : AreTargets states targets) (silent_is : IsCut targets words.silent.now silent) (written_is : IsCut targets words.writing.now written)
       (writes_is : IsCut written words.seen.now writes) where
@@ -47,11 +47,11 @@ module _ (states : ℕ) (class : ClassSets) (behind : TripleSets) (words : Words
         (λ has.
             let (there, bit) = (goes_on k).0 has in
             let (target, of) = (silent_is k).0 there in
-            ((of_class.silent k below).0 of, (words_of_completing goes k below).0 bit)),
-        (λ h. (goes_on k).1 ((silent_is k).1 ((are k).1 (least, below), (of_class.silent k below).1 h.0), (words_of_completing goes k below).1 h.1)),
+            ((of_class.silent k below).0 of, (words_of_continuing goes k below).0 bit)),
+        (λ h. (goes_on k).1 ((silent_is k).1 ((are k).1 (least, below), (of_class.silent k below).1 h.0), (words_of_continuing goes k below).1 h.1)),
       );
       writes = rw same ((λ has. in_writes k below has), (λ h. of_writes k least below h));
-      more = rw same (of_cut writes move.more (completing behind needed) (words_for words needed) k below more (words_of_completing needed));
+      more = rw same (of_cut writes move.more (continuing behind needed) (words_for words needed) k below more (words_of_continuing needed));
       unseen = rw same (of_cut writes move.unseen behind.unseen words.unseen.now k below unseen of_triple.unseen);
       ends = rw same (of_cut writes move.ends behind.ends words.ending.now k below ends of_triple.ending);
     }

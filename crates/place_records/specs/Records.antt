@@ -4,7 +4,7 @@ use Rattle.state_bits.specs.Members.{Has}
 use Rattle.mine_model.specs.declared.item.Item.{Item}
 use Rattle.mining_job.specs.declared.bound.Bound.{Bound}
 use Rattle.mining_job.specs.Problems.{Problem, items_of}
-use Rattle.sequence_grids.specs.Grids.{GridList, Completes, Ends, Reads, WritesRank, items_at}
+use Rattle.sequence_grids.specs.Grids.{GridList, Completes, Continues, Ends, Reads, WritesRank, items_at}
 use Rattle.sequence_grids.specs.Kinds.{IsTarget, Writes}
 use Rattle.walk_memo.specs.Moves.{MoveSets}
 use Rattle.walk_places.specs.declared.places.Record.{Record}
@@ -14,20 +14,20 @@ use Rattle.walk_places.specs.declared.places.Record.{Record}
 abbrev pub start_of : GridList → ℕ → ℕ
 start_of part grid = sum_by (λ i. length (items_of part.problem i) + 1) (take grid part.sequences)
 
--- a path that goes on may write nothing more, once what is needed was seen
+-- a path that goes on need not write what is needed, once that was seen
 abbrev pub goes_with : Option ℕ → Bool
 goes_with None = false
 goes_with (Some need) = true
 
--- What the place of t, with the rest of its sequence behind it, does with the state k: paths go on where
--- they complete with what is needed seen or not.
+-- What the place of t, with the rest of its sequence behind it, does with the state k: paths go on where they
+-- write something more, and what is needed was seen or is written, too.
 pub record IsMoveAt (problem : Problem) (bound : Bound) (goes : Bool) (t : Item) (rest : List Item)
     (move : MoveSets) (k : ℕ)
     : Type 0 where
-  pub silent : Has move.silent k ↔ (Reads problem t k [] × Completes problem bound rest k goes)
+  pub silent : Has move.silent k ↔ (Reads problem t k [] × Continues problem bound rest k goes)
   pub writes : Has move.writes k ↔ (Writes problem bound t k × Completes problem bound rest k true)
   pub more : Has move.writes k
-      → Has move.more k ↔ Completes problem bound rest k (goes_with bound.need)
+      → Has move.more k ↔ Continues problem bound rest k (goes_with bound.need)
   pub unseen : Has move.writes k → Has move.unseen k ↔ Completes problem bound rest k false
   pub ends : Has move.writes k → Has move.ends k ↔ Ends problem rest k
 

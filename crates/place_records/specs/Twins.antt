@@ -2,7 +2,7 @@
 use Rattle.std.specs.Prelude.{ℕ, ◌≤◌, ◌<◌, ◌↔◌, Bool, true, false, List, slice_get, Some, ◌≡◌}
 use Rattle.state_bits.specs.Members.{Has}
 use Rattle.sequence_grids.specs.declared.table.Words.{Words}
-use Rattle.sequence_grids.specs.Tables.{ClassSets, TripleSets, completing}
+use Rattle.sequence_grids.specs.Tables.{ClassSets, TripleSets, continuing}
 use Rattle.walk_memo.specs.Moves.{MoveSets, move_sets}
 use Rattle.place_records.specs.declared.twin.Twin.{Twin}
 
@@ -30,9 +30,9 @@ dead_twin = record { early = dead_move; late = dead_move }
 -- go on so
 pub record IsMoveOf (needed goes : Bool) (class : ClassSets) (behind : TripleSets) (move : MoveSets) (k : ℕ)
     : Type 0 where
-  pub silent : Has move.silent k ↔ (Has class.silent k × Has (completing behind goes) k)
+  pub silent : Has move.silent k ↔ (Has class.silent k × Has (continuing behind goes) k)
   pub writes : Has move.writes k ↔ (Has class.writes k × Has behind.seen k)
-  pub more : Has move.more k ↔ (Has move.writes k × Has (completing behind needed) k)
+  pub more : Has move.more k ↔ (Has move.writes k × Has (continuing behind needed) k)
   pub unseen : Has move.unseen k ↔ (Has move.writes k × Has behind.unseen k)
   pub ends : Has move.ends k ↔ (Has move.writes k × Has behind.ends k)
 
@@ -46,9 +46,9 @@ pub record IsTwinOf (states : ℕ) (needed : Bool) (class : ClassSets) (behind :
 abbrev pub AreTargets : ℕ → ℕ → Type 0
 AreTargets states set = (k : ℕ) → Has set k ↔ ((1 ≤ k) × (k < states))
 
--- the words of the states that complete
+-- the words of the states from which something can be written, and what is needed was seen or is written, too
 abbrev pub words_for : Words → Bool → List ℕ
-words_for words true = words.seen.now
+words_for words true = words.more.now
 words_for words false = words.unseen.now
 
 -- the twin with the number is that of a class and a triple with these numbers

@@ -61,20 +61,21 @@ pub(crate) fn twin_of<const W: usize>(
     let early = Move {
         silent: cut(&silent, words.unseen),
         writes,
-        more: cut(&writes, completing(words, needed)),
+        more: cut(&writes, continuing(words, needed)),
         unseen: cut(&writes, words.unseen),
         ends: cut(&writes, words.ending),
     };
     let mut late = early;
-    late.silent = cut(&silent, words.seen);
+    late.silent = cut(&silent, words.more);
     Twin { early, late }
 }
 
-// The words of the states that complete where what is needed was seen or was not.
-fn completing(words: Words<'_>, seen: bool) -> &[u64]
+// The words of the states from which something can be written, where what is needed was seen or is written,
+// too.
+fn continuing(words: Words<'_>, seen: bool) -> &[u64]
     ensures { result.now ≡ words_for words.entry seen }
 {
-    if seen { words.seen } else { words.unseen }
+    if seen { words.more } else { words.unseen }
 }
 
 // The members whose bits the words have.

@@ -1,18 +1,19 @@
 -- A graph over what a part keeps has the candidates.
 use Rattle.std.proofs.Common.{◌≡◌, ◌≢◌, ℕ, suc, ◌+◌, ◌<◌, ◌⊎◌, inl, inr, Bool, true, IsTrue, Option, List, [], ◌∷◌, length, drop, filter, refl, sym, ap, ◌∙◌, subst, arith}
 use Rattle.std.specs.List.{Contains}
-use Rattle.std.proofs.lemmas.Bool.{or_cases, and_parts, and_from}
+use Rattle.std.proofs.lemmas.Bool.{or_cases, and_parts}
 use Rattle.std.proofs.lemmas.Option.{slice_get_within}
 use Rattle.mine_model.specs.declared.item.Item.{Item}
 use Rattle.mine_model.proofs.ListLemmas.{Contains-cases, Contains-first, Contains-none, filter-Contains}
-use Rattle.sequence_grids.specs.Grids.{GridList, Completes, items_at}
+use Rattle.sequence_grids.specs.Grids.{GridList, Continues, items_at}
 use Rattle.sequence_grids.specs.Kinds.{IsTarget}
+use Rattle.sequence_grids.proofs.GridLemmas.{both_ways, continues-unseen}
 use Rattle.sequence_grids.proofs.PathLemmas.{target-of}
 use Rattle.place_walk.specs.declared.stand.Stand.{Stand}
 use Rattle.place_walk.specs.Stands.{StandsAt}
 use Rattle.stand_sums.specs.declared.aim.Aim.{Aim}
 use Rattle.stand_sums.specs.Aims.{sees_with}
-use Rattle.stand_sums.specs.Writings.{writes, goes_on, stops, opens, ends}
+use Rattle.stand_sums.specs.Writings.{writes, goes_on, opens, ends}
 use Rattle.candidate_graph.specs.declared.edge.Edge.{Edge}
 use Rattle.candidate_graph.specs.Courses.{Courses, course_in}
 use Rattle.candidate_graph.specs.Graphs.{Standpoint, Node, points_of, aim_at, point_behind, AreEdges}
@@ -29,7 +30,7 @@ use Rattle.snapshot_project.proofs.StartLemmas.{place-once}
 use Rattle.sequence_candidates.specs.Writings.{WritesRanks}
 use Rattle.sequence_candidates.specs.Terrains.{courses_over, seen_first, root_at, IsBegun}
 use Rattle.sequence_candidates.specs.Candidates.{CanGoOn, AreCandidates}
-use Rattle.sequence_candidates.proofs.WriteLemmas.{completes-writes, writes-generates, generates-writes}
+use Rattle.sequence_candidates.proofs.WriteLemmas.{continues-writes, writes-generates, generates-writes}
 use Rattle.sequence_candidates.proofs.PlaceLemmas.{visit-taken}
 use Rattle.sequence_candidates.proofs.PathLemmas.{marks-say, can-writes, written-can}
 
@@ -105,27 +106,21 @@ module _ (part : GridList) (is : IsPart part) (width : ℕ) (rows : List ℕ) (v
               let left : List Item = drop (taken.position + 1) (items_at part taken.grid) in
               let target : IsTarget part.problem visit.action.state = target-of part.problem is.whole is_visit.from visit.action.state taken.leads in
               let (writes_it, on) = and_parts (writes ranks edge.rank visit) (goes_on aim edge.rank visit.action) opening in
-              let completes : Completes part.problem part.bound left visit.action.state (goes sees need) =
-              (marks-say (λ b. Completes part.problem part.bound left visit.action.state b) need visit.action taken.more taken.unseen sees).0 on in
-              elim (completes-writes part.problem is.whole part.bound left visit.action.state sees completes) [
-                | inl (sees_it, over) ↦
-                    let ending : IsTrue (ends ranks aim edge.rank visit) =
-                    and_from (writes ranks edge.rank visit) (stops aim edge.rank visit.action) writes_it
-                    (and_from sees visit.action.ends sees_it (taken.ends.1 over)) in
-                    inl (right.ends.1 (visit, there, ending))
-                | inr (rank, rest, later) ↦
-                    let point : Standpoint = point_behind ranks aim edge.rank are.visits in
-                    let kept = filter-Contains (opens ranks aim edge.rank) are.visits visit there opening in
-                    let stands : StandsAt point.stands visit.place visit.action.state = at-by (filter (opens ranks aim edge.rank) are.visits) visit kept in
-                    inr (
-                      point,
-                      rank ∷ rest,
-                      right.next,
-                      written-can part is width rows ground.rows_are value ground.records_are taken.grid taken.known left (taken.position + 1) refl
-                          (omega (arith, inside)) point visit.action.state target.1
-                          (inr (subst (λ (p : ℕ). StandsAt point.stands p visit.action.state) place_is stands)) rank rest later,
-                    )
-              ]
+              let continues : Continues part.problem part.bound left visit.action.state (goes sees need) =
+              (marks-say (λ b. Continues part.problem part.bound left visit.action.state b) need visit.action taken.more
+              (both_ways taken.unseen (continues-unseen part.problem part.bound left visit.action.state)) sees).0 on in
+              let (rank, rest, later) = continues-writes part.problem is.whole part.bound left visit.action.state sees continues in
+              let point : Standpoint = point_behind ranks aim edge.rank are.visits in
+              let kept = filter-Contains (opens ranks aim edge.rank) are.visits visit there opening in
+              let stands : StandsAt point.stands visit.place visit.action.state = at-by (filter (opens ranks aim edge.rank) are.visits) visit kept in
+              inr (
+                point,
+                rank ∷ rest,
+                right.next,
+                written-can part is width rows ground.rows_are value ground.records_are taken.grid taken.known left (taken.position + 1) refl
+                    (omega (arith, inside)) point visit.action.state target.1
+                    (inr (subst (λ (p : ℕ). StandsAt point.stands p visit.action.state) place_is stands)) rank rest later,
+              )
           | inr ending ↦ inl (right.ends.1 (visit, there, ending))
         ]
 

@@ -8,10 +8,10 @@ use Rattle.state_bits.specs.Members.{Has}
 use Rattle.mine_model.specs.declared.item.Item.{Item}
 use Rattle.mine_model.proofs.ListLemmas.{Contains-cases, Contains-first, Contains-none}
 use Rattle.fst_compile.specs.Transducer.{Leads}
-use Rattle.sequence_grids.specs.Grids.{GridList, Completes, Ends, WritesRank, items_at}
+use Rattle.sequence_grids.specs.Grids.{GridList, Continues, Ends, WritesRank, items_at}
 use Rattle.sequence_grids.specs.Kinds.{IsTarget}
 use Rattle.sequence_grids.specs.Successors.{AreSuccessors}
-use Rattle.sequence_grids.proofs.GridLemmas.{item_there, both_ways}
+use Rattle.sequence_grids.proofs.GridLemmas.{item_there, both_ways, continues-unseen}
 use Rattle.sequence_grids.proofs.KindLemmas.{nil-not-cons}
 use Rattle.sequence_grids.proofs.PathLemmas.{target-of}
 use Rattle.walk_memo.specs.declared.action.Action.{Action}
@@ -42,7 +42,7 @@ use Rattle.snapshot_project.proofs.VisitLemmas.{among-held, has-decided, goes-on
 use Rattle.snapshot_project.proofs.VisitPlaceLemmas.{met-at}
 use Rattle.sequence_candidates.specs.Writings.{WritesRanks, WritesFrom, AreWrittenFrom}
 use Rattle.sequence_candidates.specs.Terrains.{courses_over}
-use Rattle.sequence_candidates.proofs.WriteLemmas.{silent-writes, rank-writes, ends-writes, writes-ends, writes-completes, seen-completes, none-writes, writes-first}
+use Rattle.sequence_candidates.proofs.WriteLemmas.{silent-writes, rank-writes, ends-writes, writes-ends, writes-continues, seen-completes, none-writes, writes-first}
 use Rattle.sequence_candidates.proofs.PlaceLemmas.{dead-before, row-leads, visit-taken}
 use Rattle.mask_sums.proofs.SetLemmas.{among-to}
 
@@ -204,7 +204,7 @@ module _ (part : GridList) (is : IsPart part) (width : ℕ) (rows : List ℕ) (r
       state_is : visit.action.state ≡ next
       writes_it : IsTrue (writes ranks rank visit)
       on : IsTrue (if sees_with at.seen need rank then visit.action.more else visit.action.unseen)
-          ↔ Completes part.problem part.bound left next (goes (sees_with at.seen need rank) need)
+          ↔ Continues part.problem part.bound left next (goes (sees_with at.seen need rank) need)
       over : IsTrue visit.action.ends ↔ Ends part.problem left next
       later : WritesRanks part.problem part.bound left next (sees_with at.seen need rank) rest
 
@@ -224,11 +224,11 @@ module _ (part : GridList) (is : IsPart part) (width : ℕ) (rows : List ℕ) (r
           target,
           elim first.does [
             | inl (reads, later) ↦
-                let completes : Completes part.problem part.bound left next on =
-                writes-completes part.problem is.whole part.bound left next at.seen rank rest later in
+                let continues : Continues part.problem part.bound left next on =
+                writes-continues part.problem is.whole part.bound left next at.seen rank rest later in
                 let place_is : suc (start_of part grid + position) ≡ start_of part grid + (position + 1) = omega arith in
                 let arrives : Arrives (course_in courses at.seen) at.stands (suc (start_of part grid + position)) next =
-                (state, met.entry, met.move, met.holds, is_at, row, does.silent.1 (reads, completes)) in
+                (state, met.entry, met.move, met.holds, is_at, row, does.silent.1 (reads, continues)) in
                 inl (record { is_at = inl (subst (λ (p : ℕ). Arrives (course_in courses at.seen) at.stands p next) place_is arrives); later = later })
             | inr (writes_rank, later) ↦
                 let sees : Bool = sees_with at.seen need rank in
@@ -255,8 +255,9 @@ module _ (part : GridList) (is : IsPart part) (width : ℕ) (rows : List ℕ) (r
                   place_is = refl;
                   state_is = refl;
                   writes_it = among-to rank (ranks met.entry.kind next) (((met.ranks_are next target).exact rank).1 writes_rank);
-                  on = marks-say (λ b. Completes part.problem part.bound left next b) need action
-                      (both_ways more_is (does.more has)) (both_ways unseen_is (does.unseen has)) sees;
+                  on = marks-say (λ b. Continues part.problem part.bound left next b) need action
+                      (both_ways more_is (does.more has))
+                      (both_ways (both_ways unseen_is (does.unseen has)) (continues-unseen part.problem part.bound left next)) sees;
                   over = both_ways ending_is (does.ends has);
                   later = later;
                 })
@@ -304,7 +305,7 @@ module _ (part : GridList) (is : IsPart part) (width : ℕ) (rows : List ℕ) (r
                 visits.is_visit,
                 inr (
                   and_from (writes ranks rank visit) (goes_on aim rank visit.action) visits.writes_it
-                      (visits.on.1 (writes-completes part.problem is.whole part.bound left next sees other rest visits.later)),
+                      (visits.on.1 (writes-continues part.problem is.whole part.bound left next sees other rest visits.later)),
                   written-can left (position + 1) cut_more (omega (arith, inside)) point next target.1 (inr stands) other rest visits.later,
                 ),
               )

@@ -9,7 +9,7 @@ use Rattle.state_bits.specs.Members.{Has}
 use Rattle.state_bits.proofs.NeighbourLemmas.{Has-none}
 use Rattle.mine_model.specs.declared.item.Item.{Item}
 use Rattle.fst_compile.specs.Transducer.{Leads}
-use Rattle.sequence_grids.specs.Grids.{GridList, Completes, Ends, items_at}
+use Rattle.sequence_grids.specs.Grids.{GridList, Completes, Continues, Ends, items_at}
 use Rattle.sequence_grids.specs.Kinds.{IsTarget}
 use Rattle.sequence_grids.specs.Successors.{AreSuccessors}
 use Rattle.sequence_grids.proofs.GridLemmas.{item_there, both_ways}
@@ -109,7 +109,7 @@ module _ (part : GridList) (is : IsPart part) (width : ℕ) (rows : List ℕ) (r
     pub leads : Leads part.problem.machine from action.state
     pub asked : CanAsk kind action.state
     pub ranks_are : AreRanksAt part.problem part.bound t ranks kind action.state
-    pub more : IsTrue action.more ↔ Completes part.problem part.bound (drop (position + 1) (items_at part grid)) action.state (goes_with part.bound.need)
+    pub more : IsTrue action.more ↔ Continues part.problem part.bound (drop (position + 1) (items_at part grid)) action.state (goes_with part.bound.need)
     pub unseen : IsTrue action.unseen ↔ Completes part.problem part.bound (drop (position + 1) (items_at part grid)) action.state false
     pub ends : IsTrue action.ends ↔ Ends part.problem (drop (position + 1) (items_at part grid)) action.state
 

@@ -11,7 +11,7 @@ use Rattle.mine_model.proofs.RankedLemmas.{item_rank}
 use Rattle.fst_compile.specs.Transducer.{IsPath, Leads}
 use Rattle.mining_job.specs.declared.bound.Bound.{Bound}
 use Rattle.mining_job.specs.Problems.{Problem, IsWhole}
-use Rattle.sequence_grids.specs.Grids.{GridList, IsAllowed, HoldsNeeded, Completes, Ends, Reads, WritesRank}
+use Rattle.sequence_grids.specs.Grids.{GridList, IsAllowed, HoldsNeeded, Completes, Continues, Ends, Reads, WritesRank}
 use Rattle.sequence_grids.proofs.KindLemmas.{nil-not-cons}
 use Rattle.sequence_grids.proofs.PathLemmas.{path-step}
 use Rattle.stand_sums.specs.Aims.{sees_with}
@@ -108,32 +108,27 @@ module _ (problem : Problem) (whole : IsWhole problem) (bound : Bound) where
       by (v ∷ output) ranked path needed = absurd ranked
 
   -- and where something is, the path goes on as it has to
-  pub writes-completes : (rest : List Item) (state : ℕ) (seen : Bool) (rank : ℕ) (list : List ℕ) → WritesRanks problem bound rest state seen (rank ∷ list)
-      → Completes problem bound rest state (goes seen bound.need)
-  writes-completes rest state seen rank list writes = by writes.output writes.ranked writes.path writes.allowed writes.needed
+  pub writes-continues : (rest : List Item) (state : ℕ) (seen : Bool) (rank : ℕ) (list : List ℕ) → WritesRanks problem bound rest state seen (rank ∷ list)
+      → Continues problem bound rest state (goes seen bound.need)
+  writes-continues rest state seen rank list writes = by writes.output writes.ranked writes.path writes.allowed writes.needed
     where
       by : (output : List Item) → AreRanked problem.ranking.order output (rank ∷ list) → IsPath problem.hierarchy.links problem.machine state rest output
           → AllByRecursion (IsAllowed problem.ranking bound) output → IsTrue seen ⊎ HoldsNeeded problem.ranking bound.need output
-          → Completes problem bound rest state (goes seen bound.need)
+          → Continues problem bound rest state (goes seen bound.need)
       by [] ranked path allowed needed = absurd ranked
-      by (v ∷ output) ranked path allowed needed = (v ∷ output, path, allowed, goes-needed problem.ranking bound.need seen v output needed)
+      by (v ∷ output) ranked path allowed needed = (v, output, path, allowed, goes-needed problem.ranking bound.need seen v output needed)
 
   -- where all was seen, it completes
   pub seen-completes : (rest : List Item) (state : ℕ) (seen : Bool) (list : List ℕ) → WritesRanks problem bound rest state seen list
       → Completes problem bound rest state true
   seen-completes rest state seen list writes = (writes.output, writes.path, writes.allowed, inl refl)
 
-  -- what goes on so writes some ranks, or ends where what is needed was seen
-  pub completes-writes : (rest : List Item) (state : ℕ) (seen : Bool) → Completes problem bound rest state (goes seen bound.need)
-      → (IsTrue seen × Ends problem rest state) ⊎ ((rank : ℕ) × (list : List ℕ) × WritesRanks problem bound rest state seen (rank ∷ list))
-  completes-writes rest state seen ([], path, allowed, met) = elim (needed-goes problem.ranking bound.need seen [] met) [
-    | inl yes' ↦ inl (yes', path)
-    | inr holds ↦ absurd (needed-none problem.ranking bound.need holds)
-  ]
-  completes-writes rest state seen (v ∷ output, path, allowed, met) =
+  -- what goes on so writes some ranks
+  pub continues-writes : (rest : List Item) (state : ℕ) (seen : Bool) → Continues problem bound rest state (goes seen bound.need)
+      → (rank : ℕ) × (list : List ℕ) × WritesRanks problem bound rest state seen (rank ∷ list)
+  continues-writes rest state seen (v, output, path, allowed, met) =
       let ((rank, has, few), others) = allowed in
-      let (list, ranked) = allowed-ranked problem.ranking bound output others in
-      inr (
+      let (list, ranked) = allowed-ranked problem.ranking bound output others in (
         rank,
         list,
         record {

@@ -1,5 +1,5 @@
 -- Grids behind each other.
-use Rattle.std.proofs.Common.{◌≡◌, ℕ, ◌+◌, ◌-◌, ◌<◌, ◌≤◌, ◌↔◌, inl, inr, Bool, true, false, List, [], ◌∷◌, ◌++◌, length, get_or, arith, refl, sym, ap, ◌∙◌, subst, Some}
+use Rattle.std.proofs.Common.{◌≡◌, ℕ, ◌+◌, ◌-◌, ◌<◌, ◌≤◌, ◌↔◌, inl, inr, Bool, true, false, List, [], ◌∷◌, ◌++◌, length, get_or, arith, refl, sym, ap, ◌∙◌, subst, Some, rules}
 use Rattle.std.specs.List.{All, AllByRecursion, slice_get, slice_index}
 use Rattle.std.proofs.Math.Seq.{get_or-append_seam}
 use Rattle.std.proofs.lemmas.List.{get_or_append_left, length-append}
@@ -8,15 +8,16 @@ use Rattle.std.proofs.lemmas.Option.{slice_get_within, slice_get-get_or, same_So
 use Rattle.std.proofs.lemmas.Bool.{cases_eq}
 use Rattle.mine_model.specs.declared.item.Item.{Item}
 use Rattle.mine_model.specs.Support.{Sequence}
-use Rattle.mine_model.proofs.ListLemmas.{AllByRecursion-contained}
+use Rattle.mine_model.proofs.ListLemmas.{AllByRecursion-contained, Contains-none}
 use Rattle.state_bits.specs.Members.{Has}
+use Rattle.fst_compile.specs.Transducer.{IsPath}
 use Rattle.mining_job.specs.declared.bound.Bound.{Bound}
 use Rattle.sequence_grids.specs.declared.kinds.Kinds.{Kinds}
 use Rattle.sequence_grids.specs.declared.places.Place.{Place}
 use Rattle.mining_job.specs.Problems.{Problem, IsWhole, items_of}
-use Rattle.sequence_grids.specs.Grids.{Completes, GridList, items_at}
+use Rattle.sequence_grids.specs.Grids.{IsAllowed, HoldsNeeded, Completes, Continues, GridList, items_at}
 use Rattle.sequence_grids.specs.Columns.{AreColumns}
-use Rattle.sequence_grids.specs.Tables.{TripleSets, TableValue, Grows, completing}
+use Rattle.sequence_grids.specs.Tables.{TripleSets, TableValue, Grows, completing, continuing}
 use Rattle.sequence_grids.specs.Kinds.{IsTarget, HasKind, HasCell, AreKinds, KindsGrow, Extends}
 use Rattle.sequence_grids.specs.Places.{IsTripleOf, IsTableOf, IsPlaceAt, ArePlaces, AreGrids}
 use Rattle.sequence_grids.proofs.PlaceLemmas.{IsTableOf-grow, ArePlaces-grow}
@@ -109,6 +110,27 @@ pub completes_by : (problem : Problem) (bound : Bound) (rest : List Item) (tripl
     → Has (completing triple seen) q ↔ Completes problem bound rest q seen
 completes_by problem bound rest triple is true q state = is.seen q state
 completes_by problem bound rest triple is false q state = is.unseen q state
+
+-- what is needed is written, if it was not seen: so a path that completes then writes something
+pub continues-unseen : (problem : Problem) (bound : Bound) (rest : List Item) (q : ℕ) → Completes problem bound rest q false ↔ Continues problem bound rest q false
+continues-unseen problem bound rest q = (
+  (λ (output, path, allowed, met). elim met [
+    | inl no' ↦ absurd (search rules)
+    | inr holds ↦ by output path allowed holds
+  ]),
+  (λ (v, more, path, allowed, met). (v ∷ more, path, allowed, met)),
+)
+  where
+    by : (output : List Item) → IsPath problem.hierarchy.links problem.machine q rest output → AllByRecursion (IsAllowed problem.ranking bound) output
+        → HoldsNeeded problem.ranking bound.need output → Continues problem bound rest q false
+    by [] path allowed (v, held, is) = absurd (Contains-none v held)
+    by (v ∷ more) path allowed holds = (v, more, path, allowed, inr holds)
+
+-- the states of a triple from which something can be written
+pub continues_by : (problem : Problem) (bound : Bound) (rest : List Item) (triple : TripleSets) → IsTripleOf problem bound rest triple → (seen : Bool) (q : ℕ) → q ≤ length problem.machine.labels
+    → Has (continuing triple seen) q ↔ Continues problem bound rest q seen
+continues_by problem bound rest triple is true q state = is.more q state
+continues_by problem bound rest triple is false q state = both_ways (is.unseen q state) (continues-unseen problem bound rest q)
 
 -- the outputs of a kind at a state
 pub HasCell-of : (problem : Problem) (bound : Bound) (table : TableValue) (kinds : Kinds) (t : Item) (number k : ℕ) → AreColumns problem.machine.labels kinds.columns.numbers.items kinds.columns.heads.items

@@ -14,8 +14,8 @@ use Rattle.fst_compile.specs.declared.edge.Label.{Label}
 use Rattle.fst_compile.specs.Transducer.{IsPath, Enters, Leads}
 use Rattle.mining_job.specs.declared.bound.Bound.{Bound}
 use Rattle.mining_job.specs.Problems.{Problem, IsWhole}
-use Rattle.sequence_grids.specs.Grids.{IsAllowed, IsNeeded, HoldsNeeded, Completes, Ends, Reads, WritesRank}
-use Rattle.sequence_grids.specs.Kinds.{IsNeededRank, Goes, Needs, IsTarget}
+use Rattle.sequence_grids.specs.Grids.{IsAllowed, IsNeeded, HoldsNeeded, Completes, Continues, Ends, Reads, WritesRank}
+use Rattle.sequence_grids.specs.Kinds.{IsNeededRank, Writes, Goes, Needs, IsTarget}
 use Rattle.sequence_grids.proofs.KindLemmas.{rank_unique, nil-not-cons}
 
 -- what stands at an edge's target is what the edge carries
@@ -123,6 +123,41 @@ module _ (problem : Problem) (whole : IsWhole problem) where
         | inl silent ↦ (output, (path-step problem whole state t rest output).1 (next, [], output, leads, silent, refl, after), allowed, inl refl)
         | inr (rank, (v, has, low, reads)) ↦ (
           v ∷ output,
+          (path-step problem whole state t rest (v ∷ output)).1 (next, v ∷ [], output, leads, reads, refl, after),
+          ((rank, has, low), allowed),
+          inl refl,
+        )
+      ]),
+    )
+
+    pub more-step : (t : Item) (rest : List Item) (state : ℕ)
+        → Continues problem bound (t ∷ rest) state true
+        ↔ ((next : ℕ) × Leads problem.machine state next
+        × ((Reads problem t next [] × Continues problem bound rest next true) ⊎ (Writes problem bound t next × Completes problem bound rest next true)))
+    more-step t rest state = (
+      (λ (w, more, path, allowed, met).
+          let (next, leads, either) = path-first state t rest (w ∷ more) path in (
+            next,
+            leads,
+            elim either [
+              | inl (silent, after) ↦ inl (silent, (w, more, after, allowed, inl refl))
+              | inr (v, there, reads, same, after) ↦
+                  let all = subst (AllByRecursion (IsAllowed problem.ranking bound)) same allowed in
+                  let (rank, has, writes) = writes-rank t next v all.0 reads in
+                  inr ((rank, writes), (there, after, all.1, inl refl))
+            ],
+          )),
+      (λ (next, leads, either). elim either [
+        | inl (silent, (w, more, after, allowed, met)) ↦ (
+          w,
+          more,
+          (path-step problem whole state t rest (w ∷ more)).1 (next, [], w ∷ more, leads, silent, refl, after),
+          allowed,
+          inl refl,
+        )
+        | inr ((rank, (v, has, low, reads)), (output, after, allowed, met)) ↦ (
+          v,
+          output,
           (path-step problem whole state t rest (v ∷ output)).1 (next, v ∷ [], output, leads, reads, refl, after),
           ((rank, has, low), allowed),
           inl refl,

@@ -16,8 +16,8 @@ use Rattle.sequence_grids.specs.Tables.{ClassSets, TripleSets, TableValue, Grows
 use Rattle.sequence_grids.specs.Kinds.{IsClassFor, HasKind, AreKinds, IsMet, AreMet, KindsGrow, Extends}
 use Rattle.sequence_grids.specs.Places.{IsTripleOf, HasTriple, IsTableOf, IsPlaceAt, ArePlaces, AreFilled, IsAlphabetTo}
 use Rattle.mine_model.proofs.ElementLemmas.{get-left, stands_last}
-use Rattle.sequence_grids.proofs.KindLemmas.{HasKind-grow, LeadsInto-of}
-use Rattle.sequence_grids.proofs.PathLemmas.{target-of, ends-step, seen-step, unseen-step}
+use Rattle.sequence_grids.proofs.KindLemmas.{HasKind-grow, LeadsInto-of, nil-not-cons}
+use Rattle.sequence_grids.proofs.PathLemmas.{target-of, ends-step, seen-step, more-step, unseen-step}
 
 -- the triple of the end
 pub IsTripleOf-last : (problem : Problem) (bound : Bound) (triple : TripleSets) → IsLast problem.machine.finals triple → IsTripleOf problem bound [] triple
@@ -25,6 +25,10 @@ IsTripleOf-last problem bound triple last = record {
   seen = λ q state. (
     (λ has. ([], ((last.seen q).0 has, refl), tt, inl refl)),
     (λ (output, (final, nothing), allowed, met). (last.seen q).1 final),
+  );
+  more = λ q state. (
+    (λ has. absurd (last.more q has)),
+    (λ (v, more, (final, nothing), allowed, met). absurd (nil-not-cons v more (sym nothing))),
   );
   unseen = λ q state. (
     (λ has. absurd (last.unseen q has)),
@@ -54,6 +58,31 @@ IsTripleOf-step problem whole bound table is_table t rest class after before is_
         let (k, leads, goes, then') = (seen-step problem whole bound t rest q).0 completes in
         let target = target-of problem whole q k leads in
         (step.seen q).1 (k, (is_table.edges q k state).1 leads, (LeadsInto-of problem bound t class k is_class target).1 goes, (is_after.seen k target.1).1 then')),
+  );
+  more = λ q state. (
+    (λ has.
+        let (k, precedes, either) = (step.more q).0 has in
+        let leads = (is_table.edges q k state).0 precedes in
+        let target = target-of problem whole q k leads in
+        (more-step problem whole bound t rest q).1 (
+          k,
+          leads,
+          elim either [
+            | inl (silent, then') ↦ inl ((is_class.silent k target).0 silent, (is_after.more k target.1).0 then')
+            | inr (writes, then') ↦ inr ((is_class.writes k target).0 writes, (is_after.seen k target.1).0 then')
+          ],
+        )),
+    (λ continues.
+        let (k, leads, either) = (more-step problem whole bound t rest q).0 continues in
+        let target = target-of problem whole q k leads in
+        (step.more q).1 (
+          k,
+          (is_table.edges q k state).1 leads,
+          elim either [
+            | inl (silent, then') ↦ inl ((is_class.silent k target).1 silent, (is_after.more k target.1).1 then')
+            | inr (writes, then') ↦ inr ((is_class.writes k target).1 writes, (is_after.seen k target.1).1 then')
+          ],
+        )),
   );
   unseen = λ q state. (
     (λ has.

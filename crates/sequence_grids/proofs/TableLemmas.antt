@@ -101,7 +101,7 @@ IsTable-keep width predecessors classes triples kept after class triple number t
 -- ---- the sets of classes and triples
 
 abbrev pub triple_eq : {W : ℕ} → Triple W → Triple W → Bool
-triple_eq a b = a.seen == b.seen && (a.unseen == b.unseen && a.ends == b.ends)
+triple_eq a b = a.seen == b.seen && (a.more == b.more && (a.unseen == b.unseen && a.ends == b.ends))
 
 abbrev pub class_eq : {W : ℕ} → Class W → Class W → Bool
 class_eq a b = a.silent == b.silent && (a.writes == b.writes && a.needs == b.needs)
@@ -110,10 +110,12 @@ pub same_triple : {W : ℕ} (a b : Triple W) → triple_eq a b ≡ true → trip
 same_triple a b same =
     let first = and_parts _ _ same in
     let second = and_parts _ _ first.1 in
+    let third = and_parts _ _ second.1 in
     let seen : a.seen ≡ b.seen = eqb-true _ _ first.0 in
-    let unseen : a.unseen ≡ b.unseen = eqb-true _ _ second.0 in
-    let ends : a.ends ≡ b.ends = eqb-true _ _ second.1 in
-    rw (seen, unseen, ends)
+    let more : a.more ≡ b.more = eqb-true _ _ second.0 in
+    let unseen : a.unseen ≡ b.unseen = eqb-true _ _ third.0 in
+    let ends : a.ends ≡ b.ends = eqb-true _ _ third.1 in
+    rw (seen, more, unseen, ends)
 
 pub same_class : {W : ℕ} (a b : Class W) → class_eq a b ≡ true → class_sets a ≡ class_sets b
 same_class a b same =
@@ -196,8 +198,14 @@ words_bit width set words states q are room state =
 pub first_inserted : {X Y : Type 0} (f : X → Y) (eq : X → X → Bool) (before after : List X) (k : X) → before ≡ [] → after ≡ insert_key eq before k → map f after ≡ f k ∷ []
 first_inserted f eq before after k none are = rw (are, none) refl
 
-pub IsLast-of : (finals all : ℕ) → ((q : ℕ) → Has all q ↔ Has finals q) → (none : ℕ) → none ≡ 0 → IsLast finals (record { seen = all; unseen = none; ends = all })
-IsLast-of finals all are none is = record { seen = are; unseen = λ q has. Has-none q (rw is at has); ends = are }
+pub IsLast-of : (finals all : ℕ) → ((q : ℕ) → Has all q ↔ Has finals q) → (more none : ℕ) → more ≡ 0 → none ≡ 0
+    → IsLast finals (record { seen = all; more = more; unseen = none; ends = all })
+IsLast-of finals all are more none nothing is = record {
+  seen = are;
+  more = λ q has. Has-none q (rw nothing at has);
+  unseen = λ q has. Has-none q (rw is at has);
+  ends = are;
+}
 
 -- ---- copies
 

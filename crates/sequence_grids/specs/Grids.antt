@@ -32,6 +32,13 @@ Completes problem bound rest state seen =
     × AllByRecursion (IsAllowed problem.ranking bound) output
     × (IsTrue seen ⊎ HoldsNeeded problem.ranking bound.need output)
 
+-- the same of a path that writes something
+abbrev pub Continues : Problem → Bound → List Item → ℕ → Bool → Type 0
+Continues problem bound rest state seen =
+    (v : Item) × (more : List Item) × IsPath problem.hierarchy.links problem.machine state rest (v ∷ more)
+    × AllByRecursion (IsAllowed problem.ranking bound) (v ∷ more)
+    × (IsTrue seen ⊎ HoldsNeeded problem.ranking bound.need (v ∷ more))
+
 -- some path from the state over the rest of a sequence ends in a final state and writes nothing
 abbrev pub Ends : Problem → List Item → ℕ → Type 0
 Ends problem rest state = IsPath problem.hierarchy.links problem.machine state rest []

@@ -7,7 +7,7 @@ use Rattle.mining_job.specs.declared.bound.Bound.{Bound}
 use Rattle.sequence_grids.specs.declared.kinds.Kinds.{Kinds}
 use Rattle.sequence_grids.specs.declared.places.Place.{Place}
 use Rattle.mining_job.specs.Problems.{Problem, items_of}
-use Rattle.sequence_grids.specs.Grids.{Completes, Ends}
+use Rattle.sequence_grids.specs.Grids.{Completes, Continues, Ends}
 use Rattle.sequence_grids.specs.Tables.{TripleSets, TableValue, Precedes, IsLast}
 use Rattle.sequence_grids.specs.Kinds.{HasKind, AreMet, AreKinds}
 
@@ -16,6 +16,8 @@ pub record IsTripleOf (problem : Problem) (bound : Bound) (rest : List Item) (tr
     : Type 0 where
   pub seen : (q : ℕ) → q ≤ length problem.machine.labels
       → Has triple.seen q ↔ Completes problem bound rest q true
+  pub more : (q : ℕ) → q ≤ length problem.machine.labels
+      → Has triple.more q ↔ Continues problem bound rest q true
   pub unseen : (q : ℕ) → q ≤ length problem.machine.labels
       → Has triple.unseen q ↔ Completes problem bound rest q false
   pub ends : (q : ℕ) → q ≤ length problem.machine.labels → Has triple.ends q ↔ Ends problem rest q

@@ -13,10 +13,11 @@ pub record ClassSets : Type 0 where
   pub writes : ℕ
   pub needs : ℕ
 
--- the states that complete where what is needed was seen, those that complete where it was not, those that
--- end
+-- the states that complete where what is needed was seen, those of them from which something can be written,
+-- those that complete where it was not seen, those that end
 pub record TripleSets : Type 0 where
   pub seen : ℕ
+  pub more : ℕ
   pub unseen : ℕ
   pub ends : ℕ
 
@@ -25,7 +26,8 @@ abbrev pub class_sets : {W : ℕ} → Class W → ClassSets
 class_sets class = record { silent = class.silent; writes = class.writes; needs = class.needs }
 
 abbrev pub triple_sets : {W : ℕ} → Triple W → TripleSets
-triple_sets triple = record { seen = triple.seen; unseen = triple.unseen; ends = triple.ends }
+triple_sets triple =
+    record { seen = triple.seen; more = triple.more; unseen = triple.unseen; ends = triple.ends }
 
 -- an edge leads from the state to the other one
 abbrev pub Precedes : List ℕ → ℕ → ℕ → Type 0
@@ -43,6 +45,9 @@ LeadsInto class k = Has class.silent k ⊎ Has class.writes k
 pub record IsStep (predecessors : List ℕ) (class : ClassSets) (after before : TripleSets) : Type 0 where
   pub seen : (q : ℕ) → Has before.seen q
       ↔ ((k : ℕ) × Precedes predecessors q k × LeadsInto class k × Has after.seen k)
+  pub more : (q : ℕ) → Has before.more q
+      ↔ ((k : ℕ) × Precedes predecessors q k
+      × ((Has class.silent k × Has after.more k) ⊎ (Has class.writes k × Has after.seen k)))
   pub unseen : (q : ℕ) → Has before.unseen q
       ↔ ((k : ℕ) × Precedes predecessors q k
       × ((LeadsInto class k × Has after.unseen k) ⊎ (Has class.needs k × Has after.seen k)))
@@ -73,6 +78,7 @@ IsStepAt predecessors classes triples class after before =
 -- the triple of the end of all sequences
 pub record IsLast (finals : ℕ) (triple : TripleSets) : Type 0 where
   pub seen : (q : ℕ) → Has triple.seen q ↔ Has finals q
+  pub more : (q : ℕ) → Has triple.more q → ⊥
   pub unseen : (q : ℕ) → Has triple.unseen q → ⊥
   pub ends : (q : ℕ) → Has triple.ends q ↔ Has finals q
 
@@ -112,3 +118,8 @@ pub record IsClassOf (class : ClassSets) (silent writes needs : List ℕ) : Type
 abbrev pub completing : TripleSets → Bool → ℕ
 completing triple true = triple.seen
 completing triple false = triple.unseen
+
+-- the states from which something can be written, and what is needed was seen or is written, too
+abbrev pub continuing : TripleSets → Bool → ℕ
+continuing triple true = triple.more
+continuing triple false = triple.unseen

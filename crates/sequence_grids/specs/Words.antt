@@ -16,5 +16,6 @@ pub record AreClassWords (states : ℕ) (class : ClassSets) (words : Words) : Ty
 -- the words are those of the triple
 pub record AreTripleWords (states : ℕ) (triple : TripleSets) (words : Words) : Type 0 where
   pub seen : AreWordsOf states triple.seen words.seen.now
+  pub more : AreWordsOf states triple.more words.more.now
   pub unseen : AreWordsOf states triple.unseen words.unseen.now
   pub ending : AreWordsOf states triple.ends words.ending.now

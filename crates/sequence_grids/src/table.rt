@@ -26,22 +26,25 @@ pub(crate) struct Class<const W: usize> {
     pub(crate) needs: StateSet<W>,
 }
 
-/// The states that complete at a place where what is needed was seen, those that complete where it was not,
-/// and those that end.
+/// The states that complete at a place where what is needed was seen, those of them from which something can
+/// be written, those that complete where it was not seen, and those that end.
 #[derive(Clone, Copy, Debug, PartialEq, Eq, Hash)]
 pub(crate) struct Triple<const W: usize> {
     pub(crate) seen: StateSet<W>,
+    pub(crate) more: StateSet<W>,
     pub(crate) unseen: StateSet<W>,
     pub(crate) ends: StateSet<W>,
 }
 
 /// The states that an item leads into without an output and with one, those that complete behind it where
-/// what is needed was seen and where it was not, and those that end there, as words.
+/// what is needed was seen, those of them from which something can be written, those that complete where it
+/// was not seen, and those that end there, as words.
 #[derive(Clone, Copy, Debug)]
 pub struct Words<'a> {
     pub silent: &'a [u64],
     pub writing: &'a [u64],
     pub seen: &'a [u64],
+    pub more: &'a [u64],
     pub unseen: &'a [u64],
     pub ending: &'a [u64],
 }
@@ -103,6 +106,7 @@ impl<const W: usize> Table<W> {
         let mut triples = IndexSet::new(alloc);
         triples.insert(Triple {
             seen: finals,
+            more: StateSet::new(),
             unseen: StateSet::new(),
             ends: finals,
         })?;
@@ -224,6 +228,7 @@ impl<const W: usize> Table<W> {
             silent: class.silent.words(),
             writing: class.writes.words(),
             seen: after.seen.words(),
+            more: after.more.words(),
             unseen: after.unseen.words(),
             ending: after.ends.words(),
         }
@@ -441,10 +446,13 @@ fn before<const W: usize>(
 {
     let mut into = class.silent;
     into.union_with(&class.writes);
+    let mut more = both(&class.silent, &after.more);
+    more.union_with(&both(&class.writes, &after.seen));
     let mut unseen = both(&into, &after.unseen);
     unseen.union_with(&both(&class.needs, &after.seen));
     Triple {
         seen: neighbours(predecessors, &both(&into, &after.seen)),
+        more: neighbours(predecessors, &more),
         unseen: neighbours(predecessors, &unseen),
         ends: neighbours(predecessors, &both(&class.silent, &after.ends)),
     }

@@ -12,7 +12,8 @@ use Rattle.mine_model.proofs.FrequencyLemmas.{Counts-none}
 use Rattle.mine_model.proofs.ListLemmas.{of_both, Contains-none}
 use Rattle.mine_model.proofs.RankedLemmas.{ranked-push}
 use Rattle.mining_job.specs.Problems.{IsWhole, items_of}
-use Rattle.sequence_grids.specs.Grids.{GridList, HoldsNeeded, Completes}
+use Rattle.sequence_grids.specs.Grids.{GridList, HoldsNeeded, Completes, Continues}
+use Rattle.sequence_grids.proofs.GridLemmas.{continues-unseen}
 use Rattle.snapshot_project.specs.declared.snapshot.Snapshot.{Snapshot}
 use Rattle.snapshot_project.specs.Aims.{sees, goes}
 use Rattle.snapshot_project.specs.Snapshots.{HasSnapshot, WritesOn, IsSnapshotOf, IsOpen, ComesBefore, SnapshotList, MayGoOn, AreSnapshots}
@@ -124,9 +125,10 @@ module _ (part : GridList) (whole : IsWhole part.problem) where
         let (known, first, start, completes) = (exact snapshot).0 held in
         let items = items_of part.problem snapshot.sequence in
         let unseen_goes : goes list.seen part.bound.need ≡ false = ap (λ (b : Bool). goes b part.bound.need) unseen ∙ goes-unseen part.bound.need in
-        subst (Completes part.problem part.bound (drop snapshot.position items) snapshot.state) (sym unseen_goes)
-        (subst (λ (q : ℕ). Completes part.problem part.bound (drop snapshot.position items) q false) (sym start)
-        (subst (λ (k : ℕ). Completes part.problem part.bound (drop k items) 0 false) (sym first) completes));
+        subst (Continues part.problem part.bound (drop snapshot.position items) snapshot.state) (sym unseen_goes)
+        (subst (λ (q : ℕ). Continues part.problem part.bound (drop snapshot.position items) q false) (sym start)
+        (subst (λ (k : ℕ). Continues part.problem part.bound (drop k items) 0 false) (sym first)
+        ((continues-unseen part.problem part.bound items 0).0 completes)));
     all = λ snapshot is on.
         let (known, has) = is in
         let (first, start, completes) = (snapshot-start part.problem part.bound (items_of part.problem snapshot.sequence) snapshot.position snapshot.state).0 has in

@@ -1,27 +1,18 @@
 -- Which snapshots a list has.
-use Rattle.std.proofs.Common.{◌≡◌, ◌↔◌, ℕ, inl, inr, false, true≢false, List, [], ◌∷◌, ◌++◌, drop, refl, sym, subst}
+use Rattle.std.proofs.Common.{◌≡◌, ◌↔◌, ℕ, inl, inr, List, [], ◌∷◌, ◌++◌, refl, subst}
 use Rattle.std.specs.List.{Contains}
 use Rattle.mine_model.specs.declared.item.Item.{Item}
 use Rattle.mine_model.proofs.RankedLemmas.{ranked-push}
 use Rattle.mining_job.specs.Problems.{items_of}
-use Rattle.sequence_grids.specs.Grids.{GridList, Completes}
+use Rattle.sequence_grids.specs.Grids.{GridList}
 use Rattle.snapshot_project.specs.declared.snapshot.Snapshot.{Snapshot}
-use Rattle.snapshot_project.specs.Aims.{goes}
 use Rattle.snapshot_project.specs.Extensions.{GrowsBehind}
-use Rattle.snapshot_project.specs.Snapshots.{IsPart, WritesOn, IsOpen, SnapshotList, AreSnapshots}
-use Rattle.snapshot_project.proofs.NeedLemmas.{needed-none, needed-append}
+use Rattle.snapshot_project.specs.Snapshots.{IsPart, IsOpen, SnapshotList, AreSnapshots}
+use Rattle.snapshot_project.proofs.NeedLemmas.{needed-append}
 use Rattle.snapshot_project.proofs.SnapshotLemmas.{written-behind}
 use Rattle.snapshot_project.proofs.OpenLemmas.{writes-begins}
+use Rattle.snapshot_project.proofs.WalkLemmas.{goes-seen}
 use Rattle.snapshot_project.proofs.ExtensionLemmas.{ranked-allowed, grows-next}
-
--- a path that lacks what is needed writes something
-unseen-opens : (part : GridList) (prefix rest : List Item) (state : ℕ) → Completes part.problem part.bound rest state false
-    → WritesOn part.problem part.bound prefix rest state
-unseen-opens part prefix rest state ([], path, allowed, inl never) = absurd (true≢false (sym never))
-unseen-opens part prefix rest state ([], path, allowed, inr holds) = absurd (needed-none part.problem.ranking part.bound.need holds)
-unseen-opens part prefix rest state (v ∷ more, path, allowed, inl never) = absurd (true≢false (sym never))
-unseen-opens part prefix rest state (v ∷ more, path, allowed, inr holds) =
-    (v, more, path, allowed, (needed-append part.problem.ranking part.bound.need prefix (v ∷ more)).1 (inr holds))
 
 module _ (part : GridList) (ranks : List ℕ) (list : SnapshotList) (are : AreSnapshots part ranks list) where
   -- more is written from a snapshot of a sequence exactly where the sequence has a longer pattern
@@ -45,9 +36,14 @@ module _ (part : GridList) (ranks : List ℕ) (list : SnapshotList) (are : AreSn
         (here, are.all here (inside, at) on, refl, on)),
   )
 
-  -- where a path goes on by what it writes, more is written from each
-  pub held-open : goes list.seen part.bound.need ≡ false → (snapshot : Snapshot) → Contains list.snapshots snapshot → IsOpen part are.prefix snapshot
-  held-open unseen snapshot held =
-      let rest = drop snapshot.position (items_of part.problem snapshot.sequence) in
-      unseen-opens part are.prefix rest snapshot.state
-      (subst (Completes part.problem part.bound rest snapshot.state) unseen (are.on snapshot held))
+  -- more is written from each
+  pub held-open : (snapshot : Snapshot) → Contains list.snapshots snapshot → IsOpen part are.prefix snapshot
+  held-open snapshot held =
+      let (v, more, path, allowed, met) = are.on snapshot held in (
+        v,
+        more,
+        path,
+        allowed,
+        (needed-append part.problem.ranking part.bound.need are.prefix (v ∷ more)).1
+            (elim (goes-seen part.problem.ranking part.bound.need list.seen (v ∷ more) met) [ inl seen ↦ inl (are.seen.0 seen) | inr holds ↦ inr holds ]),
+      )

@@ -8,7 +8,7 @@ use Rattle.mine_model.proofs.ListLemmas.{Contains-first}
 use Rattle.fst_compile.specs.Transducer.{Leads}
 use Rattle.mining_job.specs.declared.bound.Bound.{Bound}
 use Rattle.mining_job.specs.Problems.{Problem, IsWhole}
-use Rattle.sequence_grids.specs.Grids.{HoldsNeeded, Completes, Reads, WritesRank}
+use Rattle.sequence_grids.specs.Grids.{HoldsNeeded, Completes, Continues, Reads, WritesRank}
 use Rattle.snapshot_project.specs.Aims.{goes}
 use Rattle.snapshot_project.specs.Runs.{IsRun}
 use Rattle.snapshot_project.specs.Snapshots.{CompletesBehind, HasSnapshot, WritesOn}
@@ -43,9 +43,9 @@ module _ (problem : Problem) (bound : Bound) (prefix : List Item) where
 
   -- and goes on as it has to
   pub open-goes : (seen : Bool) → IsTrue seen ↔ HoldsNeeded problem.ranking bound.need prefix → (rest : List Item) (state : ℕ)
-      → WritesOn problem bound prefix rest state → Completes problem bound rest state (goes seen bound.need)
+      → WritesOn problem bound prefix rest state → Continues problem bound rest state (goes seen bound.need)
   open-goes seen is rest state (v, more, path, allowed, holds) =
-      (v ∷ more, path, allowed, goes-needed problem.ranking bound.need seen prefix v more is holds)
+      (v, more, path, allowed, goes-needed problem.ranking bound.need seen prefix v more is holds)
 
   -- before a silent run from where more can be written it can be written too
   pub open-back : (from : ℕ) (quiet rest : List Item) (to : ℕ) → IsRun problem from quiet [] to

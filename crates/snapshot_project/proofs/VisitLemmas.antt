@@ -12,7 +12,8 @@ use Rattle.mine_model.proofs.ListLemmas.{Contains-cases, Contains-first, Contain
 use Rattle.fst_compile.specs.Transducer.{Leads}
 use Rattle.mining_job.specs.declared.bound.Bound.{Bound}
 use Rattle.mining_job.specs.Problems.{Problem}
-use Rattle.sequence_grids.specs.Grids.{GridList, HoldsNeeded, Completes, Ends, WritesRank, items_at}
+use Rattle.sequence_grids.specs.Grids.{GridList, HoldsNeeded, Completes, Continues, Ends, WritesRank, items_at}
+use Rattle.sequence_grids.proofs.GridLemmas.{both_ways, continues-unseen}
 use Rattle.place_walk.specs.declared.visit.Visit.{Visit}
 use Rattle.stand_sums.specs.declared.aim.Aim.{Aim}
 use Rattle.stand_sums.specs.Aims.{sees_with}
@@ -52,16 +53,16 @@ goes-on_seen (Some need) = refl
 
 -- what completes where what is needed was seen writes more, as it has to, or ends
 completes-either : (problem : Problem) (bound : Bound) (rest : List Item) (state : ℕ) → Completes problem bound rest state true
-    → Completes problem bound rest state (goes_with bound.need) ⊎ Ends problem rest state
+    → Continues problem bound rest state (goes_with bound.need) ⊎ Ends problem rest state
 completes-either problem bound rest state completes = by bound.need refl completes
   where
     by : (need : Option ℕ) → bound.need ≡ need → Completes problem bound rest state true
-        → Completes problem bound rest state (goes_with bound.need) ⊎ Ends problem rest state
-    by (Some need) is (output, path, allowed, met) = inl (output, path, allowed, inl (ap goes_with is))
-    by None is ([], path, allowed, met) = inr path
+        → Continues problem bound rest state (goes_with bound.need) ⊎ Ends problem rest state
+    by need is ([], path, allowed, met) = inr path
+    by (Some need) is (v ∷ output, path, allowed, met) = inl (v, output, path, allowed, inl (ap goes_with is))
     by None is (v ∷ output, path, allowed, met) =
         let holds : HoldsNeeded problem.ranking None (v ∷ output) = (v, Contains-first v output, tt) in
-        inl (v ∷ output, path, allowed, inr (subst (λ (need : Option ℕ). HoldsNeeded problem.ranking need (v ∷ output)) (sym is) holds))
+        inl (v, output, path, allowed, inr (subst (λ (need : Option ℕ). HoldsNeeded problem.ranking need (v ∷ output)) (sym is) holds))
 
 -- ---- what one visit says
 
@@ -76,7 +77,7 @@ module _ (part : GridList) (prefix : List Item) (grid : ℕ) (ranks : Ranks) (Ca
     pub asked : CanAsk visit.kind visit.action.state
     pub ranks_are : AreRanksAt part.problem part.bound t ranks visit.kind visit.action.state
     pub completes : Completes part.problem part.bound (drop (at + 1) (items_at part grid)) visit.action.state true
-    pub more : IsTrue visit.action.more ↔ Completes part.problem part.bound (drop (at + 1) (items_at part grid)) visit.action.state (goes_with part.bound.need)
+    pub more : IsTrue visit.action.more ↔ Continues part.problem part.bound (drop (at + 1) (items_at part grid)) visit.action.state (goes_with part.bound.need)
     pub unseen : IsTrue visit.action.unseen ↔ Completes part.problem part.bound (drop (at + 1) (items_at part grid)) visit.action.state false
     pub ends : IsTrue visit.action.ends ↔ Ends part.problem (drop (at + 1) (items_at part grid)) visit.action.state
 
@@ -120,13 +121,14 @@ module _ (part : GridList) (prefix : List Item) (grid : ℕ) (ranks : Ranks) (Ca
 
       -- whether a path goes on, with what is needed seen or not
       on-is : (b : Bool) → IsTrue (if b then visit.action.more else visit.action.unseen)
-          ↔ Completes part.problem part.bound (drop (at + 1) (items_at part grid)) visit.action.state (goes b part.bound.need)
+          ↔ Continues part.problem part.bound (drop (at + 1) (items_at part grid)) visit.action.state (goes b part.bound.need)
       on-is true =
-          subst (λ (b : Bool). IsTrue visit.action.more ↔ Completes part.problem part.bound (drop (at + 1) (items_at part grid)) visit.action.state b)
+          subst (λ (b : Bool). IsTrue visit.action.more ↔ Continues part.problem part.bound (drop (at + 1) (items_at part grid)) visit.action.state b)
           (sym (goes-on_seen part.bound.need)) read.more
       on-is false =
-          subst (λ (b : Bool). IsTrue visit.action.unseen ↔ Completes part.problem part.bound (drop (at + 1) (items_at part grid)) visit.action.state b)
-          (sym (goes-unseen part.bound.need)) read.unseen
+          subst (λ (b : Bool). IsTrue visit.action.unseen ↔ Continues part.problem part.bound (drop (at + 1) (items_at part grid)) visit.action.state b)
+          (sym (goes-unseen part.bound.need))
+          (both_ways read.unseen (continues-unseen part.problem part.bound (drop (at + 1) (items_at part grid)) visit.action.state))
 
       -- it goes on or ends just where it completes
       any-is : (b : Bool) → IsTrue ((if b then visit.action.more else visit.action.unseen) || (b && visit.action.ends))
@@ -191,12 +193,12 @@ module _ (part : GridList) (prefix : List Item) (grid : ℕ) (ranks : Ranks) (Ca
 
       pub read-opens : IsTrue (opens ranks aim rank visit)
           ↔ (WritesNext part.problem part.bound (items_at part grid) prefix rank at visit.action.state
-          × Completes part.problem part.bound (drop (at + 1) (items_at part grid)) visit.action.state (goes (sees seen part.bound.need rank) part.bound.need))
+          × Continues part.problem part.bound (drop (at + 1) (items_at part grid)) visit.action.state (goes (sees seen part.bound.need rank) part.bound.need))
       read-opens =
           let on : IsTrue (goes_on aim rank visit.action)
-          ↔ Completes part.problem part.bound (drop (at + 1) (items_at part grid)) visit.action.state (goes (sees seen part.bound.need rank) part.bound.need) =
+          ↔ Continues part.problem part.bound (drop (at + 1) (items_at part grid)) visit.action.state (goes (sees seen part.bound.need rank) part.bound.need) =
           subst (λ (b : Bool). IsTrue (goes_on aim rank visit.action)
-          ↔ Completes part.problem part.bound (drop (at + 1) (items_at part grid)) visit.action.state (goes b part.bound.need)) (sees-same seen part.bound.need rank)
+          ↔ Continues part.problem part.bound (drop (at + 1) (items_at part grid)) visit.action.state (goes b part.bound.need)) (sees-same seen part.bound.need rank)
           (on-is (sees_with seen part.bound.need rank)) in (
             (λ both.
                 let (writes_it, goes_it) = and_parts (writes ranks rank visit) (goes_on aim rank visit.action) both in

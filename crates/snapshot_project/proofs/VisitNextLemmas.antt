@@ -7,7 +7,7 @@ use Rattle.state_bits.specs.Members.{Has}
 use Rattle.mine_model.specs.declared.item.Item.{Item}
 use Rattle.mine_model.proofs.ElementLemmas.{get-some}
 use Rattle.fst_compile.specs.Transducer.{Leads}
-use Rattle.sequence_grids.specs.Grids.{GridList, HoldsNeeded, Completes, items_at}
+use Rattle.sequence_grids.specs.Grids.{GridList, HoldsNeeded, Continues, items_at}
 use Rattle.sequence_grids.specs.Kinds.{IsTarget}
 use Rattle.sequence_grids.specs.Successors.{AreSuccessors}
 use Rattle.sequence_grids.proofs.GridLemmas.{both_ways}
@@ -192,15 +192,15 @@ module _ (part : GridList) (is : IsPart part) (width : ℕ) (rows : List ℕ) (r
         (λ (before, position_is, next, completes).
             let (visit, held, place, state_is) = written-visit before state next in
             let opening = read-opens part prefix grid ranks CanAsk before visit (visit-read visit held before place) seen seen-is rank in
-            let on : Completes part.problem part.bound (drop (before + 1) (items_at part grid)) state (goes (sees seen part.bound.need rank) part.bound.need) =
-            subst (λ (p : ℕ). Completes part.problem part.bound (drop p (items_at part grid)) state (goes (sees seen part.bound.need rank) part.bound.need)) position_is completes in (
+            let on : Continues part.problem part.bound (drop (before + 1) (items_at part grid)) state (goes (sees seen part.bound.need rank) part.bound.need) =
+            subst (λ (p : ℕ). Continues part.problem part.bound (drop p (items_at part grid)) state (goes (sees seen part.bound.need rank) part.bound.need)) position_is completes in (
               visit,
               held,
               place ∙ ap (λ (p : ℕ). start_of part grid + p) (sym position_is),
               state_is,
               opening.1 (
                 subst (WritesNext part.problem part.bound (items_at part grid) prefix rank before) (sym state_is) next,
-                subst (λ (q : ℕ). Completes part.problem part.bound (drop (before + 1) (items_at part grid)) q (goes (sees seen part.bound.need rank) part.bound.need)) (sym state_is) on,
+                subst (λ (q : ℕ). Continues part.problem part.bound (drop (before + 1) (items_at part grid)) q (goes (sees seen part.bound.need rank) part.bound.need)) (sym state_is) on,
               ),
             )),
         (λ (visit, held, place, state_is, opens_it).
@@ -210,12 +210,12 @@ module _ (part : GridList) (is : IsPart part) (width : ℕ) (rows : List ℕ) (r
             let position_is : position ≡ before + 1 = omega arith in
             let opening = read-opens part prefix grid ranks CanAsk before visit (visit-read visit held before behind) seen seen-is rank in
             let (next, completes) = opening.0 opens_it in
-            let on : Completes part.problem part.bound (drop position (items_at part grid)) visit.action.state (goes (sees seen part.bound.need rank) part.bound.need) =
-            subst (λ (p : ℕ). Completes part.problem part.bound (drop p (items_at part grid)) visit.action.state (goes (sees seen part.bound.need rank) part.bound.need)) (sym position_is) completes in (
+            let on : Continues part.problem part.bound (drop position (items_at part grid)) visit.action.state (goes (sees seen part.bound.need rank) part.bound.need) =
+            subst (λ (p : ℕ). Continues part.problem part.bound (drop p (items_at part grid)) visit.action.state (goes (sees seen part.bound.need rank) part.bound.need)) (sym position_is) completes in (
               before,
               position_is,
               subst (WritesNext part.problem part.bound (items_at part grid) prefix rank before) state_is next,
-              subst (λ (q : ℕ). Completes part.problem part.bound (drop position (items_at part grid)) q (goes (sees seen part.bound.need rank) part.bound.need)) state_is on,
+              subst (λ (q : ℕ). Continues part.problem part.bound (drop position (items_at part grid)) q (goes (sees seen part.bound.need rank) part.bound.need)) state_is on,
             )),
       )
 

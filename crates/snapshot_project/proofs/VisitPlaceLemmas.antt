@@ -1,5 +1,5 @@
 -- Where the paths of a prefix are among the places of one sequence: at its live states.
-use Rattle.std.proofs.Common.{◌≡◌, ◌↔◌, ℕ, zero, suc, ◌+◌, ◌-◌, ◌≤◌, ◌<◌, ◌⊎◌, inl, inr, Bool, true, false, Some, List, [], length, get_or, drop, refl, sym, ap, ◌∙◌, subst, arith}
+use Rattle.std.proofs.Common.{◌≡◌, ◌↔◌, ℕ, zero, suc, ◌+◌, ◌-◌, ◌≤◌, ◌<◌, ◌⊎◌, inl, inr, Bool, true, false, Some, List, [], ◌∷◌, length, get_or, drop, refl, sym, ap, ◌∙◌, subst, arith}
 use Rattle.std.specs.List.{All, AllZip, Contains, slice_get, slice_index}
 use Rattle.std.proofs.lemmas.Bool.{cases_lt}
 use Rattle.std.proofs.lemmas.List.Elements.{Contains-get_or}
@@ -8,7 +8,7 @@ use Rattle.mine_model.specs.declared.item.Item.{Item}
 use Rattle.fst_compile.specs.Transducer.{Leads}
 use Rattle.mining_job.specs.declared.bound.Bound.{Bound}
 use Rattle.mining_job.specs.Problems.{Problem, IsWhole}
-use Rattle.sequence_grids.specs.Grids.{GridList, Completes, Reads, items_at}
+use Rattle.sequence_grids.specs.Grids.{GridList, Continues, Reads, items_at}
 use Rattle.sequence_grids.specs.Kinds.{IsTarget}
 use Rattle.sequence_grids.specs.Successors.{AreSuccessors}
 use Rattle.sequence_grids.proofs.GridLemmas.{item_there}
@@ -35,14 +35,15 @@ use Rattle.snapshot_project.proofs.GroupLemmas.{zip-known}
 use Rattle.snapshot_project.proofs.StandLemmas.{zip-back}
 use Rattle.snapshot_project.proofs.WalkLemmas.{arrives-completes, useful-live, live-useful}
 
--- a state from which a silent edge leads to one that completes behind the item completes before it
-pub completes-earlier : (problem : Problem) → IsWhole problem → (bound : Bound) (items : List Item) (position : ℕ) (t : Item) → slice_get items position ≡ Some t
-    → (from state : ℕ) → Leads problem.machine from state → Reads problem t state [] → (on : Bool) → Completes problem bound (drop (position + 1) items) state on
-    → Completes problem bound (drop position items) from on
-completes-earlier problem whole bound items position t here from state leads reads on (output, path, allowed, met) =
-    subst (λ (rest : List Item). Completes problem bound rest from on) (sym (cut-rest items position t here)) (
-      output,
-      (path-step problem whole from t (drop (position + 1) items) output).1 (state, [], output, leads, reads, refl, path),
+-- from a state from which a silent edge leads to one that writes on behind the item a path writes on before it
+pub continues-earlier : (problem : Problem) → IsWhole problem → (bound : Bound) (items : List Item) (position : ℕ) (t : Item) → slice_get items position ≡ Some t
+    → (from state : ℕ) → Leads problem.machine from state → Reads problem t state [] → (on : Bool) → Continues problem bound (drop (position + 1) items) state on
+    → Continues problem bound (drop position items) from on
+continues-earlier problem whole bound items position t here from state leads reads on (v, more, path, allowed, met) =
+    subst (λ (rest : List Item). Continues problem bound rest from on) (sym (cut-rest items position t here)) (
+      v,
+      more,
+      (path-step problem whole from t (drop (position + 1) items) (v ∷ more)).1 (state, [], v ∷ more, leads, reads, refl, path),
       allowed,
       met,
     )
@@ -177,7 +178,7 @@ module _ (part : GridList) (places : List Record) (early late : List MoveSets) (
         let leads_to : Leads part.problem.machine from state = (row-leads from state (either-within before from earlier)).0 leads in
         let move_is : move ≡ met.move = one-move course (start_of part grid + before) met.entry entry met.move move met.holds holds in
         let (reads, completes) = (met.does state (target-of part.problem whole from state leads_to)).silent.0 (subst (λ (m : MoveSets). Has m.silent state) move_is silent) in
-        let before_it = completes-earlier part.problem whole part.bound (items_at part grid) before t here from state leads_to reads on completes in
+        let before_it = continues-earlier part.problem whole part.bound (items_at part grid) before t here from state leads_to reads on completes in
         (t, from, here, (earlier, before_it), leads_to, reads, completes)
 
     arrives-up : (position state : ℕ) → Arrives part.problem part.bound (items_at part grid) snapshots on position state

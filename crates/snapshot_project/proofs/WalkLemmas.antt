@@ -1,5 +1,5 @@
 -- A walk over the positions of one sequence, with the live states from which a path goes on as it has to.
-use Rattle.std.proofs.Common.{◌≡◌, ◌↔◌, ℕ, zero, suc, ◌+◌, ◌-◌, ◌≤◌, ◌<◌, ◌⊎◌, inl, inr, Bool, true, ◌||◌, ◌==◌, IsTrue, Option, Some, None, List, [], drop, refl, sym, ap, ◌∙◌, subst, arith, rules}
+use Rattle.std.proofs.Common.{◌≡◌, ◌↔◌, ℕ, zero, suc, ◌+◌, ◌-◌, ◌≤◌, ◌<◌, ◌⊎◌, inl, inr, Bool, true, ◌||◌, ◌==◌, IsTrue, Option, Some, None, List, [], ◌∷◌, drop, refl, sym, ap, ◌∙◌, subst, arith, rules}
 use Rattle.std.specs.List.{slice_get}
 use Rattle.std.proofs.lemmas.Bool.{cases_Bool, cases_lt, or_cases}
 use Rattle.std.proofs.lemmas.Bool.Decides.{Decides-eqb}
@@ -9,7 +9,7 @@ use Rattle.mine_model.specs.declared.item.Item.{Item}
 use Rattle.mine_model.specs.Ranks.{Ranking}
 use Rattle.mining_job.specs.declared.bound.Bound.{Bound}
 use Rattle.mining_job.specs.Problems.{Problem, IsWhole}
-use Rattle.sequence_grids.specs.Grids.{HoldsNeeded, Completes, Reads, WritesRank}
+use Rattle.sequence_grids.specs.Grids.{HoldsNeeded, Completes, Continues, Reads, WritesRank}
 use Rattle.sequence_grids.specs.Kinds.{IsNeededRank}
 use Rattle.sequence_grids.specs.Successors.{LeadsFrom}
 use Rattle.snapshot_project.specs.declared.snapshot.Snapshot.{Snapshot}
@@ -26,7 +26,7 @@ one-item : (items : List Item) (position : ℕ) (t u : Item) → slice_get items
 one-item items position t u here there = same_Some u t (sym there ∙ here)
 
 -- what a path that goes on owes is no less than what is owed
-goes-seen : (ranking : Ranking) (need : Option ℕ) (seen : Bool) (output : List Item)
+pub goes-seen : (ranking : Ranking) (need : Option ℕ) (seen : Bool) (output : List Item)
     → (IsTrue (goes seen need) ⊎ HoldsNeeded ranking need output) → IsTrue seen ⊎ HoldsNeeded ranking need output
 goes-seen ranking None seen output (inl no') = absurd (search rules)
 goes-seen ranking None seen output (inr holds) = inr holds
@@ -57,7 +57,7 @@ module _ (problem : Problem) (bound : Bound) (items : List Item) (group : List S
   module _ (position : ℕ) (t : Item) (here : slice_get items position ≡ Some t) (live : ℕ)
       (lives : (state : ℕ) → Has live state ↔ IsUseful problem bound items group on position state) where
     arrives-at : (state : ℕ) → Arrives problem bound items group on (suc position) state
-        ↔ (LeadsFrom problem.machine live state × Reads problem t state [] × Completes problem bound (drop (position + 1) items) state on)
+        ↔ (LeadsFrom problem.machine live state × Reads problem t state [] × Continues problem bound (drop (position + 1) items) state on)
     arrives-at state = (
       (λ (u, from, there, useful, leads, reads, completes). (
         (from, (lives from).1 useful, leads),
@@ -69,18 +69,18 @@ module _ (problem : Problem) (bound : Bound) (items : List Item) (group : List S
 
     -- what arrives behind the item at the position
     pub arrives-next : (state : ℕ) → Arrives problem bound items group on (position + 1) state
-        ↔ (LeadsFrom problem.machine live state × Reads problem t state [] × Completes problem bound (drop (position + 1) items) state on)
+        ↔ (LeadsFrom problem.machine live state × Reads problem t state [] × Continues problem bound (drop (position + 1) items) state on)
     arrives-next state =
         let next : suc position ≡ position + 1 = omega arith in
         subst (λ (k : ℕ). Arrives problem bound items group on k state
-        ↔ (LeadsFrom problem.machine live state × Reads problem t state [] × Completes problem bound (drop (position + 1) items) state on)) next
+        ↔ (LeadsFrom problem.machine live state × Reads problem t state [] × Continues problem bound (drop (position + 1) items) state on)) next
         (arrives-at state)
 
   -- what arrives completes as it has to
-  pub arrives-completes : (position state : ℕ) → Arrives problem bound items group on position state → Completes problem bound (drop position items) state on
+  pub arrives-completes : (position state : ℕ) → Arrives problem bound items group on position state → Continues problem bound (drop position items) state on
   arrives-completes zero state arrives = absurd arrives
   arrives-completes (suc before) state (t, from, here, useful, leads, reads, completes) =
-      let next : suc before ≡ before + 1 = omega arith in subst (λ (k : ℕ). Completes problem bound (drop k items) state on) (sym next) completes
+      let next : suc before ≡ before + 1 = omega arith in subst (λ (k : ℕ). Continues problem bound (drop k items) state on) (sym next) completes
 
   -- ---- where nothing is left
 
@@ -127,8 +127,8 @@ module _ (problem : Problem) (whole : IsWhole problem) (bound : Bound) (items pr
   writes-few position rank state (t, from, here, live, leads, (v, has, few, reads), completes) = (has.least, few)
 
   module _ (seen : Bool) (group : List Snapshot) (are : AreGroupOf problem bound items prefix seen group) where
-    goes-on : (rest : List Item) (state : ℕ) → Completes problem bound rest state (goes seen bound.need) → Completes problem bound rest state seen
-    goes-on rest state (output, path, allowed, met) = (output, path, allowed, goes-seen problem.ranking bound.need seen output met)
+    goes-on : (rest : List Item) (state : ℕ) → Continues problem bound rest state (goes seen bound.need) → Completes problem bound rest state seen
+    goes-on rest state (v, more, path, allowed, met) = (v ∷ more, path, allowed, goes-seen problem.ranking bound.need seen (v ∷ more) met)
 
     -- the useful states are live
     pub useful-live : (position state : ℕ) → IsUseful problem bound items group (goes seen bound.need) position state → IsLive problem bound items prefix position state
@@ -161,7 +161,7 @@ module _ (problem : Problem) (whole : IsWhole problem) (bound : Bound) (items pr
     )
     live-useful (suc before) state live more =
         let next : suc before ≡ before + 1 = omega arith in
-        let enough : Completes problem bound (drop (suc before) items) state (goes seen bound.need) =
+        let enough : Continues problem bound (drop (suc before) items) state (goes seen bound.need) =
         open-goes problem bound prefix seen are.seen_is (drop (suc before) items) state more in
         elim ((live-next problem whole bound items prefix before state).0 (subst (λ (k : ℕ). IsLive problem bound items prefix k state) next live)) [
           | inl snapshot ↦ (
@@ -177,7 +177,7 @@ module _ (problem : Problem) (whole : IsWhole problem) (bound : Bound) (items pr
                   live-useful before from alive (open-before problem whole bound items prefix before from state t here leads reads after),
                   leads,
                   reads,
-                  subst (λ (k : ℕ). Completes problem bound (drop k items) state (goes seen bound.need)) next enough,
+                  subst (λ (k : ℕ). Continues problem bound (drop k items) state (goes seen bound.need)) next enough,
                 ),
                 enough,
               )

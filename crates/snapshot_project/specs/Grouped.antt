@@ -13,7 +13,7 @@ use Rattle.snapshot_project.specs.declared.snapshot.Snapshot.{Snapshot}
 use Rattle.snapshot_project.specs.Stands.{IsGroupOf}
 use Rattle.snapshot_project.specs.Walks.{AreGroupOf}
 
--- what paths walk over that may write nothing more, or have to
+-- what paths walk over that need not write what is needed, or have to
 abbrev pub course_for : List ℕ → List Record → List MoveSets → List MoveSets → Bool → Course
 course_for rows places early late goes =
     record { rows = rows; moves = if goes then late else early; places = places }

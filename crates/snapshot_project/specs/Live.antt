@@ -6,7 +6,7 @@ use Rattle.mine_model.specs.Support.{Sequence}
 use Rattle.fst_compile.specs.Transducer.{Leads}
 use Rattle.mining_job.specs.declared.bound.Bound.{Bound}
 use Rattle.mining_job.specs.Problems.{Problem}
-use Rattle.sequence_grids.specs.Grids.{GridList, HoldsNeeded, Completes, Ends, Reads, WritesRank}
+use Rattle.sequence_grids.specs.Grids.{GridList, HoldsNeeded, Completes, Continues, Ends, Reads, WritesRank}
 use Rattle.sequence_grids.specs.Kinds.{IsNeededRank}
 use Rattle.snapshot_project.specs.declared.snapshot.Snapshot.{Snapshot}
 use Rattle.snapshot_project.specs.Runs.{IsRun}
@@ -63,7 +63,7 @@ EndsNext problem bound items prefix rank position state =
 abbrev pub OpensNext : Problem → Bound → List Item → List Item → Bool → ℕ → ℕ → ℕ → Type 0
 OpensNext problem bound items prefix seen rank position state =
     (before : ℕ) × (position ≡ before + 1) × WritesNext problem bound items prefix rank before state
-    × Completes problem bound (drop position items) state (goes (sees seen bound.need rank) bound.need)
+    × Continues problem bound (drop position items) state (goes (sees seen bound.need rank) bound.need)
 
 -- the list has snapshots of the prefix, each once, and all from which more can be written
 pub record AreSnapshotsOf (part : GridList) (prefix : List Item) (snapshots : List Snapshot) : Type 0 where

@@ -6,7 +6,7 @@ use Rattle.mine_model.specs.Ranks.{AreRanked}
 use Rattle.fst_compile.specs.Transducer.{IsPath}
 use Rattle.mining_job.specs.declared.bound.Bound.{Bound}
 use Rattle.mining_job.specs.Problems.{Problem, IsWhole, items_of}
-use Rattle.sequence_grids.specs.Grids.{GridList, Completes, IsAllowed, HoldsNeeded}
+use Rattle.sequence_grids.specs.Grids.{GridList, Completes, Continues, IsAllowed, HoldsNeeded}
 use Rattle.snapshot_project.specs.declared.snapshot.Snapshot.{Snapshot}
 use Rattle.snapshot_project.specs.Runs.{IsRun, IsStep}
 use Rattle.snapshot_project.specs.Extensions.{IsSupportOf}
@@ -75,10 +75,10 @@ pub record SnapshotList : Type 0 where
   pub support : ℕ
   pub snapshots : List Snapshot
 
--- from the snapshot a path still has to go on: it writes more, or, where what is needed was seen, completes
+-- from the snapshot a path goes on as it has to: it writes more, and what is needed was seen or is written, too
 abbrev pub MayGoOn : GridList → Bool → Snapshot → Type 0
 MayGoOn part seen snapshot =
-    Completes part.problem part.bound (drop snapshot.position (items_of part.problem snapshot.sequence))
+    Continues part.problem part.bound (drop snapshot.position (items_of part.problem snapshot.sequence))
     snapshot.state (goes seen part.bound.need)
 
 -- The snapshots are snapshots of the prefix with these ranks, which the bound allows, each once, and each may

@@ -4,7 +4,7 @@ use Rattle.mine_model.specs.declared.item.Item.{Item}
 use Rattle.fst_compile.specs.Transducer.{Leads}
 use Rattle.mining_job.specs.declared.bound.Bound.{Bound}
 use Rattle.mining_job.specs.Problems.{Problem}
-use Rattle.sequence_grids.specs.Grids.{HoldsNeeded, Completes, Reads, WritesRank}
+use Rattle.sequence_grids.specs.Grids.{HoldsNeeded, Completes, Continues, Reads, WritesRank}
 use Rattle.sequence_grids.specs.Successors.{LeadsFrom}
 use Rattle.snapshot_project.specs.declared.snapshot.Snapshot.{Snapshot}
 use Rattle.snapshot_project.specs.Snapshots.{HasSnapshot, WritesOn}
@@ -35,16 +35,16 @@ Arrives problem bound items group goes zero state = ⊥
 Arrives problem bound items group goes (suc before) state =
     (t : Item) × (from : ℕ) × (slice_get items before ≡ Some t)
     × ((Arrives problem bound items group goes before from ⊎ StandsIn group before from)
-    × Completes problem bound (drop before items) from goes)
+    × Continues problem bound (drop before items) from goes)
     × Leads problem.machine from state × Reads problem t state []
-    × Completes problem bound (drop (before + 1) items) state goes
+    × Continues problem bound (drop (before + 1) items) state goes
 
 -- a snapshot stands at the position in the state, or such an edge leads to it; and a path goes on as it has
 -- to
 abbrev pub IsUseful : Problem → Bound → List Item → List Snapshot → Bool → ℕ → ℕ → Type 0
 IsUseful problem bound items group goes position state =
     (Arrives problem bound items group goes position state ⊎ StandsIn group position state)
-    × Completes problem bound (drop position items) state goes
+    × Continues problem bound (drop position items) state goes
 
 -- an edge from a live state writes the rank at t, and a path completes over the rest
 abbrev pub WritesFrom : Problem → Bound → ℕ → Item → List Item → Bool → ℕ → ℕ → Type 0

@@ -1,10 +1,9 @@
 //! Laws of snapshots. Each is the contract of a function that does nothing.
 
-ghost use Rattle.std.specs.Prelude.{◌≡◌, ◌↔◌, ℕ, false, List, [], ◌∷◌, ◌++◌, Contains};
+ghost use Rattle.std.specs.Prelude.{◌≡◌, ◌↔◌, ℕ, List, [], ◌∷◌, ◌++◌, Contains};
 ghost use Rattle.mining_job.specs.Problems.{items_of};
 ghost use Rattle.sequence_grids.specs.Grids.{GridList};
 ghost use Rattle.snapshot_project.specs.declared.snapshot.Snapshot.{Snapshot as Taken};
-ghost use Rattle.snapshot_project.specs.Aims.{goes};
 ghost use Rattle.snapshot_project.specs.Extensions.{GrowsBehind};
 ghost use Rattle.snapshot_project.specs.Snapshots.{IsPart, IsOpen, SnapshotList, AreSnapshots};
 
@@ -18,10 +17,8 @@ pub fn open_snapshots_are_where_longer_patterns_begin()
         ↔ ((rank : ℕ) × GrowsBehind part (ranks ++ rank ∷ []) (items_of part.problem i)) }
 {}
 
-/// Where nothing is needed, or what is needed was not seen, more can be written from each snapshot of the
-/// list.
-pub fn snapshots_that_lack_nothing_are_open()
+/// More can be written from each snapshot of the list.
+pub fn kept_snapshots_are_open()
     ensures { (part : GridList) (ranks : List ℕ) (list : SnapshotList) (are : AreSnapshots part ranks list)
-        → goes list.seen part.bound.need ≡ false → (snapshot : Taken) → Contains list.snapshots snapshot
-        → IsOpen part are.prefix snapshot }
+        → (snapshot : Taken) → Contains list.snapshots snapshot → IsOpen part are.prefix snapshot }
 {}

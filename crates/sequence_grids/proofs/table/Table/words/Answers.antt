@@ -23,6 +23,7 @@ returns-clause-after g c triple found =
     mapped_is (triple_sets {W = g.row.W}) c.self.inside.triples.keys c.as_slice-2.result.now c.args.after c.index-as_slice-after.result triple there c.as_slice-2.ensures.keys c.index-as_slice-after.is in
     rw same (record {
       seen = λ k inside. words_bit g.row.W c.index-as_slice-after.result.seen c.words-3.result.now (length c.args.self.now.predecessors) k c.words-3.ensures room inside;
-      unseen = λ k inside. words_bit g.row.W c.index-as_slice-after.result.unseen c.words-4.result.now (length c.args.self.now.predecessors) k c.words-4.ensures room inside;
-      ending = λ k inside. words_bit g.row.W c.index-as_slice-after.result.ends c.words-5.result.now (length c.args.self.now.predecessors) k c.words-5.ensures room inside;
+      more = λ k inside. words_bit g.row.W c.index-as_slice-after.result.more c.words-4.result.now (length c.args.self.now.predecessors) k c.words-4.ensures room inside;
+      unseen = λ k inside. words_bit g.row.W c.index-as_slice-after.result.unseen c.words-5.result.now (length c.args.self.now.predecessors) k c.words-5.ensures room inside;
+      ending = λ k inside. words_bit g.row.W c.index-as_slice-after.result.ends c.words-6.result.now (length c.args.self.now.predecessors) k c.words-6.ensures room inside;
     })
