@@ -15,9 +15,7 @@ mod terrain;
 
 pub use beginning::{begin, begin_whole, begin_whole_alone};
 pub use growing::{Grown, grow};
-pub use laws::{
-    open_snapshots_are_where_longer_patterns_begin, kept_snapshots_are_open,
-};
+pub use laws::{kept_snapshots_are_open, open_snapshots_are_where_longer_patterns_begin};
 pub use next_rank::NextRank;
 pub use part::Part;
 pub use room::Room;
