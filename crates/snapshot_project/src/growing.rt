@@ -1,9 +1,7 @@
 //! What may follow a prefix, and what is kept of the prefixes that are longer by one.
 
-ghost use Rattle.std.specs.Prelude.{◌≡◌, ℕ, ◌+◌, ◌≤◌, ◌<◌, ◌++◌, ◌∷◌, [], false, IsTrue, List, length, map, filter, drop, All, AllPairs, None, Some, IfSome, IfOk, OnOk, slice_get, slice_range};
-ghost use Rattle.std.specs.Arc.{arc_value};
+ghost use Rattle.std.specs.Prelude.{◌≡◌, ℕ, ◌+◌, ◌≤◌, ◌<◌, ◌++◌, ◌∷◌, [], IsTrue, List, length, map, drop, All, AllPairs, None, Some, IfSome, IfOk, OnOk, slice_get};
 ghost use Rattle.std.specs.List.{AllZip};
-ghost use Rattle.packed_snapshots.specs.Packed.{IsPacked};
 ghost use Rattle.place_walk.specs.declared.stand.Stand.{Stand as Standing};
 ghost use Rattle.place_walk.specs.declared.visit.Visit.{Visit as Visited};
 ghost use Rattle.place_walk.specs.Courses.{course_of};
@@ -12,35 +10,30 @@ ghost use Rattle.place_walk.specs.Groups.{AreGroups};
 ghost use Rattle.place_records.specs.Ranks.{ranks_of};
 ghost use Rattle.place_records.specs.Values.{moves_for};
 ghost use Rattle.stand_sums.specs.Files.{unfiled, with_more};
-ghost use Rattle.stand_sums.specs.Sums.{AreLaidOut, AreNext};
-ghost use Rattle.mask_sums.specs.Kept.{IsSeen};
-ghost use Rattle.level_ahead.specs.Counts.{asked_of, has_places as has_room};
+ghost use Rattle.stand_sums.specs.Sums.{AreLaidOut};
 ghost use Rattle.snapshot_project.specs.declared.next_rank.NextRank.{NextRank as Next};
-ghost use Rattle.snapshot_project.specs.Ahead.{next_of, last_of, items_if, IsKeptAhead, AreAllAdded, AreAhead};
-ghost use Rattle.snapshot_project.specs.Aims.{goes, sees};
+ghost use Rattle.snapshot_project.specs.Ahead.{items_if};
+ghost use Rattle.snapshot_project.specs.Aims.{goes};
 ghost use Rattle.snapshot_project.specs.Extensions.{AreNextRanks};
 ghost use Rattle.snapshot_project.specs.Founds.{AreStandsFor, IsReady, course_over, AreWalked, AreSummed, AreInRun, AreFound, IsFoundIn};
-ghost use Rattle.snapshot_project.specs.Layouts.{HasStarts};
-ghost use Rattle.snapshot_project.specs.Longer.{told_of, kept_of, AreKept, IsKeptOf, HaveAllPlaces, IsWithin};
+ghost use Rattle.snapshot_project.specs.Longer.{told_of, AreKept, IsKeptOf, HaveAllPlaces, IsWithin};
 ghost use Rattle.snapshot_project.specs.Rooms.{AreMemosOver};
-ghost use Rattle.snapshot_project.specs.Snapshots.{SnapshotList, AreSnapshots, IsPart};
-ghost use Rattle.snapshot_project.specs.Stands.{AreStandsOf, IsProjected, StandList, plain, standing};
+ghost use Rattle.snapshot_project.specs.Snapshots.{IsPart};
+ghost use Rattle.snapshot_project.specs.Stands.{IsProjected, StandList, standing};
 ghost use Rattle.sequence_grids.specs.Grids.{GridList};
 
-use super::beginning::first_places;
+use super::ahead::{has_places, look_ahead, told_before};
+use super::aims::goes_on;
 use super::next_rank::NextRank;
 use super::part::Part;
 use super::room::{Memos, Room, Tables};
 use super::snapshots::Snapshots;
 use super::terrain::{AnyTerrain, Terrain};
-use level_ahead::{Ahead, NextOf};
-use mask_sums::Masks;
+use super::waiting::{longer_from, packs, unpacked};
 use mine_model::NoMemory;
-use place_walk::{Stand, Stands, walk_some};
+use place_walk::{Stands, walk_some};
 use stand_sums::{Aim, NextRank as Counted, Run};
 use std::alloc::Global;
-use std::sync::Arc;
-use waiting_stands::{pack, unpack};
 use walk_memo::Memo;
 
 /// The ranks that can follow a prefix, rising, and of each what is kept of the prefix with it.
@@ -96,42 +89,6 @@ pub fn grow<'a>(
     grow_from(alloc, part, aim, &snapshots.stands(), least, room)
 }
 
-// The stands of the snapshots of these bytes.
-fn unpacked(alloc: Global, part: &Part, bytes: &[u8]) -> Result<Vec<Stand>, NoMemory>
-    requires { (ranks : List ℕ) × (list : SnapshotList) × AreSnapshots part.now ranks list
-        × IsPacked (map (plain list.seen) list.snapshots) bytes.now }
-    ensures { IfOk result (λ stands. (ranks : List ℕ) (list : SnapshotList) → AreSnapshots part.now ranks list
-        → IsPacked (map (plain list.seen) list.snapshots) bytes.now
-        → AreStandsOf part.now list.snapshots stands.items) }
-{
-    let starts = part.starts();
-    if starts.is_empty() {
-        // Where bytes were made, the part had starts.
-        let made = first_places(alloc, part.job(), part.sequences())?;
-        unpacked_by(alloc, part, made.as_slice(), bytes)
-    } else {
-        unpacked_by(alloc, part, starts, bytes)
-    }
-}
-
-// The same by the places of the first items.
-fn unpacked_by(
-    alloc: Global,
-    part: &Part,
-    starts: &[u32],
-    bytes: &[u8],
-) -> Result<Vec<Stand>, NoMemory>
-    requires is { IsPart part.now }
-    requires starts { HasStarts part.now starts.now }
-    requires packed { (ranks : List ℕ) × (list : SnapshotList) × AreSnapshots part.now ranks list
-        × IsPacked (map (plain list.seen) list.snapshots) bytes.now }
-    ensures { IfOk result (λ stands. (ranks : List ℕ) (list : SnapshotList) → AreSnapshots part.now ranks list
-        → IsPacked (map (plain list.seen) list.snapshots) bytes.now
-        → AreStandsOf part.now list.snapshots stands.items) }
-{
-    unpack(alloc, part.sequences(), starts, bytes)
-}
-
 // What follows a prefix that stands there, in the part that is known.
 fn grow_from<'a>(
     alloc: Global,
@@ -170,56 +127,6 @@ fn grow_from<'a>(
     let packs = packs(part, &found.run, room);
     let longer = longer_by(alloc, part, aim, found, packs)?;
     Ok(Grown { next, longer })
-}
-
-// The least stands of a run for which bytes pay.
-const MANY_STANDS: usize = 1_048_576;
-
-// Whether those who stand in the run are to wait as bytes: where stands take eight bytes each, and there are
-// many.
-fn packs(part: &Part, run: &Run, room: &mut Room) -> bool
-    ensures { room.new ≡ room.old }
-{
-    if part.starts().is_empty() || run.stands().len() < MANY_STANDS {
-        return false;
-    }
-    room.has_wide(run)
-}
-
-// What was known before to follow; behind that follows nothing more.
-fn told_before(alloc: Global, aim: Aim, next: &[NextOf]) -> Result<Grown, NoMemory>
-    ensures next { IfOk result (λ grown. grown.next.items ≡ map next_of next.now) }
-    ensures longer { IfOk result (λ grown. grown.longer.items ≡ map (last_of aim) next.now) }
-{
-    let mut grown = Grown {
-        next: Vec::new(alloc),
-        longer: Vec::new(alloc),
-    };
-    if next.is_empty() {
-        return Ok(grown);
-    }
-    let none = Arc::new(alloc, Run::new(alloc))?;
-    for known in next {
-        grown.next.push(NextRank {
-            rank: known.rank,
-            weight: known.count,
-            support: known.count,
-        })?;
-        let seen = sees(aim, known.rank);
-        let last = Snapshots::new(seen, known.count, none.clone()?, 0, 0);
-        grown.longer.push(last)?;
-    }
-    Ok(grown)
-}
-
-// Whether with the rank what is needed is seen.
-fn sees(aim: Aim, rank: u32) -> bool
-    ensures { result ≡ sees aim.seen aim.need rank }
-{
-    match aim.need {
-        Some(need) => aim.seen || need == rank,
-        None => true,
-    }
 }
 
 // The ranks with their sums; and the stands of the prefixes with them in one run, or what is kept of these
@@ -348,13 +255,6 @@ fn find_over<const W: usize>(
     }
 }
 
-// Whether paths with this aim go on by what completes.
-fn goes_on(aim: Aim) -> bool
-    ensures { result ≡ goes aim.seen aim.need }
-{
-    aim.seen && aim.need.is_some()
-}
-
 // The same with a memo of the moves for this aim.
 fn find_by<const W: usize>(
     alloc: Global,
@@ -402,186 +302,6 @@ fn find_by<const W: usize>(
         run,
         longer: None,
     })
-}
-
-// Whether it may be counted ahead what follows behind the ranks.
-fn looks_ahead<const W: usize>(
-    over: &Terrain<W>,
-    aim: Aim,
-    weights: &[u32],
-    found: &[Counted],
-) -> bool
-    requires { W ≤ 17 }
-    ensures seen { IsTrue result → IsSeen aim }
-    ensures weights { IsTrue result → weights.now ≡ [] }
-    ensures keeps { IsTrue result → IsTrue over.now.records.table.keeps }
-{
-    let seen = aim.seen || aim.need.is_none();
-    seen && weights.is_empty() && over.records.table().has_masks() && has_places(found)
-}
-
-// What is kept of the prefixes with the ranks, if it may be counted ahead what follows behind them, and
-// nothing goes on there.
-fn look_ahead<const W: usize>(
-    alloc: Global,
-    over: &Terrain<W>,
-    memo: &mut Memo<W>,
-    weights: &[u32],
-    aim: Aim,
-    stands: &Stands,
-    next: usize,
-    found: &[Counted],
-    least: u64,
-    few: bool,
-    tables: &mut Tables,
-) -> Result<Option<Vec<Snapshots>>, NoMemory>
-    requires width { W ≤ 17 }
-    requires ready { IsReady over.now aim stands.now (length tables.old.sums) }
-    requires rows { memo.old.rows ≡ over.now.rows.items }
-    requires moves { memo.old.moves ≡ moves_for over.now.records (goes aim.seen aim.need) }
-    requires few { IsTrue few → length tables.old.sums ≤ 256 }
-    requires below { All (λ next. next.rank < length tables.old.sums) found.now }
-    requires walked { (groups : List (List Standing)) → AreGroups stands.now groups
-        → (sequences : List (List Visited))
-        × AllZip (AreVisits (course_of memo.old over.now.records.places)) groups sequences }
-    requires visits { length stands.now ≤ next → (groups : List (List Standing)) → AreGroups stands.now groups
-        → AreWalked (course_of memo.old over.now.records.places) groups [] tables.old.visits }
-    ensures rows { memo.new.rows ≡ memo.old.rows }
-    ensures moves { memo.new.moves ≡ memo.old.moves }
-    ensures sums { tables.new.sums ≡ tables.old.sums }
-    ensures files { tables.new.files ≡ tables.old.files }
-    ensures visits { length stands.now ≤ next → tables.new.visits ≡ tables.old.visits }
-    ensures ahead { IfOk result (λ longer. IfSome longer (λ longer.
-        AreAhead (course_of memo.old over.now.records.places) (ranks_of over.now.records.table) aim
-        weights.now least (length tables.old.sums) stands.now found.now longer.items)) }
-{
-    if !few || !looks_ahead(over, aim, weights, found) {
-        return Ok(None);
-    }
-    tables.ahead.begin(alloc, found)?;
-    if !count_ahead(over, memo, aim, stands, next, tables)? {
-        return Ok(None);
-    }
-    let longer = longer_ahead(alloc, aim, found, least, &tables.ahead)?;
-    Ok(Some(longer))
-}
-
-// Counts what follows behind each rank asked about: from the buffer of visits, if those of all stands are in
-// it. False where something goes on behind one of them.
-fn count_ahead<const W: usize>(
-    over: &Terrain<W>,
-    memo: &mut Memo<W>,
-    aim: Aim,
-    stands: &Stands,
-    next: usize,
-    tables: &mut Tables,
-) -> Result<bool, NoMemory>
-    requires width { W ≤ 17 }
-    requires ready { IsReady over.now aim stands.now (length tables.old.sums) }
-    requires rows { memo.old.rows ≡ over.now.rows.items }
-    requires moves { memo.old.moves ≡ moves_for over.now.records (goes aim.seen aim.need) }
-    requires seen { IsSeen aim }
-    requires keeps { IsTrue over.now.records.table.keeps }
-    requires walked { (groups : List (List Standing)) → AreGroups stands.now groups
-        → (sequences : List (List Visited))
-        × AllZip (AreVisits (course_of memo.old over.now.records.places)) groups sequences }
-    requires visits { length stands.now ≤ next → (groups : List (List Standing)) → AreGroups stands.now groups
-        → AreWalked (course_of memo.old over.now.records.places) groups [] tables.old.visits }
-    ensures rows { memo.new.rows ≡ memo.old.rows }
-    ensures moves { memo.new.moves ≡ memo.old.moves }
-    ensures sums { tables.new.sums ≡ tables.old.sums }
-    ensures files { tables.new.files ≡ tables.old.files }
-    ensures visits { length stands.now ≤ next → tables.new.visits ≡ tables.old.visits }
-    ensures asked { asked_of tables.new.ahead ≡ asked_of tables.old.ahead }
-    ensures counted { IfOk result (λ ended. IsTrue ended → (groups : List (List Standing))
-        (sequences : List (List Visited)) → AreGroups stands.now groups
-        → AllZip (AreVisits (course_of memo.old over.now.records.places)) groups sequences
-        → AreAllAdded (course_of memo.old over.now.records.places) (ranks_of over.now.records.table) sequences
-        tables.old.ahead tables.new.ahead) }
-{
-    if next < stands.len() {
-        return count_again(over, memo, aim, stands, tables);
-    }
-    let visits = tables.visits.as_slice();
-    let table = over.records.table();
-    tables.ahead.add(memo, over.records.places(), table, visits)
-}
-
-// The same in walks of their own.
-fn count_again<const W: usize>(
-    over: &Terrain<W>,
-    memo: &mut Memo<W>,
-    aim: Aim,
-    stands: &Stands,
-    tables: &mut Tables,
-) -> Result<bool, NoMemory>
-    requires width { W ≤ 17 }
-    requires ready { IsReady over.now aim stands.now (length tables.old.sums) }
-    requires rows { memo.old.rows ≡ over.now.rows.items }
-    requires moves { memo.old.moves ≡ moves_for over.now.records (goes aim.seen aim.need) }
-    requires seen { IsSeen aim }
-    requires keeps { IsTrue over.now.records.table.keeps }
-    requires walked { (groups : List (List Standing)) → AreGroups stands.now groups
-        → (sequences : List (List Visited))
-        × AllZip (AreVisits (course_of memo.old over.now.records.places)) groups sequences }
-    ensures rows { memo.new.rows ≡ memo.old.rows }
-    ensures moves { memo.new.moves ≡ memo.old.moves }
-    ensures sums { tables.new.sums ≡ tables.old.sums }
-    ensures files { tables.new.files ≡ tables.old.files }
-    ensures asked { asked_of tables.new.ahead ≡ asked_of tables.old.ahead }
-    ensures counted { IfOk result (λ ended. IsTrue ended → (groups : List (List Standing))
-        (sequences : List (List Visited)) → AreGroups stands.now groups
-        → AllZip (AreVisits (course_of memo.old over.now.records.places)) groups sequences
-        → AreAllAdded (course_of memo.old over.now.records.places) (ranks_of over.now.records.table) sequences
-        tables.old.ahead tables.new.ahead) }
-{
-    let _aim = aim;
-    let mut from = 0;
-    'walks: while from < stands.len() {
-        from = walk_some(
-            memo,
-            over.records.places(),
-            stands,
-            from,
-            &mut tables.visits,
-        )?;
-        let visits = tables.visits.as_slice();
-        let table = over.records.table();
-        if !tables
-            .ahead
-            .add(memo, over.records.places(), table, visits)?
-        {
-            return Ok(false);
-        }
-    }
-    Ok(true)
-}
-
-// What is kept of the prefixes with these ranks, where what follows behind each was counted.
-fn longer_ahead(
-    alloc: Global,
-    aim: Aim,
-    found: &[Counted],
-    least: u64,
-    ahead: &Ahead,
-) -> Result<Vec<Snapshots>, NoMemory>
-    requires { asked_of ahead.now ≡ map (λ next. next.rank) (filter has_room found.now) }
-    ensures { IfOk result (λ longer. AllZip (IsKeptAhead aim least ahead.now) found.now longer.items) }
-{
-    let mut longer = Vec::with_capacity(alloc, found.len())?;
-    let mut entry = 0;
-    for next in found {
-        let seen = sees(aim, next.rank);
-        if next.first < next.last {
-            let behind = ahead.reaching(alloc, entry, least)?;
-            longer.push(Snapshots::told(seen, next.support, behind))?;
-            entry += 1;
-        } else {
-            let behind = Vec::new(alloc);
-            longer.push(Snapshots::told(seen, next.support, behind))?;
-        }
-    }
-    Ok(longer)
 }
 
 // The stands of the prefixes with these ranks, in one run.
@@ -822,16 +542,6 @@ fn file_again<const W: usize>(
     Ok(())
 }
 
-// Whether one of the ranks has places for stands.
-fn has_places(found: &[Counted]) -> bool
-    ensures { result ≡ false → (end : ℕ) → AreLaidOut 0 found.now end → end ≡ 0 }
-{
-    match found.last() {
-        Some(next) => 0 < next.last,
-        None => false,
-    }
-}
-
 // What is kept of the prefixes with the ranks that were found.
 fn longer_by(
     alloc: Global,
@@ -852,115 +562,6 @@ fn longer_by(
     match longer {
         Some(longer) => Ok(longer),
         None => longer_from(alloc, part, aim, ranks.as_slice(), run, packs),
-    }
-}
-
-// What is kept of the prefixes with these ranks, who stand in the run: as bytes, where they are to be.
-fn longer_from(
-    alloc: Global,
-    part: &Part,
-    aim: Aim,
-    found: &[Counted],
-    run: Run,
-    packs: bool,
-) -> Result<Vec<Snapshots>, NoMemory>
-    requires within { All (IsWithin run.stands) found.now }
-    requires kept { (least : ℕ) × (ranks : List ℕ) × AreKept part.now aim least ranks run.stands found.now }
-    ensures { IfOk result (λ longer. (least : ℕ) (ranks : List ℕ)
-        → AreKept part.now aim least ranks run.stands found.now
-        → AllZip (IsKeptOf part.now least ranks) found.now longer.items) }
-{
-    let starts = part.starts();
-    if packs && !starts.is_empty() {
-        packed_in(alloc, part, starts, aim, found, &run)
-    } else {
-        longer_in(alloc, aim, found, run)
-    }
-}
-
-// What is kept of the prefixes with these ranks, whose stands are pieces of the run.
-fn longer_in(
-    alloc: Global,
-    aim: Aim,
-    found: &[Counted],
-    run: Run,
-) -> Result<Vec<Snapshots>, NoMemory>
-    requires { All (IsWithin run.stands) found.now }
-    ensures { IfOk result (λ longer. longer.items ≡ map (kept_of aim run.stands) found.now) }
-{
-    let shared = Arc::new(alloc, run)?;
-    let mut longer = Vec::with_capacity(alloc, found.len())?;
-    for next in found {
-        longer.push(piece(aim, *next, shared.clone()?))?;
-    }
-    Ok(longer)
-}
-
-// What is kept of the prefix with the rank.
-fn piece(aim: Aim, next: Counted, run: Arc<Run>) -> Snapshots
-    requires { IsWithin (arc_value run).stands next }
-    ensures { result ≡ kept_of aim (arc_value run).stands next }
-{
-    let seen = sees(aim, next.rank);
-    if next.first < next.last {
-        Snapshots::new(seen, next.support, run, next.first, next.last)
-    } else {
-        Snapshots::new(seen, next.support, run, 0, 0)
-    }
-}
-
-// The same, each as bytes of its own.
-fn packed_in(
-    alloc: Global,
-    part: &Part,
-    starts: &[u32],
-    aim: Aim,
-    found: &[Counted],
-    run: &Run,
-) -> Result<Vec<Snapshots>, NoMemory>
-    requires is { IsPart part.now }
-    requires starts { HasStarts part.now starts.now }
-    requires within { All (IsWithin run.now.stands) found.now }
-    requires kept { (least : ℕ) × (ranks : List ℕ)
-        × AreKept part.now aim least ranks run.now.stands found.now }
-    ensures { IfOk result (λ longer. (least : ℕ) (ranks : List ℕ)
-        → AreKept part.now aim least ranks run.now.stands found.now
-        → AllZip (IsKeptOf part.now least ranks) found.now longer.items) }
-{
-    let none = Arc::new(alloc, Run::new(alloc))?;
-    let mut longer = Vec::with_capacity(alloc, found.len())?;
-    for next in found {
-        longer.push(packed(alloc, part, starts, aim, *next, run, none.clone()?)?)?;
-    }
-    Ok(longer)
-}
-
-// What is kept of the prefix with the rank, as bytes where it stands somewhere.
-fn packed(
-    alloc: Global,
-    part: &Part,
-    starts: &[u32],
-    aim: Aim,
-    next: Counted,
-    run: &Run,
-    none: Arc<Run>,
-) -> Result<Snapshots, NoMemory>
-    requires is { IsPart part.now }
-    requires starts { HasStarts part.now starts.now }
-    requires within { IsWithin run.now.stands next }
-    requires kept { (least : ℕ) × (ranks : List ℕ)
-        × IsKeptOf part.now least ranks next (kept_of aim run.now.stands next) }
-    ensures { IfOk result (λ kept. (least : ℕ) (ranks : List ℕ)
-        → IsKeptOf part.now least ranks next (kept_of aim run.now.stands next)
-        → IsKeptOf part.now least ranks next kept) }
-{
-    let seen = sees(aim, next.rank);
-    if next.first < next.last {
-        let stands = run.piece(next.first, next.last);
-        let bytes = pack(alloc, part.sequences(), starts, stands, seen)?;
-        Ok(Snapshots::packed(seen, next.support, bytes))
-    } else {
-        Ok(Snapshots::new(seen, next.support, none, 0, 0))
     }
 }
 

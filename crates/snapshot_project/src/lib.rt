@@ -2,6 +2,8 @@
 //! follow.
 #![tactic(auto)]
 
+mod ahead;
+mod aims;
 mod beginning;
 mod growing;
 mod laws;
@@ -12,6 +14,7 @@ mod snapshot;
 mod snapshots;
 mod supporting;
 mod terrain;
+mod waiting;
 
 pub use beginning::{begin, begin_whole, begin_whole_alone};
 pub use growing::{Grown, grow};

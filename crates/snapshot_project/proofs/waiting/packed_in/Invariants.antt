@@ -1,7 +1,7 @@
 use Rattle.std.proofs.Common.{ℕ, List, take}
 use Rattle.std.specs.List.{AllZip}
 use Rattle.snapshot_project.specs.Longer.{AreKept, IsKeptOf}
-use Rattle.snapshot_project.proofs.growing.packed_in.Given as goal
+use Rattle.snapshot_project.proofs.waiting.packed_in.Given as goal
 
 -- what is kept so far is told
 abbrev pub invariant-loop-next : goal.invariant-loop-next

@@ -7,7 +7,7 @@ use Rattle.waiting_stands.specs.Layouts.{IsLayout, AreStandsOf as AreLaidOut}
 use Rattle.snapshot_project.specs.Stands.{StandList, plain}
 use Rattle.snapshot_project.proofs.FormLemmas.{piece-stands, piece-packed}
 use Rattle.snapshot_project.proofs.PackedLemmas.{part-layout, stands-laid, plain-seen}
-use Rattle.snapshot_project.proofs.growing.packed.Goals as goal
+use Rattle.snapshot_project.proofs.waiting.packed.Goals as goal
 
 pub pack-requires-clause-layout : goal.pack-requires-clause-layout
 pack-requires-clause-layout c =

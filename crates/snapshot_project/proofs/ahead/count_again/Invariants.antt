@@ -5,7 +5,7 @@ use Rattle.place_walk.specs.Groups.{AreGroups}
 use Rattle.level_ahead.specs.Counts.{asked_of}
 use Rattle.place_records.specs.Ranks.{ranks_of}
 use Rattle.snapshot_project.proofs.LookLemmas.{AreAheadTo}
-use Rattle.snapshot_project.proofs.growing.count_again.Given as goal
+use Rattle.snapshot_project.proofs.ahead.count_again.Given as goal
 
 abbrev pub invariant-walks : goal.invariant-walks
 invariant-walks g l = record {

@@ -9,8 +9,8 @@ use Rattle.level_ahead.specs.Counts.{has_places}
 use Rattle.snapshot_project.specs.Ahead.{IsKeptAhead}
 use Rattle.snapshot_project.specs.Stands.{StandList}
 use Rattle.snapshot_project.proofs.PlacedLemmas.{entry-of, zip-push, count-yes, count-no, count-most}
-use Rattle.snapshot_project.proofs.growing.longer_ahead.Goals.{then-next+in_ok-behind+in_ok-push, else-next+in_ok-push-2}
-use Rattle.snapshot_project.proofs.growing.longer_ahead.Goals as goal
+use Rattle.snapshot_project.proofs.ahead.longer_ahead.Goals.{then-next+in_ok-behind+in_ok-push, else-next+in_ok-push-2}
+use Rattle.snapshot_project.proofs.ahead.longer_ahead.Goals as goal
 
 -- no rank
 abbrev blank : NextRank

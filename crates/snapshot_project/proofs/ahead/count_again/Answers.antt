@@ -18,7 +18,7 @@ use Rattle.snapshot_project.specs.Ahead.{AreAllAdded}
 use Rattle.snapshot_project.specs.Aims.{goes}
 use Rattle.snapshot_project.proofs.LookLemmas.{ready-looks, ahead-none, ahead-more, ahead-all}
 use Rattle.snapshot_project.proofs.WalkedLemmas.{IsCutBefore, course-same, ready-few, ready-moves, ready-placed, ready-states, ready-ordered, ready-readable}
-use Rattle.snapshot_project.proofs.growing.count_again.Goals as goal
+use Rattle.snapshot_project.proofs.ahead.count_again.Goals as goal
 
 pub walks-init : goal.walks-init
 walks-init g c = record {

@@ -7,7 +7,7 @@ use Rattle.sequence_grids.specs.Grids.{GridList}
 use Rattle.stand_sums.specs.declared.next_rank.NextRank.{NextRank}
 use Rattle.snapshot_project.specs.Longer.{IsKeptOf}
 use Rattle.snapshot_project.proofs.PlacedLemmas.{zip-push}
-use Rattle.snapshot_project.proofs.growing.packed_in.Goals as goal
+use Rattle.snapshot_project.proofs.waiting.packed_in.Goals as goal
 
 -- no rank
 abbrev blank : NextRank

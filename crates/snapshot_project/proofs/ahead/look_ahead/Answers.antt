@@ -3,7 +3,7 @@ use Rattle.level_ahead.specs.Counts.{Behind, has_places, asked_of}
 use Rattle.place_walk.specs.Courses.{course_of}
 use Rattle.place_records.specs.Ranks.{ranks_of}
 use Rattle.snapshot_project.proofs.LookLemmas.{asked-begun, counted-begun}
-use Rattle.snapshot_project.proofs.growing.look_ahead.Goals as goal
+use Rattle.snapshot_project.proofs.ahead.look_ahead.Goals as goal
 
 pub longer_ahead-requires : goal.longer_ahead-requires
 longer_ahead-requires g c =

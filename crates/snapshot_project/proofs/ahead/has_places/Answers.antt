@@ -2,7 +2,7 @@ use Rattle.std.proofs.Common.{◌≡◌, ◌∙◌, inl, inr, sym, ap, arith}
 use Rattle.std.proofs.lemmas.Bool.{cases_lt, lt-ltb, true≢false}
 use Rattle.stand_sums.specs.declared.next_rank.NextRank.{NextRank}
 use Rattle.stand_sums.proofs.FileLemmas.{laid-last}
-use Rattle.snapshot_project.proofs.growing.has_places.Goals as goal
+use Rattle.snapshot_project.proofs.ahead.has_places.Goals as goal
 
 pub returns-in-Some : goal.returns-in-Some
 returns-in-Some c none end laid =

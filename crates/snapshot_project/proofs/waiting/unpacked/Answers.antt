@@ -3,7 +3,7 @@ use Rattle.mining_job.specs.Problems.{Problem}
 use Rattle.sequence_grids.specs.Grids.{GridList}
 use Rattle.snapshot_project.specs.Layouts.{HasStarts}
 use Rattle.snapshot_project.proofs.PackedLemmas.{has-starts}
-use Rattle.snapshot_project.proofs.growing.unpacked.Goals as goal
+use Rattle.snapshot_project.proofs.waiting.unpacked.Goals as goal
 
 pub unpacked_by-requires-clause-starts : goal.unpacked_by-requires-clause-starts
 unpacked_by-requires-clause-starts c =

@@ -18,7 +18,7 @@ use Rattle.snapshot_project.specs.Aims.{goes}
 use Rattle.snapshot_project.proofs.FoundLemmas.{buffer-readable, walked-sequences, visits-of}
 use Rattle.snapshot_project.proofs.LookLemmas.{ready-looks}
 use Rattle.snapshot_project.proofs.WalkedLemmas.{course-same, ready-few, ready-moves}
-use Rattle.snapshot_project.proofs.growing.count_ahead.Goals as goal
+use Rattle.snapshot_project.proofs.ahead.count_ahead.Goals as goal
 
 pub add-requires : goal.add-requires
 add-requires g c =

@@ -6,7 +6,7 @@ use Rattle.stand_sums.specs.declared.next_rank.NextRank.{NextRank}
 use Rattle.snapshot_project.specs.Longer.{kept_of, AreKept, IsKeptOf}
 use Rattle.snapshot_project.proofs.FormLemmas.{zip-kept}
 use Rattle.snapshot_project.proofs.PackedLemmas.{has-starts}
-use Rattle.snapshot_project.proofs.growing.longer_from.Goals as goal
+use Rattle.snapshot_project.proofs.waiting.longer_from.Goals as goal
 
 pub packed_in-requires-clause-starts : goal.packed_in-requires-clause-starts
 packed_in-requires-clause-starts c = has-starts c.args.part.now c.starts-starts.result.now c.starts-starts.ensures.starts (search rules)

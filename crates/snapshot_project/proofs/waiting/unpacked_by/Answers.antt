@@ -9,7 +9,7 @@ use Rattle.waiting_stands.specs.Layouts.{HasStand, IsStandOf as IsLaidOut, AreMa
 use Rattle.snapshot_project.specs.Snapshots.{SnapshotList, AreSnapshots}
 use Rattle.snapshot_project.specs.Stands.{AreStandsOf, plain}
 use Rattle.snapshot_project.proofs.PackedLemmas.{part-layout, all-have-stands, stands-back}
-use Rattle.snapshot_project.proofs.growing.unpacked_by.Goals as goal
+use Rattle.snapshot_project.proofs.waiting.unpacked_by.Goals as goal
 
 -- what holds of each in two ways
 both-of : {V E X : Type 0} (A : X → Type 0) (P Q : X → V → Type 0) (r : Result V E) → ((x : X) → A x → IfOk r (P x)) → ((x : X) → A x → IfOk r (Q x))

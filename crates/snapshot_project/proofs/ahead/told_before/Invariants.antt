@@ -1,7 +1,7 @@
 use Rattle.std.proofs.Common.{◌≡◌, map, take}
 use Rattle.std.specs.Arc.{arc_value}
 use Rattle.snapshot_project.specs.Ahead.{next_of, last_of}
-use Rattle.snapshot_project.proofs.growing.told_before.Given as goal
+use Rattle.snapshot_project.proofs.ahead.told_before.Given as goal
 
 -- those so far are told
 abbrev pub invariant-loop-known : goal.invariant-loop-known

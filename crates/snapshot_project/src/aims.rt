@@ -1,0 +1,23 @@
+//! What a prefix still asks of a path.
+
+ghost use Rattle.std.specs.Prelude.{◌≡◌};
+ghost use Rattle.snapshot_project.specs.Aims.{goes, sees};
+
+use stand_sums::Aim;
+
+/// Whether with the rank what is needed is seen.
+pub(crate) fn sees(aim: Aim, rank: u32) -> bool
+    ensures { result ≡ sees aim.seen aim.need rank }
+{
+    match aim.need {
+        Some(need) => aim.seen || need == rank,
+        None => true,
+    }
+}
+
+/// Whether paths with this aim go on by what completes.
+pub(crate) fn goes_on(aim: Aim) -> bool
+    ensures { result ≡ goes aim.seen aim.need }
+{
+    aim.seen && aim.need.is_some()
+}
