@@ -10,8 +10,8 @@ use level_ahead::Ahead;
 use mask_sums::MaskedSums;
 use mine_model::NoMemory;
 use mining_job::Job;
-use place_walk::{Stands, Visits, fits};
-use stand_sums::{Files, Run};
+use place_walk::Visits;
+use stand_sums::Files;
 use std::alloc::Global;
 use std::marker::Model;
 use std::sync::Arc;
@@ -41,8 +41,6 @@ pub struct Room<'a> {
     pub(crate) wide: Memos<17>,
     // Whether a set has room for all ranks.
     pub(crate) few: bool,
-    // Whether a stand was met that does not fit into four bytes.
-    pub(crate) met_wide: bool,
     pub(crate) tables: Tables,
 }
 
@@ -55,7 +53,6 @@ impl<'a> Drop for Room<'a> {
             four: _,
             wide: _,
             few: _,
-            met_wide: _,
             tables: _,
         } = self;
     }
@@ -118,7 +115,6 @@ impl<'a> Room<'a> {
             four: no_memos(alloc)?,
             wide: no_memos(alloc)?,
             few: ranks <= 256,
-            met_wide: false,
             tables: Tables {
                 visits: Visits::new(alloc),
                 sums: MaskedSums::new(alloc, ranks)?,
@@ -149,16 +145,6 @@ impl<'a> Room<'a> {
         Ok(())
     }
 
-    // Whether stands take eight bytes each: one of the run, or of one before it, does not fit into four.
-    pub(crate) fn has_wide(&mut self, run: &Run) -> bool
-        ensures { self.new ≡ self.old }
-    {
-        if !self.met_wide {
-            self.met_wide = !all_fit(&run.stands());
-        }
-        self.met_wide
-    }
-
     // Whether a part is known that needs the same.
     fn knows(&self, part: &Part) -> bool
         ensures known { result ≡ true → (known : GridList) × (self.now.part ≡ Some known)
@@ -186,17 +172,6 @@ fn enter_over<const W: usize>(memos: &mut Memos<W>, over: &Terrain<W>) -> Result
         .late
         .enter(over.rows.as_slice(), over.records.moves(true))?;
     Ok(())
-}
-
-// Whether each of the stands fits into four bytes.
-fn all_fit(stands: &Stands) -> bool {
-    for index in 0..stands.len() {
-        let stand = stands.get(index);
-        if !fits(stand.place, stand.state) {
-            return false;
-        }
-    }
-    true
 }
 
 // Memos that know nothing.

@@ -13,7 +13,6 @@ ghost use Rattle.snapshot_project.specs.Stands.{AreStandsOf, plain};
 use super::aims::sees;
 use super::beginning::first_places;
 use super::part::Part;
-use super::room::Room;
 use super::snapshots::Snapshots;
 use mine_model::NoMemory;
 use place_walk::Stand;
@@ -27,13 +26,8 @@ const MANY_STANDS: usize = 1_048_576;
 
 /// Whether those who stand in the run are to wait as bytes: where stands take eight bytes each, and there are
 /// many.
-pub(crate) fn packs(part: &Part, run: &Run, room: &mut Room) -> bool
-    ensures { room.new ≡ room.old }
-{
-    if part.starts().is_empty() || run.stands().len() < MANY_STANDS {
-        return false;
-    }
-    room.has_wide(run)
+pub(crate) fn packs(part: &Part, run: &Run) -> bool {
+    !part.starts().is_empty() && !run.is_narrow() && run.stands().len() >= MANY_STANDS
 }
 
 /// What is kept of the prefixes with these ranks, who stand in the run: as bytes, where they are to be.

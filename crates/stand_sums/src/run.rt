@@ -97,7 +97,7 @@ impl Run {
     }
 
     /// Whether each stand takes four bytes.
-    pub(crate) fn is_narrow(&self) -> bool
+    pub fn is_narrow(&self) -> bool
         ensures { result ≡ self.now.narrow }
     {
         self.narrow

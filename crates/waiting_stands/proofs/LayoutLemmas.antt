@@ -185,10 +185,6 @@ read-place sequences starts one stand at seen layout is last =
     let position = read.position in
     λ i. record { sequence = sequence i; position = position i }
 
-pub last-push : (before : Place) (list : List PlainSnapshot) (one : PlainSnapshot) → fold (λ _ next. place_of next) before (list ++ one ∷ []) ≡ place_of one
-last-push before [] one = refl
-last-push before (next ∷ list) one = last-push (place_of next) list one
-
 -- what each of a list has seen
 pub seen-at : (list : List PlainSnapshot) (i : ℕ) (one : PlainSnapshot) (seen : Bool) → All (λ snapshot. snapshot.seen ≡ seen) list → slice_get list i ≡ Some one → one.seen ≡ seen
 seen-at list i one seen all is = subst (λ snapshot. snapshot.seen ≡ seen) (get_or_from_slice_get list i one one is) (all i one (slice_get_within list i one is))

@@ -8,7 +8,8 @@ use Rattle.packed_snapshots.specs.Snapshots.{start, last_place, IsBehind}
 use Rattle.packed_snapshots.specs.Packed.{IsPacked}
 use Rattle.place_walk.specs.declared.stand.Stand.{Stand}
 use Rattle.waiting_stands.specs.Layouts.{IsStandOf}
-use Rattle.waiting_stands.proofs.LayoutLemmas.{seen-at, IsNext, is-next, IsRead, is-read, read_at, read-is, read-place, last-push, take-next}
+use Rattle.packed_snapshots.proofs.SnapshotLemmas.{last_place-append}
+use Rattle.waiting_stands.proofs.LayoutLemmas.{seen-at, IsNext, is-next, IsRead, is-read, read_at, read-is, read-place, take-next}
 use Rattle.waiting_stands.proofs.packing.pack.Goals as goal
 
 pub last_up_to-grid-requires-clause-within : goal.last_up_to-grid-requires-clause-within
@@ -69,7 +70,7 @@ loop-index-preserved c =
           is-next sequences starts list c.args.stands index c.loop-index.grid c.loop-index.before stand
           c.requires.layout are c.get-stand.ensures (c.loop-index.invariant.before list are) c.loop-index.invariant.reached in
           ap last_place (take-next list index next.one next.one_is)
-          ∙ (last-push start (take index list) next.one
+          ∙ (last_place-append start (take index list) next.one
           ∙ (sym (read-place sequences starts next.one stand at c.args.seen c.requires.layout next.is c.last_up_to-grid.ensures) ∙ sym c.place-before.ensures));
       reached = record {
         none = λ first. absurd (omega (arith, first));
