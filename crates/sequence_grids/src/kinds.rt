@@ -115,7 +115,7 @@ impl Kinds {
             kinds: Vec::new(alloc),
             ends: Vec::new(alloc),
             ranks: Vec::new(alloc),
-            hints: vec![in alloc; NONE; HINTS]?,
+            hints: vec![in alloc; NONE; FEW_HINTS]?,
         })
     }
 
@@ -206,15 +206,15 @@ pub(crate) fn kind_of(
         scratch.writes.as_slice(),
         scratch.needs.as_slice(),
     )?;
-    let hint = hint_of(class, &kinds.ranks.as_slice()[first..]);
+    let hint = hint_of(class, &kinds.ranks.as_slice()[first..], kinds.hints.len());
     if let Some(number) = alike(job, bound, tables, kinds, t, Kind { class, base }, hint) {
         kinds.numbers[t.0 as usize] = number;
         return Ok(number);
     }
     let number = next_number(kinds.kinds.len())?;
+    keep_hint(&mut kinds.hints, number, hint, t)?;
     kinds.kinds.push(Kind { class, base })?;
     kinds.numbers[t.0 as usize] = number;
-    keep_hint(&mut kinds.hints, hint, t);
     Ok(number)
 }
 
@@ -229,25 +229,32 @@ fn next_number(count: usize) -> Result<u32, NoMemory>
     Ok(count as u32)
 }
 
-// How many hints there are.
-const HINTS: usize = 65_521;
+// How many hints there are at first, and once there are as many kinds.
+const FEW_HINTS: usize = 4_093;
 
-// Where the hint stands for outputs of a class.
-fn hint_of(class: u32, ranks: &[u32]) -> usize {
+const MANY_HINTS: usize = 65_521;
+
+// Where among so many the hint stands for outputs of a class.
+fn hint_of(class: u32, ranks: &[u32], hints: usize) -> usize {
     let mut hash = u64::from(class);
     for rank in ranks {
         hash = hash
             .wrapping_add(u64::from(*rank))
             .wrapping_mul(0x9E37_79B9_7F4A_7C15);
     }
-    ((hash >> 16) % 65_521) as usize
+    ((hash >> 16) % (hints as u64).max(1)) as usize
 }
 
-// Keeps the item as a hint.
-fn keep_hint(hints: &mut Vec<u32>, hint: usize, t: Item) {
+// Keeps the item, whose kind has the number, as a hint. Where hints become many, the few stand elsewhere than
+// they are looked for, and are lost.
+fn keep_hint(hints: &mut Vec<u32>, number: u32, hint: usize, t: Item) -> Result<(), NoMemory> {
+    if hints.len() < MANY_HINTS && number as usize >= FEW_HINTS {
+        hints.resize(MANY_HINTS, NONE)?;
+    }
     if hint < hints.len() {
         hints[hint] = t.0;
     }
+    Ok(())
 }
 
 // The number of the kind of the item that a hint names, where it has the class and the outputs of this one,

@@ -44,6 +44,11 @@ returns-in_err-number-clause-kinds c =
     AreKinds-grow c.args.job.now c.args.bound c.args.tables.now.classes c.class_number.new.self.classes c.args.kinds.now _ c.requires.kinds c.class_number.ensures.grows.classes
     (record { columns = refl; kinds = Extends-nothing c.args.kinds.now.kinds.items; ends = c.push_outputs.ensures.ends; ranks = c.push_outputs.ensures.ranks }) refl
 
+pub returns-in_err-keep_hint-clause-kinds : goal.returns-in_err-keep_hint-clause-kinds
+returns-in_err-keep_hint-clause-kinds c =
+    AreKinds-grow c.args.job.now c.args.bound c.args.tables.now.classes c.class_number.new.self.classes c.args.kinds.now _ c.requires.kinds c.class_number.ensures.grows.classes
+    (record { columns = refl; kinds = Extends-nothing c.args.kinds.now.kinds.items; ends = c.push_outputs.ensures.ends; ranks = c.push_outputs.ensures.ranks }) refl
+
 pub returns-in_err-push-clause-kinds : goal.returns-in_err-push-clause-kinds
 returns-in_err-push-clause-kinds c =
     AreKinds-grow c.args.job.now c.args.bound c.args.tables.now.classes c.class_number.new.self.classes c.args.kinds.now _ c.requires.kinds c.class_number.ensures.grows.classes
