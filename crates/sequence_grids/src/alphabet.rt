@@ -24,8 +24,24 @@ pub fn alphabet_of(alloc: Global, job: &Job, bound: Bound) -> Result<Alphabet, N
     ensures { IfOk result (λ all. IsAlphabet job.now bound all.tables all.kinds) }
 {
     let mut all = no_kinds(alloc, job, bound)?;
-    meet_sequences(alloc, job, bound, &mut all)?;
+    if is_long(job) {
+        meet_items(alloc, job, bound, &mut all)?;
+    } else {
+        meet_sequences(alloc, job, bound, &mut all)?;
+    }
     Ok(all)
+}
+
+// From how many places for each item on it takes less to find the kinds of all items than to look at each place.
+const PLACES_OF_AN_ITEM: u64 = 64;
+
+// Whether the sequences have so many places, all together.
+fn is_long(job: &Job) -> bool {
+    let mut places: u64 = 0;
+    for number in 0..job.db().sequences() {
+        places = places.saturating_add(job.db().sequence(number).len() as u64);
+    }
+    places / PLACES_OF_AN_ITEM >= u64::from(job.hierarchy().items())
 }
 
 // No kinds yet.
@@ -60,6 +76,19 @@ fn meet_sequences(
             &mut scratch,
             items,
         )?;
+    }
+    Ok(())
+}
+
+// Finds the kinds of all items, those too that do not occur.
+fn meet_items(alloc: Global, job: &Job, bound: Bound, all: &mut Alphabet) -> Result<(), NoMemory>
+    requires none { IsAlphabetTo job.now bound all.old.tables all.old.kinds 0 }
+    ensures all { OnOk result (IsAlphabet job.now bound all.new.tables all.new.kinds) }
+{
+    let mut scratch = Scratch::new(alloc);
+    for number in 0..job.hierarchy().items() {
+        let t = Item(number);
+        kind_of(job, bound, &mut all.tables, &mut all.kinds, &mut scratch, t)?;
     }
     Ok(())
 }
