@@ -22,7 +22,8 @@ use Rattle.place_records.specs.Records.{start_of, goes_with}
 use Rattle.place_records.specs.Twins.{TwinSets, dead_twin}
 use Rattle.place_records.specs.Numbers.{TwinsValue, TwinsGrow}
 use Rattle.place_records.specs.Filled.{IsRecordBy, AreHere, AreKnown, AreFilledTo}
-use Rattle.place_records.specs.Blocks.{IsOver, AreNames, renamed, IsBlock}
+use Rattle.walk_places.specs.Names.{renamed}
+use Rattle.place_records.specs.Blocks.{IsOver, AreNames, IsBlock}
 use Rattle.place_records.proofs.FillLemmas.{AreFilledTo-none, AreFilledTo-more, AreHere-grow, Extends-long, first-kept}
 
 get-right : {X : Type 0} (xs ys : List X) (i : ℕ) (x : X) → slice_get ys i ≡ Some x → slice_get (xs ++ ys) (length xs + i) ≡ Some x

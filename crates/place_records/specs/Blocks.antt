@@ -25,10 +25,6 @@ pub record AreNames (own all : List TwinSets) (names : List ℕ) : Type 0 where
   pub same : (number : ℕ) (twin : TwinSets) → slice_get own number ≡ Some twin
       → slice_get all (slice_index names number) ≡ Some twin
 
--- the record with the name of its number
-abbrev pub renamed : List ℕ → Record → Record
-renamed names entry = record { kind = entry.kind; of = slice_index names entry.of }
-
 -- the sequences from one number to before another that complete, in order, and their records
 pub record IsBlock (problem : Problem) (bound : Bound) (kinds : Kinds) (from to : ℕ) (twins : List TwinSets)
     (sequences : List ℕ) (places : List Record)

@@ -1,14 +1,13 @@
 //! Blocks, joined in order.
 
-ghost use Rattle.std.specs.Prelude.{◌≡◌, ℕ, ◌≤◌, ◌<◌, ◌++◌, ◌^◌, length, map, Contains, IfOk, OnOk};
+ghost use Rattle.std.specs.Prelude.{◌≡◌, ℕ, ◌≤◌, ◌<◌, map, IfOk, OnOk};
 ghost use Rattle.mining_job.specs.declared.bound.Bound.{Bound as Bounded};
 ghost use Rattle.mining_job.specs.Problems.{Problem};
-ghost use Rattle.walk_places.specs.declared.places.Record.{Record as Entry};
 ghost use Rattle.sequence_grids.specs.declared.kinds.Kinds.{Kinds as Known};
 ghost use Rattle.sequence_grids.specs.Kinds.{Extends};
 ghost use Rattle.place_records.specs.Twins.{twin_sets};
 ghost use Rattle.place_records.specs.Filled.{AreKnown};
-ghost use Rattle.place_records.specs.Blocks.{AreNames, IsBlock, renamed};
+ghost use Rattle.place_records.specs.Blocks.{AreNames, IsBlock};
 
 use super::blocks::Piece;
 use super::twin::Twin;
@@ -16,7 +15,7 @@ use super::twins::twin_in;
 use indexmap::IndexSet;
 use mine_model::NoMemory;
 use std::alloc::Global;
-use walk_places::{Places, Record};
+use walk_places::Places;
 
 /// The sequences of blocks that were joined, and their records, which name what places do by numbers of all.
 #[derive(Drop)]
@@ -62,7 +61,9 @@ pub(crate) fn join<const W: usize>(
         return Err(NoMemory);
     }
     let names = names_among(alloc, &mut joined.twins, block.twins.as_slice())?;
-    push_renamed(&mut joined.places, &block.places, names.as_slice())?;
+    joined
+        .places
+        .append_renamed(&block.places, names.as_slice())?;
     joined
         .sequences
         .extend_from_slice(block.sequences.as_slice())?;
@@ -85,21 +86,4 @@ fn names_among<const W: usize>(
         names.push(twin_in(all, twin)?)?;
     }
     Ok(names)
-}
-
-// Appends the records, with these names in place of their numbers.
-fn push_renamed(places: &mut Places, more: &Places, names: &[u32]) -> Result<(), NoMemory>
-    requires few { length more.now < 2 ^ 32 }
-    requires known { (entry : Entry) → Contains more.now entry → entry.of < length names.now }
-    ensures { OnOk result (places.new ≡ places.old ++ map (renamed names.now) more.now) }
-{
-    for place in 0..more.len() as u32 {
-        let entry = more.get(place);
-        let of = names[entry.of as usize];
-        places.push(Record {
-            kind: entry.kind,
-            of,
-        })?;
-    }
-    Ok(())
 }

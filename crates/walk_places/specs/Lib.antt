@@ -1,2 +1,4 @@
+-- the words of the promise
+pub mod Names
 -- what the proofs keep
 pub mod Records

@@ -1,7 +1,9 @@
 //! Records by place.
 
-ghost use Rattle.std.specs.Prelude.{◌≡◌, ◌*◌, ◌+◌, ◌<◌, ◌^◌, ◌↔◌, [], ◌∷◌, ◌++◌, length, slice_get, Some, IsTrue, OnOk, OnErr};
-ghost use Rattle.walk_places.specs.Records.{record_of, Fits};
+ghost use Rattle.std.specs.Prelude.{◌≡◌, ℕ, ◌%◌, ◌<◌, ◌^◌, ◌↔◌, [], ◌∷◌, ◌++◌, map, length, slice_get, Some, IsTrue, Contains, OnOk, OnErr};
+ghost use Rattle.walk_places.specs.declared.places.Record.{Record as Entry};
+ghost use Rattle.walk_places.specs.Names.{renamed};
+ghost use Rattle.walk_places.specs.Records.{record_of, recoded, Fits, AreLow};
 
 use mine_model::NoMemory;
 use std::alloc::Global;
@@ -75,6 +77,62 @@ impl Places {
         }
         Ok(())
     }
+
+    /// Adds those of another list behind the others, each with the name of its number. Without memory some of
+    /// them may have been added.
+    pub fn append_renamed(&mut self, more: &Places, names: &[u32]) -> Result<(), NoMemory>
+        requires few { length more.now < 2 ^ 32 }
+        requires known { (entry : Entry) → Contains more.now entry → entry.of < length names.now }
+        ensures { OnOk result (self.new ≡ self.old ++ map (renamed names.now) more.now) }
+    {
+        if self.rest.is_empty() && more.rest.is_empty() && are_low(names) {
+            append_codes(&mut self.codes, more.codes.as_slice(), names)
+        } else {
+            self.push_renamed(more, names)
+        }
+    }
+
+    // The same, place by place.
+    fn push_renamed(&mut self, more: &Places, names: &[u32]) -> Result<(), NoMemory>
+        requires few { length more.now < 2 ^ 32 }
+        requires known { (entry : Entry) → Contains more.now entry → entry.of < length names.now }
+        ensures { OnOk result (self.new ≡ self.old ++ map (renamed names.now) more.now) }
+    {
+        for place in 0..more.len() as u32 {
+            let entry = more.get(place);
+            let of = names[entry.of as usize];
+            self.push(Record {
+                kind: entry.kind,
+                of,
+            })?;
+        }
+        Ok(())
+    }
+}
+
+// Whether each of the names fits into 12 bits.
+fn are_low(names: &[u32]) -> bool
+    ensures { IsTrue result → AreLow names.now }
+{
+    for name in names {
+        if *name >= 1 << 12 {
+            return false;
+        }
+    }
+    true
+}
+
+// Appends the codes, each with the name of its number.
+fn append_codes(codes: &mut Vec<u32>, more: &[u32], names: &[u32]) -> Result<(), NoMemory>
+    requires known { (code : ℕ) → Contains more.now code → code % 4096 < length names.now }
+    requires low { AreLow names.now }
+    ensures { OnOk result (codes.new.items ≡ codes.old.items ++ map (recoded names.now) more.now) }
+{
+    codes.reserve(more.len())?;
+    for code in more {
+        codes.push_reserved(code / 4096 * 4096 + names[(code % 4096) as usize]);
+    }
+    Ok(())
 }
 
 // Whether the kind fits into 20 bits and the number into 12.

@@ -2,8 +2,8 @@ use Rattle.std.proofs.Common.{◌≡◌, ◌∙◌, ◌+◌, ◌++◌, [], ◌�
 use Rattle.std.proofs.lemmas.List.{map_more}
 use Rattle.std.proofs.lemmas.Option.{slice_get_within, get_or_from_slice_get}
 use Rattle.walk_places.specs.declared.places.Record.{Record}
-use Rattle.place_records.specs.Blocks.{renamed}
-use Rattle.place_records.proofs.joining.push_renamed.Goals as goal
+use Rattle.walk_places.specs.Names.{renamed}
+use Rattle.walk_places.proofs.places.Places.push_renamed.Goals as goal
 
 pub bounds-names-entry : goal.bounds-names-entry
 bounds-names-entry c =
@@ -16,7 +16,7 @@ pub loop-place-preserved : goal.loop-place-preserved
 loop-place-preserved c =
     let more = c.args.more.now in
     let names = c.args.names.now in
-    let old = c.args.places.now in
+    let old = c.args.self.now in
     let place : ℕ = c.loop-place.place in
     let entry = c.get-entry.result in
     let there = c.get-entry.ensures in
