@@ -1,6 +1,7 @@
 -- What was counted of a rank, by ranks and by sets.
-use Rattle.std.proofs.Common.{◌≡◌, ℕ, zero, suc, ◌+◌, ◌≤◌, inl, inr, Bool, true, Some, Option, None, List, [], ◌∷◌, length, replicate, refl, sym, ap, ◌∙◌, subst, arith}
+use Rattle.std.proofs.Common.{◌≡◌, ℕ, zero, suc, ◌+◌, ◌≤◌, inl, inr, Bool, true, false, true≢false, ◌==◌, Some, Option, None, List, [], ◌∷◌, length, replicate, refl, sym, ap, ◌∙◌, subst, arith}
 use Rattle.std.specs.List.{slice_get}
+use Rattle.std.proofs.lemmas.Bool.{ne_eqb}
 use Rattle.std.proofs.lemmas.Option.{same_Some}
 use Rattle.mine_model.specs.Support.{Sequence}
 use Rattle.place_walk.specs.declared.visit.Visit.{Visit}
@@ -10,7 +11,7 @@ use Rattle.stand_sums.specs.Sequences.{all_weighed}
 use Rattle.stand_sums.specs.Sums.{Tally, empty_tally, Grows, AreCounted}
 use Rattle.mask_sums.specs.declared.masked.Masked.{Masked}
 use Rattle.mask_sums.specs.Sets.{masked_at, plus, together}
-use Rattle.mask_sums.specs.Kept.{free, IsSeen}
+use Rattle.mask_sums.specs.Kept.{free, lacks, lacking, IsSeen}
 
 -- ---- both sums of a rank
 
@@ -116,6 +117,23 @@ free-counted ranks aim weights rank visits sequences before after seen empty are
           subst (λ (n : Option ℕ). AreCounted ranks (record { seen = aim.seen; need = n }) [] rank visits sequences before after) (sym none)
           (none-needed ranks aim.seen rank visits sequences before after are)
     ])
+
+-- a list of no length
+pub none-long : (list : List ℕ) → (length list == 0) ≡ true → list ≡ []
+none-long [] is = refl
+none-long (one ∷ list) is = absurd (true≢false (sym is ∙ ne_eqb (length (one ∷ list)) 0 (λ same. absurd (omega arith))))
+
+-- what is seen is not lacking
+lacks-counted : (ranks : Ranks) (seen : Bool) (need : Option ℕ) (rank : ℕ) (visits : List Visit) (sequences : List (List Visit)) (before after : Tally)
+    → AreCounted ranks (lacks (lacking (record { seen = seen; need = need }))) [] rank visits sequences before after → AreCounted ranks (record { seen = seen; need = need }) [] rank visits sequences before after
+lacks-counted ranks true need rank visits sequences before after are = seen-counted ranks need rank visits sequences before after are
+lacks-counted ranks false need rank visits sequences before after are = are
+
+pub lacking-counted : (ranks : Ranks) (aim : Aim) (weights : List ℕ) (rank : ℕ) (visits : List Visit) (sequences : List (List Visit)) (before after : Tally) → weights ≡ []
+    → AreCounted ranks (lacks (lacking aim)) [] rank visits sequences before after → AreCounted ranks aim weights rank visits sequences before after
+lacking-counted ranks aim weights rank visits sequences before after empty are =
+    subst (λ (w : List ℕ). AreCounted ranks aim w rank visits sequences before after) (sym empty)
+    (lacks-counted ranks aim.seen aim.need rank visits sequences before after are)
 
 -- what can be read below an end can be below a later one
 pub readable-more : (ranks : Ranks) (CanAsk : ℕ → ℕ → Type 0) (end later : ℕ) (visit : Visit) → end ≤ later → IsReadable ranks CanAsk end visit → IsReadable ranks CanAsk later visit

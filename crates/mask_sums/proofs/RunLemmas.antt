@@ -16,7 +16,7 @@ use Rattle.stand_sums.proofs.PartLemmas.{grows-more, none-counted}
 use Rattle.mask_sums.specs.declared.masked.Masked.{Masked}
 use Rattle.mask_sums.specs.declared.counting.Read.{Read}
 use Rattle.mask_sums.specs.Sets.{masked_at}
-use Rattle.mask_sums.specs.Kept.{free, IsSetOf, HasOneMore, HasStands}
+use Rattle.mask_sums.specs.Kept.{IsSetOf, HasOneMore, HasStands}
 use Rattle.mask_sums.proofs.SetLemmas.{set-none, set-more, has-or-not, either-or-not, follows-sets}
 
 -- ---- one visit more
@@ -38,9 +38,9 @@ pub set-start : (test : ℕ → Visit → Bool) (visits : List Visit) (from set 
 set-start test visits from set none =
     subst (λ (vs : List Visit). IsSetOf test vs set) (sym (range-none visits from)) (subst (IsSetOf test []) (sym none) (set-none test))
 
-pub stands-start : (ranks : Ranks) (visits : List Visit) (from : ℕ) (stands : List ℕ) → HasStands ranks (slice_range visits from from) stands stands
-stands-start ranks visits from stands =
-    subst (λ (vs : List Visit). HasStands ranks vs stands stands) (sym (range-none visits from)) (λ rank few. omega arith)
+pub stands-start : (ranks : Ranks) (aim : Aim) (visits : List Visit) (from : ℕ) (stands : List ℕ) → HasStands ranks aim (slice_range visits from from) stands stands
+stands-start ranks aim visits from stands =
+    subst (λ (vs : List Visit). HasStands ranks aim vs stands stands) (sym (range-none visits from)) (λ rank few. omega arith)
 
 pub range-some : (visits : List Visit) (from end : ℕ) → from < end → end ≤ length visits → 0 < length (slice_range visits from end)
 range-some visits from end less within =
@@ -53,12 +53,12 @@ pub stands-both : (ranks : Ranks) (aim : Aim) (rank : ℕ) (visits others : List
 stands-both ranks aim rank visits others =
     ap length (filter-append (opens ranks aim rank) visits others) ∙ length-append (filter (opens ranks aim rank) visits) (filter (opens ranks aim rank) others)
 
-pub stands-more : (ranks : Ranks) (visits others : List Visit) (before between after : List ℕ) → HasStands ranks visits before between → HasStands ranks others between after
-    → HasStands ranks (visits ++ others) before after
-stands-more ranks visits others before between after first then rank few =
+pub stands-more : (ranks : Ranks) (aim : Aim) (visits others : List Visit) (before between after : List ℕ) → HasStands ranks aim visits before between → HasStands ranks aim others between after
+    → HasStands ranks aim (visits ++ others) before after
+stands-more ranks aim visits others before between after first then rank few =
     let one = first rank few in
     let two = then rank few in
-    let both = stands-both ranks free rank visits others in
+    let both = stands-both ranks aim rank visits others in
     omega (arith, one, two, both)
 
 module _ (visits : List Visit) (from end : ℕ) (d : Visit) (forward : from ≤ end) (inside : end < length visits) where
@@ -69,11 +69,11 @@ module _ (visits : List Visit) (from end : ℕ) (d : Visit) (forward : from ≤ 
       subst (λ (vs : List Visit). IsSetOf test vs after) (sym (range-more visits from end d forward inside))
       (set-more test (slice_range visits from end) (get_or visits end d) before after is more)
 
-  pub stands-one_more : (ranks : Ranks) (before between after : List ℕ) → HasStands ranks (slice_range visits from end) before between
-      → HasStands ranks (get_or visits end d ∷ []) between after → HasStands ranks (slice_range visits from (end + 1)) before after
-  stands-one_more ranks before between after first then =
-      subst (λ (vs : List Visit). HasStands ranks vs before after) (sym (range-more visits from end d forward inside))
-      (stands-more ranks (slice_range visits from end) (get_or visits end d ∷ []) before between after first then)
+  pub stands-one_more : (ranks : Ranks) (aim : Aim) (before between after : List ℕ) → HasStands ranks aim (slice_range visits from end) before between
+      → HasStands ranks aim (get_or visits end d ∷ []) between after → HasStands ranks aim (slice_range visits from (end + 1)) before after
+  stands-one_more ranks aim before between after first then =
+      subst (λ (vs : List Visit). HasStands ranks aim vs before after) (sym (range-more visits from end d forward inside))
+      (stands-more ranks aim (slice_range visits from end) (get_or visits end d ∷ []) before between after first then)
 
 -- the visit at a place is marked or not as what is read there
 pub mark-at : (visits : List Visit) (k : ℕ) (visit d : Visit) (b : Bool) → slice_get visits k ≡ Some visit → (get_or visits k d).first ≡ b → visit.first ≡ b
@@ -97,16 +97,16 @@ set-grows test (visit ∷ visits) IsMember before after some decided is adds sta
   | inr lacks ↦ (0, inr ((λ one. lacks (is.1 one)), refl), let same = stays lacks in omega arith)
 ]
 
-pub sequence-counted : (ranks : Ranks) (here : List Visit) (read : Read) (before after : Masked) → 0 < length here → IsSetOf (opens ranks free) here read.opened → IsSetOf (ends ranks free) here read.ended
+pub sequence-counted : (ranks : Ranks) (aim : Aim) (here : List Visit) (read : Read) (before after : Masked) → 0 < length here → IsSetOf (opens ranks aim) here read.opened → IsSetOf (ends ranks aim) here read.ended
     → HasOneMore (λ rank. Has read.opened rank ⊎ Has read.ended rank) before.followed after.followed → HasOneMore (Has read.ended) before.ended after.ended
-    → HasOneMore (Has read.opened) before.opened after.opened → HasStands ranks here before.stands after.stands
-    → (rank : ℕ) → rank < 256 → AreCounted ranks free [] rank here (here ∷ []) (masked_at before rank) (masked_at after rank)
-sequence-counted ranks here read before after some opening ending followed ended opened stands rank few = record {
-  weight = set-grows (follows ranks free rank) here (Has read.opened rank ⊎ Has read.ended rank) (get_or before.followed rank 0) (get_or after.followed rank 0) some
-      (either-or-not read.opened read.ended rank) (follows-sets ranks here read.opened read.ended opening ending rank) (followed.members rank few) (followed.others rank);
-  support = set-grows (ends ranks free rank) here (Has read.ended rank) (get_or before.ended rank 0) (get_or after.ended rank 0) some
+    → HasOneMore (Has read.opened) before.opened after.opened → HasStands ranks aim here before.stands after.stands
+    → (rank : ℕ) → rank < 256 → AreCounted ranks aim [] rank here (here ∷ []) (masked_at before rank) (masked_at after rank)
+sequence-counted ranks aim here read before after some opening ending followed ended opened stands rank few = record {
+  weight = set-grows (follows ranks aim rank) here (Has read.opened rank ⊎ Has read.ended rank) (get_or before.followed rank 0) (get_or after.followed rank 0) some
+      (either-or-not read.opened read.ended rank) (follows-sets ranks aim here read.opened read.ended opening ending rank) (followed.members rank few) (followed.others rank);
+  support = set-grows (ends ranks aim rank) here (Has read.ended rank) (get_or before.ended rank 0) (get_or after.ended rank 0) some
       (has-or-not read.ended rank) (ending rank) (ended.members rank few) (ended.others rank);
-  longer = set-grows (opens ranks free rank) here (Has read.opened rank) (get_or before.opened rank 0) (get_or after.opened rank 0) some
+  longer = set-grows (opens ranks aim rank) here (Has read.opened rank) (get_or before.opened rank 0) (get_or after.opened rank 0) some
       (has-or-not read.opened rank) (opening rank) (opened.members rank few) (opened.others rank);
   stands = stands rank few;
 }
@@ -133,27 +133,27 @@ counts-more ranks aim weights rank visits others xs ys before between after here
     }
 
 -- so many of the visits were counted, sequence after sequence
-pub record AreCountedTo (ranks : Ranks) (visits : List Visit) (from : ℕ) (sequences : List (List Visit)) (before now : Masked) : Type 0 where
+pub record AreCountedTo (ranks : Ranks) (aim : Aim) (visits : List Visit) (from : ℕ) (sequences : List (List Visit)) (before now : Masked) : Type 0 where
   pub done : List (List Visit)
   pub left : List (List Visit)
   pub cut : sequences ≡ done ++ left
   pub left_are : AreSequences (drop from visits) left
-  pub counted : (rank : ℕ) → rank < 256 → AreCounted ranks free [] rank (take from visits) done (masked_at before rank) (masked_at now rank)
+  pub counted : (rank : ℕ) → rank < 256 → AreCounted ranks aim [] rank (take from visits) done (masked_at before rank) (masked_at now rank)
 
-pub counted-start : (ranks : Ranks) (visits : List Visit) (sequences : List (List Visit)) (masked : Masked) → AreSequences visits sequences → AreCountedTo ranks visits 0 sequences masked masked
-counted-start ranks visits sequences masked are = record {
+pub counted-start : (ranks : Ranks) (aim : Aim) (visits : List Visit) (sequences : List (List Visit)) (masked : Masked) → AreSequences visits sequences → AreCountedTo ranks aim visits 0 sequences masked masked
+counted-start ranks aim visits sequences masked are = record {
   done = [];
   left = sequences;
   cut = refl;
   left_are = are;
-  counted = λ rank few. nothing-counted ranks free [] rank [] (masked_at masked rank) tt;
+  counted = λ rank few. nothing-counted ranks aim [] rank [] (masked_at masked rank) tt;
 }
 
-pub counted-more : (ranks : Ranks) (visits : List Visit) (from end : ℕ) (sequences : List (List Visit)) (before between now : Masked) → AreCountedTo ranks visits from sequences before between
+pub counted-more : (ranks : Ranks) (aim : Aim) (visits : List Visit) (from end : ℕ) (sequences : List (List Visit)) (before between now : Masked) → AreCountedTo ranks aim visits from sequences before between
     → IsSequenceEnd visits from end
-    → ((rank : ℕ) → rank < 256 → AreCounted ranks free [] rank (slice_range visits from end) (slice_range visits from end ∷ []) (masked_at between rank) (masked_at now rank))
-    → AreCountedTo ranks visits end sequences before now
-counted-more ranks visits from end sequences before between now to ends step =
+    → ((rank : ℕ) → rank < 256 → AreCounted ranks aim [] rank (slice_range visits from end) (slice_range visits from end ∷ []) (masked_at between rank) (masked_at now rank))
+    → AreCountedTo ranks aim visits end sequences before now
+counted-more ranks aim visits from end sequences before between now to ends step =
     let next = next-cut visits from end ends to.left to.left_are in
     let here : List Visit = slice_range visits from end in
     let forward = ends.some in
@@ -165,19 +165,19 @@ counted-more ranks visits from end sequences before between now to ends step =
       left_are = next.are;
       counted = λ rank few.
           let middle : Tally = masked_at between rank in
-          let quiet = nothing-counted ranks free [] rank next.none middle next.empty in
-          let both = counts-more ranks free [] rank (take from visits) [] to.done next.none (masked_at before rank) middle middle (to.counted rank few) quiet in
-          let whole = counts-more ranks free [] rank (take from visits ++ []) here (to.done ++ next.none) (here ∷ []) (masked_at before rank) middle (masked_at now rank) both (step rank few) in
+          let quiet = nothing-counted ranks aim [] rank next.none middle next.empty in
+          let both = counts-more ranks aim [] rank (take from visits) [] to.done next.none (masked_at before rank) middle middle (to.counted rank few) quiet in
+          let whole = counts-more ranks aim [] rank (take from visits ++ []) here (to.done ++ next.none) (here ∷ []) (masked_at before rank) middle (masked_at now rank) both (step rank few) in
           let read : take end visits ≡ take from visits ++ [] ++ here = take-range visits from end (omega arith) ∙ ap (λ (l : List Visit). l ++ here) (sym (append-nil (take from visits))) in
           rw read whole;
     }
 
-pub counted-all : (ranks : Ranks) (visits : List Visit) (from : ℕ) (sequences : List (List Visit)) (before now : Masked) → AreCountedTo ranks visits from sequences before now → length visits ≤ from
-    → (rank : ℕ) → rank < 256 → AreCounted ranks free [] rank visits sequences (masked_at before rank) (masked_at now rank)
-counted-all ranks visits from sequences before now to past rank few =
+pub counted-all : (ranks : Ranks) (aim : Aim) (visits : List Visit) (from : ℕ) (sequences : List (List Visit)) (before now : Masked) → AreCountedTo ranks aim visits from sequences before now → length visits ≤ from
+    → (rank : ℕ) → rank < 256 → AreCounted ranks aim [] rank visits sequences (masked_at before rank) (masked_at now rank)
+counted-all ranks aim visits from sequences before now to past rank few =
     let none : drop from visits ≡ [] = drop-past from visits past in
     let after : Tally = masked_at now rank in
-    let quiet = nothing-counted ranks free [] rank to.left after (all-none (drop from visits) to.left none to.left_are) in
-    let both = counts-more ranks free [] rank (take from visits) [] to.done to.left (masked_at before rank) after after (to.counted rank few) quiet in
+    let quiet = nothing-counted ranks aim [] rank to.left after (all-none (drop from visits) to.left none to.left_are) in
+    let both = counts-more ranks aim [] rank (take from visits) [] to.done to.left (masked_at before rank) after after (to.counted rank few) quiet in
     let read : take from visits ++ [] ≡ visits = append-nil (take from visits) ∙ take_all from visits past in
-    rw (to.cut) (subst (λ (l : List Visit). AreCounted ranks free [] rank l (to.done ++ to.left) (masked_at before rank) after) read both)
+    rw (to.cut) (subst (λ (l : List Visit). AreCounted ranks aim [] rank l (to.done ++ to.left) (masked_at before rank) after) read both)

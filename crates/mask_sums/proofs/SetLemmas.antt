@@ -1,16 +1,17 @@
 -- Sets of the ranks that visits write.
 use Rattle.std.proofs.Common.{◌≡◌, ℕ, zero, suc, ◌+◌, ◌⊎◌, ◌↔◌, inl, inr, Bool, true, false, cond, true≢false, ◌||◌, ◌&&◌, ◌==◌, IsTrue, List, [], ◌∷◌, ◌++◌, length, get_or, replicate, refl, sym, ap, ◌∙◌, subst, arith}
 use Rattle.std.specs.List.{Contains, list_any}
-use Rattle.std.proofs.lemmas.Bool.{cases_eq, eq-eqb, ne_eqb, false_from_ne_true}
+use Rattle.std.proofs.lemmas.Bool.{cases_eq, eq-eqb, ne_eqb}
 use Rattle.std.proofs.lemmas.List.Elements.{Contains-push, Contains-push_cases, Contains-append_left}
 use Rattle.mine_model.proofs.ListLemmas.{Contains-cases, Contains-first, Contains-other, Contains-none}
 use Rattle.state_bits.specs.Members.{Has}
 use Rattle.state_bits.proofs.NeighbourLemmas.{Has-none}
 use Rattle.place_walk.specs.declared.visit.Visit.{Visit}
-use Rattle.stand_sums.specs.Writings.{Ranks, opens, ends, follows}
+use Rattle.stand_sums.specs.declared.aim.Aim.{Aim}
+use Rattle.stand_sums.specs.Writings.{Ranks, goes_on, stops, opens, ends, follows}
 use Rattle.stand_sums.specs.Sequences.{HasOne}
 use Rattle.stand_sums.specs.Sums.{stands_among}
-use Rattle.mask_sums.specs.Kept.{free, IsSetOf}
+use Rattle.mask_sums.specs.Kept.{free, GoesOn, Stops, IsSetOf, HasOneMore, HasStands}
 
 -- ---- members
 
@@ -89,10 +90,32 @@ pub ends-no : (ranks : Ranks) (visit : Visit) → visit.action.ends ≡ false �
 ends-no ranks visit stays rank ending =
     true≢false (sym (and-second (list_any (λ other. other == rank) (ranks visit.kind visit.action.state)) visit.action.ends ending) ∙ stays)
 
+-- ---- behind any prefix
+
+module _ (ranks : Ranks) (aim : Aim) (visit : Visit) (mask : ℕ) (is : (rank : ℕ) → Has mask rank ↔ Contains (ranks visit.kind visit.action.state) rank) (rank : ℕ) where
+  -- the ranks of its set with which a visit goes on are those that open
+  pub opens-set : GoesOn aim visit.action mask rank ↔ IsTrue (opens ranks aim rank visit)
+  opens-set = (
+    (λ (has, on). and-both (list_any (λ other. other == rank) (ranks visit.kind visit.action.state)) (goes_on aim rank visit.action) (writes-from ranks visit mask is rank has) on),
+    (λ opening. (
+      writes-to ranks visit mask is rank (and-first (list_any (λ other. other == rank) (ranks visit.kind visit.action.state)) (goes_on aim rank visit.action) opening),
+      and-second (list_any (λ other. other == rank) (ranks visit.kind visit.action.state)) (goes_on aim rank visit.action) opening,
+    )),
+  )
+
+  pub ends-set : Stops aim visit.action mask rank ↔ IsTrue (ends ranks aim rank visit)
+  ends-set = (
+    (λ (has, ending). and-both (list_any (λ other. other == rank) (ranks visit.kind visit.action.state)) (stops aim rank visit.action) (writes-from ranks visit mask is rank has) ending),
+    (λ ending. (
+      writes-to ranks visit mask is rank (and-first (list_any (λ other. other == rank) (ranks visit.kind visit.action.state)) (stops aim rank visit.action) ending),
+      and-second (list_any (λ other. other == rank) (ranks visit.kind visit.action.state)) (stops aim rank visit.action) ending,
+    )),
+  )
+
 -- ---- a set with what one visit adds
 
-pub union-with : (before after mask rank : ℕ) (Passes : Type 0) → Has after rank ↔ (Has before rank ⊎ Has mask rank) → Has mask rank ↔ Passes → Has after rank ↔ (Has before rank ⊎ Passes)
-union-with before after mask rank Passes union is = (
+pub union-with : (before after rank : ℕ) (Adds Passes : Type 0) → Has after rank ↔ (Has before rank ⊎ Adds) → Adds ↔ Passes → Has after rank ↔ (Has before rank ⊎ Passes)
+union-with before after rank Adds Passes union is = (
   (λ has. elim (union.0 has) [ inl had ↦ inl had | inr new ↦ inr (is.0 new) ]),
   (λ either. union.1 (elim either [ inl had ↦ inl had | inr passes ↦ inr (is.1 passes) ])),
 )
@@ -104,17 +127,23 @@ union-none before rank Passes fails = (
 )
 
 -- its stands
-pub stands-one : (ranks : Ranks) (visit : Visit) (mask : ℕ) → ((rank : ℕ) → Has mask rank ↔ Contains (ranks visit.kind visit.action.state) rank) → visit.action.more ≡ true
-    → (rank before after : ℕ) → (Has mask rank → after ≡ before + 1) → ((Has mask rank → ⊥) → after ≡ before) → after ≡ before + stands_among ranks free rank (visit ∷ [])
-stands-one ranks visit mask is more rank before after adds stays = elim (has-or-not mask rank) [
-  | inl has ↦
-      let opening : opens ranks free rank visit ≡ true = (opens-yes ranks visit mask is more rank).0 has in
-      adds has ∙ ap (λ (b : Bool). before + length (cond b (visit ∷ []) [])) (sym opening)
-  | inr lacks ↦
-      let not_opening : opens ranks free rank visit ≡ false = false_from_ne_true (opens ranks free rank visit) (λ opening. lacks ((opens-yes ranks visit mask is more rank).1 opening)) in
+true-or-false : (b : Bool) → (b ≡ true) ⊎ (b ≡ false)
+true-or-false true = inl refl
+true-or-false false = inr refl
+
+pub stands-one : (ranks : Ranks) (aim : Aim) (visit : Visit) (IsMember : Type 0) (rank : ℕ) → IsMember ↔ IsTrue (opens ranks aim rank visit)
+    → (before after : ℕ) → (IsMember → after ≡ before + 1) → ((IsMember → ⊥) → after ≡ before) → after ≡ before + stands_among ranks aim rank (visit ∷ [])
+stands-one ranks aim visit IsMember rank is before after adds stays = elim (true-or-false (opens ranks aim rank visit)) [
+  | inl opening ↦ adds (is.1 opening) ∙ ap (λ (b : Bool). before + length (cond b (visit ∷ []) [])) (sym opening)
+  | inr closed ↦
       let same : before ≡ before + 0 = omega arith in
-      stays lacks ∙ same ∙ ap (λ (b : Bool). before + length (cond b (visit ∷ []) [])) (sym not_opening)
+      stays (λ member. true≢false (sym (is.0 member) ∙ closed)) ∙ same ∙ ap (λ (b : Bool). before + length (cond b (visit ∷ []) [])) (sym closed)
 ]
+
+pub stands-visit : (ranks : Ranks) (aim : Aim) (visit : Visit) (mask : ℕ) → ((rank : ℕ) → Has mask rank ↔ Contains (ranks visit.kind visit.action.state) rank) → (before after : List ℕ)
+    → HasOneMore (GoesOn aim visit.action mask) before after → HasStands ranks aim (visit ∷ []) before after
+stands-visit ranks aim visit mask is before after more rank few =
+    stands-one ranks aim visit (GoesOn aim visit.action mask rank) rank (opens-set ranks aim visit mask is rank) (get_or before rank 0) (get_or after rank 0) (more.members rank few) (more.others rank)
 
 -- ---- one visit more
 
@@ -147,14 +176,14 @@ or-second : (one other : Bool) → other ≡ true → (one || other) ≡ true
 or-second true other is = refl
 or-second false other is = is
 
-pub follows-sets : (ranks : Ranks) (visits : List Visit) (opened ended : ℕ) → IsSetOf (opens ranks free) visits opened → IsSetOf (ends ranks free) visits ended
-    → (rank : ℕ) → (Has opened rank ⊎ Has ended rank) ↔ HasOne (follows ranks free rank) visits
-follows-sets ranks visits opened ended opening ending rank = (
+pub follows-sets : (ranks : Ranks) (aim : Aim) (visits : List Visit) (opened ended : ℕ) → IsSetOf (opens ranks aim) visits opened → IsSetOf (ends ranks aim) visits ended
+    → (rank : ℕ) → (Has opened rank ⊎ Has ended rank) ↔ HasOne (follows ranks aim rank) visits
+follows-sets ranks aim visits opened ended opening ending rank = (
   (λ has. elim has [
-    | inl there ↦ let (one, held, passes) = (opening rank).0 there in (one, held, or-first (opens ranks free rank one) (ends ranks free rank one) passes)
-    | inr there ↦ let (one, held, passes) = (ending rank).0 there in (one, held, or-second (opens ranks free rank one) (ends ranks free rank one) passes)
+    | inl there ↦ let (one, held, passes) = (opening rank).0 there in (one, held, or-first (opens ranks aim rank one) (ends ranks aim rank one) passes)
+    | inr there ↦ let (one, held, passes) = (ending rank).0 there in (one, held, or-second (opens ranks aim rank one) (ends ranks aim rank one) passes)
   ]),
-  (λ (one, held, passes). elim (or-cases (opens ranks free rank one) (ends ranks free rank one) passes) [
+  (λ (one, held, passes). elim (or-cases (opens ranks aim rank one) (ends ranks aim rank one) passes) [
     | inl opens_one ↦ inl ((opening rank).1 (one, held, opens_one))
     | inr ends_one ↦ inr ((ending rank).1 (one, held, ends_one))
   ]),

@@ -1,10 +1,11 @@
 -- What the counting by sets keeps.
-use Rattle.std.specs.Prelude.{◌≡◌, ℕ, ◌+◌, ◌<◌, ◌≤◌, ◌↔◌, ◌⊎◌, IsTrue, Bool, true, false, Option, Some, None, List, length, replicate, slice_index, slice_range}
+use Rattle.std.specs.Prelude.{◌≡◌, ℕ, ◌+◌, ◌<◌, ◌≤◌, ◌↔◌, ◌⊎◌, if◌then◌else◌, IsTrue, Bool, true, false, Option, Some, None, List, length, replicate, slice_index, slice_range}
 use Rattle.state_bits.specs.Members.{Has}
+use Rattle.walk_memo.specs.declared.action.Action.{Action}
 use Rattle.place_walk.specs.declared.visit.Visit.{Visit}
 use Rattle.stand_sums.specs.declared.aim.Aim.{Aim}
 use Rattle.stand_sums.specs.declared.next_rank.NextRank.{NextRank}
-use Rattle.stand_sums.specs.Writings.{Ranks, opens, ends}
+use Rattle.stand_sums.specs.Writings.{Ranks, goes_on, stops, opens, ends}
 use Rattle.stand_sums.specs.Sequences.{HasOne}
 use Rattle.stand_sums.specs.Sums.{Tally, empty_tally, stands_among, IsTold}
 use Rattle.stand_sums.specs.Kept.{IsSequenceEnd}
@@ -12,23 +13,39 @@ use Rattle.mask_sums.specs.declared.masked.Masked.{Masked}
 use Rattle.mask_sums.specs.declared.counting.Read.{Read}
 use Rattle.mask_sums.specs.Sets.{masked_at}
 
+-- this rank is needed and not yet seen, or none is
+abbrev pub lacks : Option ℕ → Aim
+lacks need = record { seen = false; need = need }
+
 -- nothing is needed
 abbrev pub free : Aim
-free = record { seen = false; need = None }
+free = lacks None
 
 -- nothing is needed that is not yet seen
 abbrev pub IsSeen : Aim → Type 0
 IsSeen aim = IsTrue aim.seen ⊎ (aim.need ≡ None)
+
+-- what is needed and not yet seen
+abbrev pub lacking : Aim → Option ℕ
+lacking aim = if aim.seen then None else aim.need
+
+-- the rank is one of those that the action writes, and goes on
+abbrev pub GoesOn : Aim → Action → ℕ → ℕ → Type 0
+GoesOn aim action mask rank = Has mask rank × IsTrue (goes_on aim rank action)
+
+-- the rank is one of those that the action writes, and the prefix with it is a pattern
+abbrev pub Stops : Aim → Action → ℕ → ℕ → Type 0
+Stops aim action mask rank = Has mask rank × IsTrue (stops aim rank action)
 
 -- the set has the rank just where one of the visits passes
 abbrev pub IsSetOf : (ℕ → Visit → Bool) → List Visit → ℕ → Type 0
 IsSetOf test visits set = (rank : ℕ) → Has set rank ↔ HasOne (test rank) visits
 
 -- the sets of the sequence from this place on, and its end
-pub record IsRead (ranks : Ranks) (visits : List Visit) (from : ℕ) (read : Read) : Type 0 where
+pub record IsRead (ranks : Ranks) (aim : Aim) (visits : List Visit) (from : ℕ) (read : Read) : Type 0 where
   pub end : IsSequenceEnd visits from read.end
-  pub opened : IsSetOf (opens ranks free) (slice_range visits from read.end) read.opened
-  pub ended : IsSetOf (ends ranks free) (slice_range visits from read.end) read.ended
+  pub opened : IsSetOf (opens ranks aim) (slice_range visits from read.end) read.opened
+  pub ended : IsSetOf (ends ranks aim) (slice_range visits from read.end) read.ended
 
 -- one more of each member, and of no other
 pub record HasOneMore (IsMember : ℕ → Type 0) (before after : List ℕ) : Type 0 where
@@ -37,10 +54,10 @@ pub record HasOneMore (IsMember : ℕ → Type 0) (before after : List ℕ) : Ty
   pub others : (rank : ℕ) → (IsMember rank → ⊥) → slice_index after rank ≡ slice_index before rank
 
 -- so many more stands of each rank as visits write it and go on
-abbrev pub HasStands : Ranks → List Visit → List ℕ → List ℕ → Type 0
-HasStands ranks visits before after =
+abbrev pub HasStands : Ranks → Aim → List Visit → List ℕ → List ℕ → Type 0
+HasStands ranks aim visits before after =
     (rank : ℕ) → rank < 256
-    → slice_index after rank ≡ slice_index before rank + stands_among ranks free rank visits
+    → slice_index after rank ≡ slice_index before rank + stands_among ranks aim rank visits
 
 -- the rank with its sums, and with places from 0 on for all its stands
 abbrev pub whole : ℕ → Tally → NextRank

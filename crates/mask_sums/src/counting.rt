@@ -7,10 +7,12 @@ ghost use Rattle.stand_sums.specs.Writings.{IsReadable, opens, ends};
 ghost use Rattle.stand_sums.specs.Sequences.{AreSequences};
 ghost use Rattle.stand_sums.specs.Sums.{AreCounted};
 ghost use Rattle.mask_sums.specs.Sets.{masked_at};
-ghost use Rattle.mask_sums.specs.Kept.{free, IsRead, HasOneMore, HasStands};
+ghost use Rattle.mask_sums.specs.Kept.{lacks, IsRead, HasOneMore, HasStands};
 
+use super::lacking::read_lacking;
 use super::masked::Masked;
 use super::masks::Masks;
+use super::seen::read_seen;
 use member_counts::MemberCounts;
 use mine_model::NoMemory;
 use place_walk::Visit;
@@ -25,21 +27,24 @@ pub(crate) struct Read {
     pub(crate) end: usize,
 }
 
-/// Counts the visits of some whole sequences, each of which weighs 1.
+/// Counts the visits of some whole sequences, each of which weighs 1, behind a prefix that lacks this rank,
+/// or none.
 pub(crate) fn count_all<T: Masks>(
     table: &T,
+    lacking: Option<u32>,
     visits: &[Visit],
     masked: &mut Masked,
 ) -> Result<(), NoMemory>
     requires kept { IsTrue (T.keeps table.now) }
     requires readable { All (IsReadable (T.ranks table.now) (T.CanAsk table.now) 256) visits.now }
     ensures { OnOk result ((sequences : List (List Visited)) → AreSequences visits.now sequences
-        → (rank : ℕ) → rank < 256 → AreCounted (T.ranks table.now) free [] rank visits.now sequences
+        → (rank : ℕ) → rank < 256
+        → AreCounted (T.ranks table.now) (lacks lacking) [] rank visits.now sequences
         (masked_at masked.old rank) (masked_at masked.new rank)) }
 {
     let mut from = 0;
     'sequences: while from < visits.len() {
-        let read = read_sequence(table, visits, from, &mut masked.stands)?;
+        let read = read_sequence(table, lacking, visits, from, &mut masked.stands)?;
         count_sequence(&read, masked)?;
         from = read.end;
     }
@@ -49,6 +54,7 @@ pub(crate) fn count_all<T: Masks>(
 /// Reads the visits of the sequence that begins here, and counts the stands behind each.
 fn read_sequence<T: Masks>(
     table: &T,
+    lacking: Option<u32>,
     visits: &[Visit],
     from: usize,
     stands: &mut MemberCounts<4>,
@@ -56,15 +62,15 @@ fn read_sequence<T: Masks>(
     requires kept { IsTrue (T.keeps table.now) }
     requires readable { All (IsReadable (T.ranks table.now) (T.CanAsk table.now) 256) visits.now }
     requires some { from < length visits.now }
-    ensures read { IfOk result (λ read. IsRead (T.ranks table.now) visits.now from read) }
-    ensures stands { IfOk result (λ read. HasStands (T.ranks table.now)
+    ensures read { IfOk result (λ read. IsRead (T.ranks table.now) (lacks lacking) visits.now from read) }
+    ensures stands { IfOk result (λ read. HasStands (T.ranks table.now) (lacks lacking)
         (slice_range visits.now from read.end) stands.old stands.new) }
 {
     let mut opened = StateSet::new();
     let mut ended = StateSet::new();
     let mut end = from;
     'visits: while end < visits.len() && (end == from || !visits[end].first) {
-        read_visit(table, visits[end], &mut opened, &mut ended, stands)?;
+        read_visit(table, lacking, visits[end], &mut opened, &mut ended, stands)?;
         end += 1;
     }
     Ok(Read { opened, ended, end })
@@ -74,28 +80,26 @@ fn read_sequence<T: Masks>(
 #[inline]
 fn read_visit<T: Masks>(
     table: &T,
+    lacking: Option<u32>,
     visit: Visit,
     opened: &mut StateSet<4>,
     ended: &mut StateSet<4>,
     stands: &mut MemberCounts<4>,
 ) -> Result<(), NoMemory>
     requires kept { IsTrue (T.keeps table.now) }
-    requires asked { T.CanAsk table.now visit.kind visit.action.state }
+    requires readable { IsReadable (T.ranks table.now) (T.CanAsk table.now) 256 visit }
     ensures opened { OnOk result ((rank : ℕ) → Has opened.new rank
-        ↔ (Has opened.old rank ⊎ IsTrue (opens (T.ranks table.now) free rank visit))) }
+        ↔ (Has opened.old rank ⊎ IsTrue (opens (T.ranks table.now) (lacks lacking) rank visit))) }
     ensures ended { OnOk result ((rank : ℕ) → Has ended.new rank
-        ↔ (Has ended.old rank ⊎ IsTrue (ends (T.ranks table.now) free rank visit))) }
-    ensures stands { OnOk result (HasStands (T.ranks table.now) (visit ∷ []) stands.old stands.new) }
+        ↔ (Has ended.old rank ⊎ IsTrue (ends (T.ranks table.now) (lacks lacking) rank visit))) }
+    ensures stands { OnOk result (HasStands (T.ranks table.now) (lacks lacking) (visit ∷ [])
+        stands.old stands.new) }
 {
     let mask = table.mask(visit.kind, visit.action.state);
-    if visit.action.ends {
-        ended.union_with(mask);
+    match lacking {
+        None => read_seen(mask, visit.action, opened, ended, stands),
+        Some(need) => read_lacking(mask, need, visit.action, opened, ended, stands),
     }
-    if visit.action.more {
-        opened.union_with(mask);
-        stands.add(mask)?;
-    }
-    Ok(())
 }
 
 /// Counts the sets of one sequence.

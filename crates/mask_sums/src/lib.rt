@@ -4,9 +4,11 @@
 #![tactic(auto)]
 
 mod counting;
+mod lacking;
 mod masked;
 mod masks;
 mod reaching;
+mod seen;
 mod sums;
 
 pub use masks::Masks;

@@ -3,7 +3,7 @@ ghost use Rattle.place_walk.specs.declared.visit.Visit.{Visit as Visited};
 ghost use Rattle.stand_sums.specs.Writings.{IsReadable};
 ghost use Rattle.stand_sums.specs.Sequences.{AreSequences};
 ghost use Rattle.stand_sums.specs.Sums.{Tally, empty_tally, AreCounted, AreNext};
-ghost use Rattle.mask_sums.specs.Kept.{IsSeen};
+ghost use Rattle.mask_sums.specs.Kept.{lacking as lacking_of};
 
 use super::counting::count_all;
 use super::masked::Masked;
@@ -16,8 +16,7 @@ use std::alloc::Global;
 use std::marker::Model;
 
 /// A worker's room for sums by rank. A contract sees what is summed up of each rank. Visits are counted by
-/// sets of ranks where there are at most 256 ranks, nothing is needed that is not yet seen, and each sequence
-/// weighs 1, and else rank by rank.
+/// sets of ranks where there are at most 256 ranks and each sequence weighs 1, and else rank by rank.
 pub struct MaskedSums {
     sums: Sums,
     masked: Masked,
@@ -85,9 +84,9 @@ impl MaskedSums {
             → slice_get self.new rank ≡ Some after
             → AreCounted (T.ranks table.now) aim weights.now rank visits.now sequences before after) }
     {
-        if is_plain(aim, weights) && self.ranks <= 256 && table.has_masks() {
+        if weights.is_empty() && self.ranks <= 256 && table.has_masks() {
             self.by_sets = true;
-            count_all(table, visits, &mut self.masked)
+            count_all(table, lacking(aim), visits, &mut self.masked)
         } else {
             self.by_ranks = true;
             self.sums.add(table, aim, weights, visits)
@@ -131,11 +130,10 @@ impl MaskedSums {
     }
 }
 
-/// Whether nothing is needed that is not yet seen, and each sequence weighs 1.
+/// What is needed and not yet seen.
 #[inline]
-fn is_plain(aim: Aim, weights: &[u32]) -> bool
-    ensures need { IsTrue result → IsSeen aim }
-    ensures weights { IsTrue result → weights.now ≡ [] }
+fn lacking(aim: Aim) -> Option<u32>
+    ensures { result ≡ lacking_of aim }
 {
-    (aim.seen || aim.need.is_none()) && weights.is_empty()
+    if aim.seen { None } else { aim.need }
 }

@@ -1,6 +1,6 @@
 //! The records of a part, made of its grids.
 
-ghost use Rattle.std.specs.Prelude.{◌≡◌, ℕ, ◌+◌, ◌*◌, ◌≤◌, ◌<◌, ◌↔◌, true, false, List, [], ◌∷◌, length, map, slice_get, None, Some, IfOk};
+ghost use Rattle.std.specs.Prelude.{◌≡◌, ℕ, ◌+◌, ◌*◌, ◌≤◌, ◌<◌, ◌↔◌, true, false, List, [], ◌∷◌, length, map, slice_get, Some, IfOk};
 ghost use Rattle.std.specs.List.{AllByRecursion};
 ghost use Rattle.mining_job.specs.declared.bound.Bound.{Bound as Bounded};
 ghost use Rattle.mining_job.specs.Problems.{Problem};
@@ -45,7 +45,7 @@ pub fn records<const W: usize>(alloc: Global, grids: Grids<'_>) -> Result<Record
         parts.ends.as_slice(),
         parts.sequences.as_slice(),
     );
-    with_table(alloc, made, kinds, is_plain(parts.bound))
+    with_table(alloc, made, kinds, keeps_sets(parts.job, parts.bound))
 }
 
 // The records, and the moves that they name.
@@ -152,9 +152,9 @@ pub(crate) fn with_moves<const W: usize>(
     })
 }
 
-// Whether nothing is needed and few ranks may be written, so that sums by sets of ranks serve.
-pub(crate) fn is_plain(bound: Bound) -> bool
-    ensures { result ≡ true ↔ ((bound.need ≡ None) × (bound.top ≤ 255)) }
+// Whether there are few ranks, and few may be written, so that sums by sets of ranks serve.
+pub(crate) fn keeps_sets(job: &Job, bound: Bound) -> bool
+    ensures { result ≡ true ↔ ((bound.top ≤ 255) × (length job.now.ranking.order ≤ 255)) }
 {
-    bound.need.is_none() && bound.top <= 255
+    bound.top <= 255 && job.ranks().count() <= 255
 }

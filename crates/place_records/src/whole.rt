@@ -12,7 +12,7 @@ ghost use Rattle.place_records.specs.Filled.{AreMade};
 use super::block::{Block, block_of};
 use super::blocks::join_all;
 use super::joining::{Joined, no_blocks};
-use super::making::{Made, is_plain, with_moves, with_table};
+use super::making::{Made, keeps_sets, with_moves, with_table};
 use super::part_records::Records;
 use mine_model::NoMemory;
 use mining_job::{Bound, Job};
@@ -47,7 +47,7 @@ pub fn records_of_all<R: Threads + Sync, const W: usize>(
     let mut sequences = Vec::new(alloc);
     let made = made_by_threads(rt, workers, alloc, job, bound, &alphabet, &mut sequences)?;
     let kinds = alphabet.kinds.without_numbers(alloc);
-    let records = with_table(alloc, Ok(made), kinds, is_plain(bound))?;
+    let records = with_table(alloc, Ok(made), kinds, keeps_sets(job, bound))?;
     Ok((sequences, records))
 }
 
@@ -70,7 +70,7 @@ pub fn records_of_all_alone<const W: usize>(
     let mut sequences = Vec::new(alloc);
     let made = made_alone(alloc, job, bound, tables, &kinds, &mut sequences)?;
     let kinds = kinds.without_numbers(alloc);
-    let records = with_table(alloc, Ok(made), kinds, is_plain(bound))?;
+    let records = with_table(alloc, Ok(made), kinds, keeps_sets(job, bound))?;
     Ok((sequences, records))
 }
 

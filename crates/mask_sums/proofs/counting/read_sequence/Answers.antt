@@ -6,7 +6,7 @@ use Rattle.place_walk.specs.declared.visit.Visit.{Visit}
 use Rattle.stand_sums.specs.Writings.{opens, ends}
 use Rattle.stand_sums.specs.Kept.{IsSequenceEnd}
 use Rattle.stand_sums.proofs.PartLemmas.{blank}
-use Rattle.mask_sums.specs.Kept.{free}
+use Rattle.mask_sums.specs.Kept.{lacks}
 use Rattle.mask_sums.proofs.RunLemmas.{set-start, stands-start, set-one_more, stands-one_more, mark-at, not-true, not-false}
 use Rattle.mask_sums.proofs.counting.read_sequence.Goals.{then-visits-test+else-not-visits-end, then-end-from, else-end-from, else-visits-test}
 use Rattle.mask_sums.proofs.counting.read_sequence.Goals as goal
@@ -19,9 +19,9 @@ visits-init g c =
       forward = omega arith;
       within = omega arith;
       here = λ k visit past before at. absurd (omega arith);
-      opened = set-start (opens ranks free) c.args.visits.now c.args.from c.new-opened.result c.new-opened.ensures;
-      ended = set-start (ends ranks free) c.args.visits.now c.args.from c.new-ended.result c.new-ended.ensures;
-      stands = stands-start ranks c.args.visits.now c.args.from c.args.stands.now;
+      opened = set-start (opens ranks (lacks c.args.lacking)) c.args.visits.now c.args.from c.new-opened.result c.new-opened.ensures;
+      ended = set-start (ends ranks (lacks c.args.lacking)) c.args.visits.now c.args.from c.new-ended.result c.new-ended.ensures;
+      stands = stands-start ranks (lacks c.args.lacking) c.args.visits.now c.args.from c.args.stands.now;
     }
 
 pub visits-preserved : goal.visits-preserved
@@ -44,9 +44,9 @@ visits-preserved g c =
             ]
         | inr other ↦ c.visits.invariant.here k visit past (omega arith) at
       ];
-      opened = set-one_more visits from end blank forward inside (opens ranks free) c.visits.opened c.read_visit.new.opened c.visits.invariant.opened c.in_ok-read_visit.ensures.opened;
-      ended = set-one_more visits from end blank forward inside (ends ranks free) c.visits.ended c.read_visit.new.ended c.visits.invariant.ended c.in_ok-read_visit.ensures.ended;
-      stands = stands-one_more visits from end blank forward inside ranks c.args.stands.now c.visits.stands c.read_visit.new.stands c.visits.invariant.stands c.in_ok-read_visit.ensures.stands;
+      opened = set-one_more visits from end blank forward inside (opens ranks (lacks c.args.lacking)) c.visits.opened c.read_visit.new.opened c.visits.invariant.opened c.in_ok-read_visit.ensures.opened;
+      ended = set-one_more visits from end blank forward inside (ends ranks (lacks c.args.lacking)) c.visits.ended c.read_visit.new.ended c.visits.invariant.ended c.in_ok-read_visit.ensures.ended;
+      stands = stands-one_more visits from end blank forward inside ranks (lacks c.args.lacking) c.args.stands.now c.visits.stands c.read_visit.new.stands c.visits.invariant.stands c.in_ok-read_visit.ensures.stands;
     }
 
 pub returns-clause-read : goal.returns-clause-read

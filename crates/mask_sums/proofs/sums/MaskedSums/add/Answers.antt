@@ -1,10 +1,11 @@
-use Rattle.std.proofs.Common.{◌≡◌, ◌∙◌, ◌<◌, Some, List, length, get_or, sym, ap, subst, arith}
+use Rattle.std.proofs.Common.{◌≡◌, ◌∙◌, ℕ, ◌<◌, Option, Some, List, [], length, get_or, sym, ap, subst, arith}
 use Rattle.std.specs.List.{slice_get}
 use Rattle.std.proofs.lemmas.Option.{same_Some, slice_get_within}
 use Rattle.std.proofs.lemmas.Result.{on_ok_weaker}
 use Rattle.stand_sums.specs.Sums.{Tally, AreCounted}
 use Rattle.mask_sums.specs.Sets.{masked_at, plus, together}
-use Rattle.mask_sums.proofs.RoomLemmas.{together-long, at-together, first-counted, second-counted, free-counted, readable-more}
+use Rattle.mask_sums.specs.Kept.{lacks}
+use Rattle.mask_sums.proofs.RoomLemmas.{together-long, at-together, first-counted, second-counted, none-long, lacking-counted, readable-more}
 use Rattle.mask_sums.proofs.sums.MaskedSums.add.Goals as goal
 
 pub count_all-requires-clause-readable : goal.count_all-requires-clause-readable
@@ -42,20 +43,20 @@ returns-then-has_masks-clause-counted g c =
     let low : Tally = masked_at c.self.inside.masked rank in
     let high : Tally = masked_at c.count_all.new.masked rank in
     let plain : AreCounted ranks c.args.aim c.args.weights.now rank c.args.visits.now sequences low high =
-    free-counted ranks c.args.aim c.args.weights.now rank c.args.visits.now sequences low high (c.is_plain.ensures.need c.if-is_plain.true) (c.is_plain.ensures.weights c.if-is_plain.true)
-    (counted sequences are rank (omega arith)) in
+    lacking-counted ranks c.args.aim c.args.weights.now rank c.args.visits.now sequences low high (none-long c.args.weights.now (sym c.is_empty.ensures ∙ c.if-is_empty.true))
+    (subst (λ (need : Option ℕ). AreCounted ranks (lacks need) [] rank c.args.visits.now sequences low high) c.lacking.ensures (counted sequences are rank (omega arith))) in
     subst (λ (t : Tally). AreCounted ranks c.args.aim c.args.weights.now rank c.args.visits.now sequences t after) (sym before_is)
     (subst (AreCounted ranks c.args.aim c.args.weights.now rank c.args.visits.now sequences (plus tally low)) (sym after_is)
     (second-counted ranks c.args.aim c.args.weights.now rank c.args.visits.now sequences low high tally plain)))
     c.count_all.ensures
 
-pub returns-else-is_plain-clause-room : goal.returns-else-is_plain-clause-room
-returns-else-is_plain-clause-room g c =
+pub returns-else-is_empty-clause-room : goal.returns-else-is_empty-clause-room
+returns-else-is_empty-clause-room g c =
     together-long c.self.inside.masked 0 c.add.new.self ∙ c.add.ensures.room ∙ sym (together-long c.self.inside.masked 0 c.self.inside.sums)
     ∙ ap (λ (l : List Tally). length l) c.self.view_is
 
-pub returns-else-is_plain-clause-counted : goal.returns-else-is_plain-clause-counted
-returns-else-is_plain-clause-counted g c =
+pub returns-else-is_empty-clause-counted : goal.returns-else-is_empty-clause-counted
+returns-else-is_empty-clause-counted g c =
     let ranks = g.T.Outputs.ranks c.args.table.now in
     on_ok_weaker c.add.result
     (λ counted sequences are rank before after at also.
