@@ -87,8 +87,15 @@ fn meet_items(alloc: Global, job: &Job, bound: Bound, all: &mut Alphabet) -> Res
 {
     let mut scratch = Scratch::new(alloc);
     for number in 0..job.hierarchy().items() {
-        let t = Item(number);
-        kind_of(job, bound, &mut all.tables, &mut all.kinds, &mut scratch, t)?;
+        let t = [Item(number)];
+        meet_all(
+            job,
+            bound,
+            &mut all.tables,
+            &mut all.kinds,
+            &mut scratch,
+            &t,
+        )?;
     }
     Ok(())
 }

@@ -1,18 +1,18 @@
-use Rattle.std.proofs.Common.{◌<◌, inl, inr, ap, arith}
+use Rattle.std.proofs.Common.{◌<◌, inl, inr, [], ap, arith}
 use Rattle.std.proofs.lemmas.Bool.{cases_eq}
 use Rattle.std.proofs.lemmas.List.Elements.{All-contains}
 use Rattle.mine_model.specs.declared.item.Item.{Item}
 use Rattle.mine_model.specs.Ancestry.{Ancestry}
+use Rattle.mine_model.proofs.ListLemmas.{Contains-first}
 use Rattle.mining_job.specs.Problems.{items_of}
 use Rattle.sequence_grids.proofs.GridLemmas.{items_within}
-use Rattle.sequence_grids.proofs.PlaceLemmas.{IsTableOf-grow}
 use Rattle.sequence_grids.proofs.alphabet.meet_items.Goals as goal
 
-pub kind_of-requires-clause-states : goal.kind_of-requires-clause-states
-kind_of-requires-clause-states c = c.loop-number.invariant.table.states
+pub meet_all-requires-clause-table : goal.meet_all-requires-clause-table
+meet_all-requires-clause-table c = c.loop-number.invariant.table
 
-pub kind_of-requires-clause-kinds : goal.kind_of-requires-clause-kinds
-kind_of-requires-clause-kinds c = c.loop-number.invariant.kinds
+pub meet_all-requires-clause-kinds : goal.meet_all-requires-clause-kinds
+meet_all-requires-clause-kinds c = c.loop-number.invariant.kinds
 
 pub loop-number-init : goal.loop-number-init
 loop-number-init c = record {
@@ -25,11 +25,11 @@ pub loop-number-preserved : goal.loop-number-preserved
 loop-number-preserved c =
     let before = c.loop-number.invariant in
     record {
-      table = IsTableOf-grow c.args.job.now c.loop-number.all.tables c.kind_of.new.tables before.table c.kind_of.ensures.tables;
-      kinds = c.kind_of.ensures.kinds;
+      table = c.meet_all.ensures.table;
+      kinds = c.meet_all.ensures.kinds;
       met = λ t below. elim (cases_eq t.0 c.loop-number.number) [
-        | inl same ↦ rw same c.in_ok-kind_of.ensures.met
-        | inr other ↦ c.kind_of.ensures.kept t (before.met t (omega (arith, below, other)))
+        | inl same ↦ rw same (c.in_ok-meet_all.ensures.met (record { 0 = c.loop-number.number }) (Contains-first (record { 0 = c.loop-number.number }) []))
+        | inr other ↦ c.meet_all.ensures.kept t (before.met t (omega (arith, below, other)))
       ];
     }
 
