@@ -7,7 +7,7 @@ use Rattle.state_bits.specs.Members.{Has}
 use Rattle.state_bits.proofs.NeighbourLemmas.{Has-none}
 use Rattle.walk_memo.specs.declared.action.Action.{Action}
 use Rattle.stand_sums.specs.Writings.{goes_on}
-use Rattle.mask_sums.specs.Kept.{lacks, GoesOn, HasOneMore}
+use Rattle.mask_sums.specs.Kept.{lacks, OpensIn, HasOneMore}
 
 -- ---- with the rank, and with another
 
@@ -20,7 +20,7 @@ module _ (need rank : ℕ) (action : Action) where
 
 module _ (mask need : ℕ) (action : Action) (rank : ℕ) where
   -- none does
-  pub goes-none : action.more ≡ false → action.unseen ≡ false → Has 0 rank ↔ GoesOn (lacks (Some need)) action mask rank
+  pub goes-none : action.more ≡ false → action.unseen ≡ false → Has 0 rank ↔ OpensIn (lacks (Some need)) action mask rank
   goes-none stays unseen = (
     (λ has. absurd (Has-none rank has)),
     (λ (has, on). absurd (elim (cases_eq need rank) [

@@ -11,7 +11,7 @@ use Rattle.stand_sums.specs.declared.aim.Aim.{Aim}
 use Rattle.stand_sums.specs.Writings.{Ranks, goes_on, stops, opens, ends, follows}
 use Rattle.stand_sums.specs.Sequences.{HasOne}
 use Rattle.stand_sums.specs.Sums.{stands_among}
-use Rattle.mask_sums.specs.Kept.{free, GoesOn, Stops, IsSetOf, HasOneMore, HasStands}
+use Rattle.mask_sums.specs.Kept.{free, OpensIn, EndsIn, IsSetOf, HasOneMore, HasStands}
 
 -- ---- members
 
@@ -94,7 +94,7 @@ ends-no ranks visit stays rank ending =
 
 module _ (ranks : Ranks) (aim : Aim) (visit : Visit) (mask : ℕ) (is : (rank : ℕ) → Has mask rank ↔ Contains (ranks visit.kind visit.action.state) rank) (rank : ℕ) where
   -- the ranks of its set with which a visit goes on are those that open
-  pub opens-set : GoesOn aim visit.action mask rank ↔ IsTrue (opens ranks aim rank visit)
+  pub opens-set : OpensIn aim visit.action mask rank ↔ IsTrue (opens ranks aim rank visit)
   opens-set = (
     (λ (has, on). and-both (list_any (λ other. other == rank) (ranks visit.kind visit.action.state)) (goes_on aim rank visit.action) (writes-from ranks visit mask is rank has) on),
     (λ opening. (
@@ -103,7 +103,7 @@ module _ (ranks : Ranks) (aim : Aim) (visit : Visit) (mask : ℕ) (is : (rank : 
     )),
   )
 
-  pub ends-set : Stops aim visit.action mask rank ↔ IsTrue (ends ranks aim rank visit)
+  pub ends-set : EndsIn aim visit.action mask rank ↔ IsTrue (ends ranks aim rank visit)
   ends-set = (
     (λ (has, ending). and-both (list_any (λ other. other == rank) (ranks visit.kind visit.action.state)) (stops aim rank visit.action) (writes-from ranks visit mask is rank has) ending),
     (λ ending. (
@@ -141,9 +141,9 @@ stands-one ranks aim visit IsMember rank is before after adds stays = elim (true
 ]
 
 pub stands-visit : (ranks : Ranks) (aim : Aim) (visit : Visit) (mask : ℕ) → ((rank : ℕ) → Has mask rank ↔ Contains (ranks visit.kind visit.action.state) rank) → (before after : List ℕ)
-    → HasOneMore (GoesOn aim visit.action mask) before after → HasStands ranks aim (visit ∷ []) before after
+    → HasOneMore (OpensIn aim visit.action mask) before after → HasStands ranks aim (visit ∷ []) before after
 stands-visit ranks aim visit mask is before after more rank few =
-    stands-one ranks aim visit (GoesOn aim visit.action mask rank) rank (opens-set ranks aim visit mask is rank) (get_or before rank 0) (get_or after rank 0) (more.members rank few) (more.others rank)
+    stands-one ranks aim visit (OpensIn aim visit.action mask rank) rank (opens-set ranks aim visit mask is rank) (get_or before rank 0) (get_or after rank 0) (more.members rank few) (more.others rank)
 
 -- ---- one visit more
 

@@ -30,12 +30,12 @@ abbrev pub lacking : Aim → Option ℕ
 lacking aim = if aim.seen then None else aim.need
 
 -- the rank is one of those that the action writes, and goes on
-abbrev pub GoesOn : Aim → Action → ℕ → ℕ → Type 0
-GoesOn aim action mask rank = Has mask rank × IsTrue (goes_on aim rank action)
+abbrev pub OpensIn : Aim → Action → ℕ → ℕ → Type 0
+OpensIn aim action mask rank = Has mask rank × IsTrue (goes_on aim rank action)
 
 -- the rank is one of those that the action writes, and the prefix with it is a pattern
-abbrev pub Stops : Aim → Action → ℕ → ℕ → Type 0
-Stops aim action mask rank = Has mask rank × IsTrue (stops aim rank action)
+abbrev pub EndsIn : Aim → Action → ℕ → ℕ → Type 0
+EndsIn aim action mask rank = Has mask rank × IsTrue (stops aim rank action)
 
 -- the set has the rank just where one of the visits passes
 abbrev pub IsSetOf : (ℕ → Visit → Bool) → List Visit → ℕ → Type 0

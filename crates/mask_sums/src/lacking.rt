@@ -3,7 +3,7 @@
 
 ghost use Rattle.std.specs.Prelude.{◌≡◌, ℕ, ◌<◌, ◌⊎◌, ◌↔◌, Some, OnOk};
 ghost use Rattle.state_bits.specs.Members.{Has};
-ghost use Rattle.mask_sums.specs.Kept.{lacks, GoesOn, Stops, HasOneMore};
+ghost use Rattle.mask_sums.specs.Kept.{lacks, OpensIn, EndsIn, HasOneMore};
 
 use member_counts::MemberCounts;
 use mine_model::NoMemory;
@@ -21,11 +21,11 @@ pub(crate) fn read_lacking(
 ) -> Result<(), NoMemory>
     requires few { (rank : ℕ) → Has mask.now rank → rank < 256 }
     ensures opened { OnOk result ((rank : ℕ) → Has opened.new rank
-        ↔ (Has opened.old rank ⊎ GoesOn (lacks (Some need)) action mask.now rank)) }
+        ↔ (Has opened.old rank ⊎ OpensIn (lacks (Some need)) action mask.now rank)) }
     ensures ended { OnOk result ((rank : ℕ) → Has ended.new rank
-        ↔ (Has ended.old rank ⊎ Stops (lacks (Some need)) action mask.now rank)) }
+        ↔ (Has ended.old rank ⊎ EndsIn (lacks (Some need)) action mask.now rank)) }
     ensures stands { OnOk result
-        (HasOneMore (GoesOn (lacks (Some need)) action mask.now) stands.old stands.new) }
+        (HasOneMore (OpensIn (lacks (Some need)) action mask.now) stands.old stands.new) }
 {
     if action.ends {
         ended.union_with(&only(mask, need));
@@ -42,7 +42,7 @@ pub(crate) fn read_lacking(
 #[inline]
 fn opening_set(mask: &StateSet<4>, need: u32, action: Action) -> StateSet<4>
     requires few { (rank : ℕ) → Has mask.now rank → rank < 256 }
-    ensures { (rank : ℕ) → Has result rank ↔ GoesOn (lacks (Some need)) action mask.now rank }
+    ensures { (rank : ℕ) → Has result rank ↔ OpensIn (lacks (Some need)) action mask.now rank }
 {
     match (action.more, action.unseen) {
         (true, true) => *mask,

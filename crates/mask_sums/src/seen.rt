@@ -2,7 +2,7 @@
 
 ghost use Rattle.std.specs.Prelude.{ℕ, ◌⊎◌, ◌↔◌, OnOk};
 ghost use Rattle.state_bits.specs.Members.{Has};
-ghost use Rattle.mask_sums.specs.Kept.{free, GoesOn, Stops, HasOneMore};
+ghost use Rattle.mask_sums.specs.Kept.{free, OpensIn, EndsIn, HasOneMore};
 
 use member_counts::MemberCounts;
 use mine_model::NoMemory;
@@ -19,10 +19,10 @@ pub(crate) fn read_seen(
     stands: &mut MemberCounts<4>,
 ) -> Result<(), NoMemory>
     ensures opened { OnOk result ((rank : ℕ) → Has opened.new rank
-        ↔ (Has opened.old rank ⊎ GoesOn free action mask.now rank)) }
+        ↔ (Has opened.old rank ⊎ OpensIn free action mask.now rank)) }
     ensures ended { OnOk result ((rank : ℕ) → Has ended.new rank
-        ↔ (Has ended.old rank ⊎ Stops free action mask.now rank)) }
-    ensures stands { OnOk result (HasOneMore (GoesOn free action mask.now) stands.old stands.new) }
+        ↔ (Has ended.old rank ⊎ EndsIn free action mask.now rank)) }
+    ensures stands { OnOk result (HasOneMore (OpensIn free action mask.now) stands.old stands.new) }
 {
     if action.ends {
         ended.union_with(mask);

@@ -1,4 +1,4 @@
-ghost use Rattle.std.specs.Prelude.{◌≡◌, ℕ, IsTrue, List, [], Some, length, replicate, slice_get, All, IfOk, OnOk};
+ghost use Rattle.std.specs.Prelude.{◌≡◌, ℕ, List, Some, length, replicate, slice_get, All, IfOk, OnOk};
 ghost use Rattle.place_walk.specs.declared.visit.Visit.{Visit as Visited};
 ghost use Rattle.stand_sums.specs.Writings.{IsReadable};
 ghost use Rattle.stand_sums.specs.Sequences.{AreSequences};

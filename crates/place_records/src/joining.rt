@@ -1,6 +1,6 @@
 //! Blocks, joined in order.
 
-ghost use Rattle.std.specs.Prelude.{◌≡◌, ℕ, ◌≤◌, ◌<◌, map, IfOk, OnOk};
+ghost use Rattle.std.specs.Prelude.{ℕ, ◌≤◌, ◌<◌, map, IfOk, OnOk};
 ghost use Rattle.mining_job.specs.declared.bound.Bound.{Bound as Bounded};
 ghost use Rattle.mining_job.specs.Problems.{Problem};
 ghost use Rattle.sequence_grids.specs.declared.kinds.Kinds.{Kinds as Known};

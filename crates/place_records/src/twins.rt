@@ -196,7 +196,7 @@ pub(crate) fn twins_over<const W: usize>(
     Twins::new(alloc, tables, goes_with(bound.need), job.fst().states())
 }
 
-// Whether something is needed, so that a path that has seen it may write nothing more.
+// Whether something is needed, so that a path that has seen it need not write it again.
 fn goes_with(need: Option<u32>) -> bool
     ensures { result ≡ goes_by need }
 {

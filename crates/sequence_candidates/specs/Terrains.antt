@@ -13,8 +13,8 @@ use Rattle.sequence_candidates.specs.declared.terrain.Terrain.{Terrain}
 use Rattle.sequence_candidates.specs.declared.terrain.AnyTerrain.{AnyTerrain}
 use Rattle.sequence_candidates.specs.declared.terrain.AnyTerrain.TheVariants.{Unknown, One, Four, Wide}
 
--- what paths go over: the moves of paths that may write nothing more where what is needed was seen, and of
--- those that have to else
+-- what paths go over: where what is needed was seen the moves of paths that need not write it, and else of
+-- those that have to
 abbrev pub courses_over : List ℕ → RecordsValue → Option ℕ → Courses
 courses_over rows value need = record {
   rows = rows;

@@ -50,7 +50,7 @@ pub(crate) fn expand_over<const W: usize>(
     }
 }
 
-// Whether a path may write nothing more: where something is needed that was seen.
+// Whether a path need not write what is needed: where something is needed that was seen.
 fn goes(seen: bool, need: Option<u32>) -> bool
     ensures { result ≡ goes_by seen need }
 {

@@ -1,4 +1,4 @@
-//! The kinds of all items that occur.
+//! The kinds of at least all items that occur.
 
 ghost use Rattle.std.specs.Prelude.{◌≡◌, ◌≤◌, ◌<◌, length, All, IfOk, OnOk};
 ghost use Rattle.mine_model.specs.declared.item.Item.{Item};
@@ -12,19 +12,20 @@ use mine_model::{Item, NoMemory};
 use mining_job::{Bound, Job};
 use std::alloc::Global;
 
-/// The kinds of all items that occur in the sequences of a job, and the tables that have their classes.
+/// The kinds of at least all items that occur in the sequences of a job, and the tables that have their
+/// classes.
 #[derive(Drop)]
 pub struct Alphabet {
     pub kinds: Kinds,
     pub tables: Tables,
 }
 
-/// The kinds of all items that occur in the sequences of the job, under a bound.
+/// The kinds of at least all items that occur in the sequences of the job, under a bound.
 pub fn alphabet_of(alloc: Global, job: &Job, bound: Bound) -> Result<Alphabet, NoMemory>
     ensures { IfOk result (λ all. IsAlphabet job.now bound all.tables all.kinds) }
 {
     let mut all = no_kinds(alloc, job, bound)?;
-    if is_long(job) {
+    if has_many_places(job) {
         meet_items(alloc, job, bound, &mut all)?;
     } else {
         meet_sequences(alloc, job, bound, &mut all)?;
@@ -33,15 +34,15 @@ pub fn alphabet_of(alloc: Global, job: &Job, bound: Bound) -> Result<Alphabet, N
 }
 
 // From how many places for each item on it takes less to find the kinds of all items than to look at each place.
-const PLACES_OF_AN_ITEM: u64 = 64;
+const PLACES_FOR_EACH_ITEM: u64 = 64;
 
 // Whether the sequences have so many places, all together.
-fn is_long(job: &Job) -> bool {
+fn has_many_places(job: &Job) -> bool {
     let mut places: u64 = 0;
     for number in 0..job.db().sequences() {
         places = places.saturating_add(job.db().sequence(number).len() as u64);
     }
-    places / PLACES_OF_AN_ITEM >= u64::from(job.hierarchy().items())
+    places / PLACES_FOR_EACH_ITEM >= u64::from(job.hierarchy().items())
 }
 
 // No kinds yet.

@@ -229,9 +229,10 @@ fn next_number(count: usize) -> Result<u32, NoMemory>
     Ok(count as u32)
 }
 
-// How many hints there are at first, and once there are as many kinds.
+// How many hints there are while there are no more kinds than these.
 const FEW_HINTS: usize = 4_093;
 
+// How many there are from then on.
 const MANY_HINTS: usize = 65_521;
 
 // Where among so many the hint stands for outputs of a class.

@@ -1,7 +1,6 @@
 -- Which snapshots a list has.
 use Rattle.std.proofs.Common.{◌≡◌, ◌↔◌, ℕ, inl, inr, List, [], ◌∷◌, ◌++◌, refl, subst}
 use Rattle.std.specs.List.{Contains}
-use Rattle.mine_model.specs.declared.item.Item.{Item}
 use Rattle.mine_model.proofs.RankedLemmas.{ranked-push}
 use Rattle.mining_job.specs.Problems.{items_of}
 use Rattle.sequence_grids.specs.Grids.{GridList}

@@ -8,7 +8,7 @@ use Rattle.mine_model.proofs.ListLemmas.{Contains-first}
 use Rattle.fst_compile.specs.Transducer.{Leads}
 use Rattle.mining_job.specs.declared.bound.Bound.{Bound}
 use Rattle.mining_job.specs.Problems.{Problem, IsWhole}
-use Rattle.sequence_grids.specs.Grids.{HoldsNeeded, Completes, Continues, Reads, WritesRank}
+use Rattle.sequence_grids.specs.Grids.{HoldsNeeded, Continues, Reads, WritesRank}
 use Rattle.snapshot_project.specs.Aims.{goes}
 use Rattle.snapshot_project.specs.Runs.{IsRun}
 use Rattle.snapshot_project.specs.Snapshots.{CompletesBehind, HasSnapshot, WritesOn}

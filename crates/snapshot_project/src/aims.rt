@@ -15,7 +15,7 @@ pub(crate) fn sees(aim: Aim, rank: u32) -> bool
     }
 }
 
-/// Whether paths with this aim go on by what completes.
+/// Whether paths with this aim need not write what is needed: where something is needed that was seen.
 pub(crate) fn goes_on(aim: Aim) -> bool
     ensures { result ≡ goes aim.seen aim.need }
 {

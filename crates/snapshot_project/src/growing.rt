@@ -124,7 +124,7 @@ fn grow_from<'a>(
     }
     let found = find(alloc, aim, stands, least, room)?;
     let next = told(alloc, found.ranks.as_slice())?;
-    let packs = packs(part, &found.run);
+    let packs = packs(&found.run);
     let longer = longer_by(alloc, part, aim, found, packs)?;
     Ok(Grown { next, longer })
 }

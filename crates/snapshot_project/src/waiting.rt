@@ -26,8 +26,8 @@ const MANY_STANDS: usize = 1_048_576;
 
 /// Whether those who stand in the run are to wait as bytes: where stands take eight bytes each, and there are
 /// many.
-pub(crate) fn packs(part: &Part, run: &Run) -> bool {
-    !part.starts().is_empty() && !run.is_narrow() && run.stands().len() >= MANY_STANDS
+pub(crate) fn packs(run: &Run) -> bool {
+    !run.is_narrow() && run.stands().len() >= MANY_STANDS
 }
 
 /// What is kept of the prefixes with these ranks, who stand in the run: as bytes, where they are to be.

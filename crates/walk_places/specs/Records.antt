@@ -10,7 +10,7 @@ pub record Fits (one : Record) : Type 0 where
   pub kind : one.kind < 2 ^ 20
   pub of : one.of < 2 ^ 12
 
--- the code with the name of its number
+-- the code with the number that is named for its own
 abbrev pub recoded : List ℕ → ℕ → ℕ
 recoded names code = code / 4096 * 4096 + slice_index names (code % 4096)
 

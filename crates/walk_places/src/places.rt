@@ -1,6 +1,6 @@
 //! Records by place.
 
-ghost use Rattle.std.specs.Prelude.{◌≡◌, ℕ, ◌%◌, ◌<◌, ◌^◌, ◌↔◌, [], ◌∷◌, ◌++◌, map, length, slice_get, Some, IsTrue, Contains, OnOk, OnErr};
+ghost use Rattle.std.specs.Prelude.{◌≡◌, ℕ, ◌%◌, ◌<◌, ◌^◌, ◌↔◌, [], ◌∷◌, ◌++◌, map, take, length, slice_get, Some, IsTrue, Contains, OnOk, OnErr};
 ghost use Rattle.walk_places.specs.declared.places.Record.{Record as Entry};
 ghost use Rattle.walk_places.specs.Names.{renamed};
 ghost use Rattle.walk_places.specs.Records.{record_of, recoded, Fits, AreLow};
@@ -78,12 +78,14 @@ impl Places {
         Ok(())
     }
 
-    /// Adds those of another list behind the others, each with the name of its number. Without memory some of
-    /// them may have been added.
+    /// Adds those of another list behind the others, each with the number that is named for its own. Without
+    /// memory the first of them are added.
     pub fn append_renamed(&mut self, more: &Places, names: &[u32]) -> Result<(), NoMemory>
         requires few { length more.now < 2 ^ 32 }
         requires known { (entry : Entry) → Contains more.now entry → entry.of < length names.now }
-        ensures { OnOk result (self.new ≡ self.old ++ map (renamed names.now) more.now) }
+        ensures all { OnOk result (self.new ≡ self.old ++ map (renamed names.now) more.now) }
+        ensures first { OnErr result ((count : ℕ)
+            × (self.new ≡ self.old ++ map (renamed names.now) (take count more.now))) }
     {
         if self.rest.is_empty() && more.rest.is_empty() && are_low(names) {
             append_codes(&mut self.codes, more.codes.as_slice(), names)
@@ -96,7 +98,9 @@ impl Places {
     fn push_renamed(&mut self, more: &Places, names: &[u32]) -> Result<(), NoMemory>
         requires few { length more.now < 2 ^ 32 }
         requires known { (entry : Entry) → Contains more.now entry → entry.of < length names.now }
-        ensures { OnOk result (self.new ≡ self.old ++ map (renamed names.now) more.now) }
+        ensures all { OnOk result (self.new ≡ self.old ++ map (renamed names.now) more.now) }
+        ensures first { OnErr result ((count : ℕ)
+            × (self.new ≡ self.old ++ map (renamed names.now) (take count more.now))) }
     {
         for place in 0..more.len() as u32 {
             let entry = more.get(place);
@@ -122,11 +126,12 @@ fn are_low(names: &[u32]) -> bool
     true
 }
 
-// Appends the codes, each with the name of its number.
+// Appends the codes, each with the number that is named for its own.
 fn append_codes(codes: &mut Vec<u32>, more: &[u32], names: &[u32]) -> Result<(), NoMemory>
     requires known { (code : ℕ) → Contains more.now code → code % 4096 < length names.now }
     requires low { AreLow names.now }
-    ensures { OnOk result (codes.new.items ≡ codes.old.items ++ map (recoded names.now) more.now) }
+    ensures all { OnOk result (codes.new.items ≡ codes.old.items ++ map (recoded names.now) more.now) }
+    ensures none { OnErr result (codes.new.items ≡ codes.old.items) }
 {
     codes.reserve(more.len())?;
     for code in more {

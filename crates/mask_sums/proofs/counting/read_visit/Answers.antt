@@ -5,7 +5,7 @@ use Rattle.state_bits.specs.Members.{Has}
 use Rattle.place_walk.specs.declared.visit.Visit.{Visit}
 use Rattle.stand_sums.specs.declared.aim.Aim.{Aim}
 use Rattle.stand_sums.specs.Writings.{opens, ends}
-use Rattle.mask_sums.specs.Kept.{lacks, free, GoesOn, Stops, HasStands}
+use Rattle.mask_sums.specs.Kept.{lacks, free, OpensIn, EndsIn, HasStands}
 use Rattle.mask_sums.proofs.SetLemmas.{union-with, opens-set, ends-set, stands-visit}
 use Rattle.mask_sums.proofs.counting.read_visit.Goals as goal
 
@@ -17,7 +17,7 @@ returns-in-None-clause-opened g c =
     let aim : Aim = free in
     subst (λ (need : Option ℕ). OnOk c.read_seen.result ((rank : ℕ) → Has c.read_seen.new.opened rank ↔ (Has c.args.opened.now rank ⊎ IsTrue (opens ranks (lacks need) rank visit)))) (sym c.in-None.is)
     (on_ok_weaker c.read_seen.result
-    (λ union rank. union-with c.args.opened.now c.read_seen.new.opened rank (GoesOn aim visit.action mask rank) (IsTrue (opens ranks aim rank visit)) (union rank) (opens-set ranks aim visit mask c.mask-mask.ensures rank))
+    (λ union rank. union-with c.args.opened.now c.read_seen.new.opened rank (OpensIn aim visit.action mask rank) (IsTrue (opens ranks aim rank visit)) (union rank) (opens-set ranks aim visit mask c.mask-mask.ensures rank))
     c.read_seen.ensures.opened)
 
 pub returns-in-None-clause-ended : goal.returns-in-None-clause-ended
@@ -28,7 +28,7 @@ returns-in-None-clause-ended g c =
     let aim : Aim = free in
     subst (λ (need : Option ℕ). OnOk c.read_seen.result ((rank : ℕ) → Has c.read_seen.new.ended rank ↔ (Has c.args.ended.now rank ⊎ IsTrue (ends ranks (lacks need) rank visit)))) (sym c.in-None.is)
     (on_ok_weaker c.read_seen.result
-    (λ union rank. union-with c.args.ended.now c.read_seen.new.ended rank (Stops aim visit.action mask rank) (IsTrue (ends ranks aim rank visit)) (union rank) (ends-set ranks aim visit mask c.mask-mask.ensures rank))
+    (λ union rank. union-with c.args.ended.now c.read_seen.new.ended rank (EndsIn aim visit.action mask rank) (IsTrue (ends ranks aim rank visit)) (union rank) (ends-set ranks aim visit mask c.mask-mask.ensures rank))
     c.read_seen.ensures.ended)
 
 pub returns-in-None-clause-stands : goal.returns-in-None-clause-stands
@@ -45,7 +45,7 @@ returns-in-Some-clause-opened g c =
     let aim : Aim = lacks (Some c.in-Some.need) in
     subst (λ (need : Option ℕ). OnOk c.read_lacking.result ((rank : ℕ) → Has c.read_lacking.new.opened rank ↔ (Has c.args.opened.now rank ⊎ IsTrue (opens ranks (lacks need) rank visit)))) (sym c.in-Some.is)
     (on_ok_weaker c.read_lacking.result
-    (λ union rank. union-with c.args.opened.now c.read_lacking.new.opened rank (GoesOn aim visit.action mask rank) (IsTrue (opens ranks aim rank visit)) (union rank) (opens-set ranks aim visit mask c.mask-mask.ensures rank))
+    (λ union rank. union-with c.args.opened.now c.read_lacking.new.opened rank (OpensIn aim visit.action mask rank) (IsTrue (opens ranks aim rank visit)) (union rank) (opens-set ranks aim visit mask c.mask-mask.ensures rank))
     c.read_lacking.ensures.opened)
 
 pub returns-in-Some-clause-ended : goal.returns-in-Some-clause-ended
@@ -56,7 +56,7 @@ returns-in-Some-clause-ended g c =
     let aim : Aim = lacks (Some c.in-Some.need) in
     subst (λ (need : Option ℕ). OnOk c.read_lacking.result ((rank : ℕ) → Has c.read_lacking.new.ended rank ↔ (Has c.args.ended.now rank ⊎ IsTrue (ends ranks (lacks need) rank visit)))) (sym c.in-Some.is)
     (on_ok_weaker c.read_lacking.result
-    (λ union rank. union-with c.args.ended.now c.read_lacking.new.ended rank (Stops aim visit.action mask rank) (IsTrue (ends ranks aim rank visit)) (union rank) (ends-set ranks aim visit mask c.mask-mask.ensures rank))
+    (λ union rank. union-with c.args.ended.now c.read_lacking.new.ended rank (EndsIn aim visit.action mask rank) (IsTrue (ends ranks aim rank visit)) (union rank) (ends-set ranks aim visit mask c.mask-mask.ensures rank))
     c.read_lacking.ensures.ended)
 
 pub returns-in-Some-clause-stands : goal.returns-in-Some-clause-stands

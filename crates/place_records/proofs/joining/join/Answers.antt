@@ -19,5 +19,5 @@ returns g c problem bound kinds from mid to order order' first second =
     let moved = c.args.block.now.places in
     let named : AreNames own all names = subst (λ ts. AreNames (map (twin_sets {W = g.row.W}) ts) all names) c.as_slice.ensures.value c.in_ok-names.ensures.names in
     let few : length places + length moved < 2 ^ 32 = omega (arith, c.if-len-room.false, c.saturating_sub-room.ensures, c.len.ensures, c.len-2.ensures, first.filled.few) in
-    rw (c.in_ok-extend_from_slice.ensures.items, c.as_slice-3.ensures.value, c.in_ok-append_renamed.ensures, c.as_slice-2.ensures.value)
+    rw (c.in_ok-extend_from_slice.ensures.items, c.as_slice-3.ensures.value, c.in_ok-append_renamed.ensures.all, c.as_slice-2.ensures.value)
     (IsBlock-join problem bound kinds from mid to twins own all names c.args.joined.now.sequences.items c.args.block.now.sequences.items places moved order order' first second c.names_among.ensures.grow named few)

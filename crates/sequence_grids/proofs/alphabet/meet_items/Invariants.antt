@@ -1,4 +1,4 @@
-use Rattle.std.proofs.Common.{ℕ, ◌<◌}
+use Rattle.std.proofs.Common.{◌<◌}
 use Rattle.mine_model.specs.declared.item.Item.{Item}
 use Rattle.sequence_grids.specs.Kinds.{AreKinds, IsMet}
 use Rattle.sequence_grids.specs.Places.{IsTableOf}
