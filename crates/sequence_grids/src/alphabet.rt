@@ -33,7 +33,8 @@ pub fn alphabet_of(alloc: Global, job: &Job, bound: Bound) -> Result<Alphabet, N
     Ok(all)
 }
 
-// From how many places for each item on it takes less to find the kinds of all items than to look at each place.
+// From how many places for each item on it takes less to find the kinds of all items than to look at each
+// place.
 const PLACES_FOR_EACH_ITEM: u64 = 64;
 
 // Whether the sequences have so many places, all together.

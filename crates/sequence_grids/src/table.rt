@@ -211,8 +211,8 @@ impl<const W: usize> Table<W> {
         self.classes.as_slice()[class as usize].silent.has(k)
     }
 
-    /// The states that an item of the class leads into, and those that complete, that write something more and
-    /// that end behind it at a place of the triple, as words.
+    /// The states that an item of the class leads into, and those that complete, that write something more
+    /// and that end behind it at a place of the triple, as words.
     pub(crate) fn words(&self, class: u32, after: u32) -> Words<'_>
         requires width { W ≤ 17 }
         requires class { class < length self.now.classes }

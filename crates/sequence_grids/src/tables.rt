@@ -137,8 +137,8 @@ impl Tables {
         on_table!(&self.width, table => table.is_silent(class, k))
     }
 
-    /// The states that an item of the class leads into, and those that complete, that write something more and
-    /// that end behind it at a place of the triple, as words.
+    /// The states that an item of the class leads into, and those that complete, that write something more
+    /// and that end behind it at a place of the triple, as words.
     pub fn words(&self, class: u32, after: u32) -> Words<'_>
         requires class { class < length self.now.classes }
         requires after { after < length self.now.triples }

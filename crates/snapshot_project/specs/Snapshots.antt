@@ -75,7 +75,8 @@ pub record SnapshotList : Type 0 where
   pub support : ℕ
   pub snapshots : List Snapshot
 
--- from the snapshot a path goes on as it has to: it writes more, and what is needed was seen or is written, too
+-- from the snapshot a path goes on as it has to: it writes more, and what is needed was seen or is written,
+-- too
 abbrev pub MayGoOn : GridList → Bool → Snapshot → Type 0
 MayGoOn part seen snapshot =
     Continues part.problem part.bound (drop snapshot.position (items_of part.problem snapshot.sequence))
