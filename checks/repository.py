@@ -64,7 +64,7 @@ rows.hold("the map says of each crate but those of tests what could want memory 
 rows.hold("the handles", text_of("HANDLES") == "Handles allowed: Threads, Wait.\n")
 versions = re.findall(r"`(rattle-kit-\S+ logic \w+)`", readme)
 ran = subprocess.run(["rt", "version"], capture_output=True, text=True)
-rows.hold("the README names the kit that is here", versions == [ran.stdout.strip()], f"here is {ran.stdout.strip()}")
+rows.hold("the README names the kit that is here", ran.stdout.strip() in versions, f"here is {ran.stdout.strip()}")
 
 # Each edit that must fail speaks of a text that stands once in its file, so that it is tried as it is meant.
 for crate in sorted(listed):
