@@ -1,19 +1,18 @@
 -- What items may do under a bound, cut from what they may do under that of all ranks.
-use Rattle.std.proofs.Common.{◌≡◌, ℕ, ◌+◌, ◌-◌, ◌<◌, ◌≤◌, ◌↔◌, inl, inr, List, [], ◌∷◌, ◌++◌, take, length, get_or, arith, refl, sym, ap, ◌∙◌, subst, Some, append_assoc}
+use Rattle.std.proofs.Common.{◌≡◌, ℕ, ◌+◌, ◌-◌, ◌<◌, ◌≤◌, ◌↔◌, inl, inr, List, [], ◌∷◌, ◌++◌, take, length, get_or, arith, sym, ap, ◌∙◌, subst, append_assoc}
 use Rattle.std.specs.List.{AllPairs, Contains, slice_get, slice_index}
 use Rattle.std.proofs.lemmas.List.{append-nil, length-take, get_or-take, get_or_default, take_more}
 use Rattle.std.proofs.lemmas.Option.{slice_get_within, same_Some}
 use Rattle.std.proofs.lemmas.Bool.{cases_lt, cases_eq}
 use Rattle.state_bits.specs.Members.{Has}
 use Rattle.mine_model.specs.declared.item.Item.{Item}
-use Rattle.mine_model.specs.Ranks.{HasRank}
 use Rattle.mining_job.specs.declared.bound.Bound.{Bound}
 use Rattle.mining_job.specs.Problems.{Problem}
 use Rattle.sequence_grids.specs.declared.kinds.Kind.{Kind}
 use Rattle.sequence_grids.specs.declared.kinds.Kinds.{Kinds}
 use Rattle.sequence_grids.specs.Grids.{Reads, WritesRank}
 use Rattle.sequence_grids.specs.Tables.{ClassSets}
-use Rattle.sequence_grids.specs.Kinds.{IsNeededRank, Writes, Needs, IsTarget, IsClassFor, IsKind, HasKind, row_at}
+use Rattle.sequence_grids.specs.Kinds.{Writes, Needs, IsTarget, HasKind, row_at}
 use Rattle.sequence_grids.specs.Wholes.{whole_bound, AreOutputs}
 use Rattle.sequence_grids.proofs.GridLemmas.{both_ways}
 
