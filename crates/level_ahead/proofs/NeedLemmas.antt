@@ -128,3 +128,17 @@ further-marked ranks (Some need) place kind action one other = refl
 pub going : (lacking : Option ℕ) (visit : Visit) (asked : ℕ) (goes : Bool) → goes ≡ true → ((rank : ℕ) → (lacking ≡ Some rank → ⊥) → goes_on (lacks lacking) rank visit.action ≡ goes)
     → IfSome lacking (λ need. Has asked need → ⊥) → (rank : ℕ) → Has asked rank → goes_on (lacks lacking) rank visit.action ≡ true
 going lacking visit asked goes is same apart rank asks = same rank (λ lack. subst (λ (o : Option ℕ). IfSome o (λ need. Has asked need → ⊥)) lack apart asks) ∙ is
+
+-- ---- what opens goes on
+
+pub opens-further : (ranks : Ranks) (lacking : Option ℕ) (rank : ℕ) (visit : Visit) → IsTrue (opens ranks (lacks lacking) rank visit) → IsTrue (goes_further ranks lacking visit)
+opens-further ranks None rank visit opening = second-true (writes ranks rank visit) visit.action.more opening
+opens-further ranks (Some need) rank visit opening =
+    let writing : writes ranks rank visit ≡ true = first-true (writes ranks rank visit) (goes_on (lacks (Some need)) rank visit.action) opening in
+    let going : goes_on (lacks (Some need)) rank visit.action ≡ true = second-true (writes ranks rank visit) (goes_on (lacks (Some need)) rank visit.action) opening in
+    elim (cases_eq need rank) [
+      | inl same ↦
+          right-true visit.action.unseen (writes ranks need visit && visit.action.more)
+          (both-true (writes ranks need visit) visit.action.more (subst (λ (r : ℕ). writes ranks r visit ≡ true) (sym same) writing) (sym (goes-with need rank visit.action same) ∙ going))
+      | inr other ↦ left-true visit.action.unseen (writes ranks need visit && visit.action.more) (sym (goes-without need rank visit.action other) ∙ going)
+    ]

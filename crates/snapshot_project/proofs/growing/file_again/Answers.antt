@@ -18,6 +18,7 @@ walks-init g c = record {
   moves = refl;
   sums = refl;
   room = refl;
+  ahead = refl;
   within = omega arith;
   filed = λ groups are.
       filed-none (course_of c.args.memo.now c.args.over.now.records.places) (ranks_of c.args.over.now.records.table) c.args.aim c.args.found.now groups c.args.stands.now are c.args.tables.now.files.filed c.requires.begun;
