@@ -1,13 +1,9 @@
 -- What follows longer prefixes, from what was counted behind the visits of the prefix.
-use Rattle.std.proofs.Common.{◌≡◌, ◌↔◌, ℕ, ◌+◌, ◌≤◌, ◌<◌, ◌⊎◌, inl, inr, Bool, true, false, ◌||◌, ◌&&◌, IsTrue, Option, Some, None, List, [], ◌∷◌, ◌++◌, length, replicate, refl, sym, ap, ◌∙◌, subst, arith}
-use Rattle.std.specs.List.{AllPairs, AllZip, Contains, filter, slice_get, slice_index}
+use Rattle.std.proofs.Common.{◌≡◌, ◌↔◌, ℕ, ◌+◌, ◌≤◌, ◌<◌, inl, inr, Bool, true, false, ◌||◌, IsTrue, Option, Some, None, List, [], ◌∷◌, ◌++◌, length, refl, sym, ap, ◌∙◌, subst, arith}
+use Rattle.std.specs.List.{AllPairs, AllZip, Contains, filter, slice_index}
 use Rattle.std.proofs.lemmas.Bool.{cases_eq, ne_eqb}
 use Rattle.std.proofs.lemmas.Option.{slice_get_within}
-use Rattle.state_bits.specs.Members.{Has}
-use Rattle.mine_model.specs.declared.item.Item.{Item}
-use Rattle.mine_model.specs.Support.{Sequence, Counts}
-use Rattle.mine_model.proofs.ListLemmas.{Contains-first, Contains-other, Contains-filter, filter-Contains}
-use Rattle.mining_job.specs.Problems.{items_of}
+use Rattle.mine_model.proofs.ListLemmas.{Contains-filter, filter-Contains}
 use Rattle.sequence_grids.specs.Grids.{GridList, items_at}
 use Rattle.sequence_grids.specs.Successors.{AreSuccessors}
 use Rattle.walk_memo.specs.declared.action.Action.{Action}
@@ -16,18 +12,16 @@ use Rattle.walk_places.specs.declared.places.Record.{Record}
 use Rattle.place_walk.specs.declared.stand.Stand.{Stand}
 use Rattle.place_walk.specs.declared.visit.Visit.{Visit}
 use Rattle.place_walk.specs.Courses.{Course}
-use Rattle.place_walk.specs.Stands.{StandsAt}
 use Rattle.place_walk.specs.Visits.{IsVisit, AreVisits}
 use Rattle.place_walk.proofs.StandLemmas.{visits-each}
 use Rattle.stand_sums.specs.declared.aim.Aim.{Aim}
-use Rattle.stand_sums.specs.Writings.{Ranks, writes, opens, ends, follows}
+use Rattle.stand_sums.specs.Writings.{Ranks, opens, ends, follows}
 use Rattle.stand_sums.specs.Files.{stand_at, stands_in}
 use Rattle.mask_sums.specs.Kept.{lacks, lacking}
 use Rattle.level_ahead.specs.Behind.{IsBehind, HasBehind, FollowsBehind, goes_further, GoesOnBehind, CanLookBehind}
 use Rattle.level_ahead.proofs.NeedLemmas.{opens-further}
 use Rattle.level_ahead.proofs.StandLemmas.{visit-alike, mark-alike, behind-stand, stand-behind}
 use Rattle.place_records.specs.Records.{start_of, AreRecords}
-use Rattle.snapshot_project.specs.declared.snapshot.Snapshot.{Snapshot}
 use Rattle.snapshot_project.specs.Aims.{sees, goes}
 use Rattle.snapshot_project.specs.Extensions.{GrowsBehind, GeneratesWithin, IsSupportOf}
 use Rattle.snapshot_project.specs.Grouped.{course_for, IsGroupIn, AreAllGrids}

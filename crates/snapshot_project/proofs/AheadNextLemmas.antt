@@ -1,15 +1,14 @@
 -- What follows longer prefixes, from what was counted behind the visits of all sequences.
-use Rattle.std.proofs.Common.{◌≡◌, ◌↔◌, ℕ, ◌+◌, ◌≤◌, ◌<◌, ◌⊎◌, inl, inr, Bool, true, false, ◌||◌, IsTrue, Some, None, Option, List, [], ◌∷◌, ◌++◌, length, map, replicate, refl, sym, ap, ◌∙◌, subst, arith}
+use Rattle.std.proofs.Common.{◌≡◌, ◌↔◌, ℕ, ◌≤◌, ◌<◌, inl, inr, Some, Option, List, [], ◌∷◌, ◌++◌, length, map, replicate, refl, sym, ap, ◌∙◌, subst, arith}
 use Rattle.std.specs.List.{AllPairs, AllZip, Contains, slice_get, slice_index}
 use Rattle.std.proofs.lemmas.List.{get_or-replicate}
 use Rattle.std.proofs.lemmas.Option.{slice_get-get_or, get_or_from_slice_get}
 use Rattle.mine_model.specs.declared.item.Item.{Item}
-use Rattle.mine_model.specs.Support.{Sequence, Counts}
-use Rattle.mine_model.specs.Growth.{WeighAtLeast}
+use Rattle.mine_model.specs.Support.{Counts}
 use Rattle.mine_model.proofs.AliveLemmas.{WeighAtLeast-counted}
 use Rattle.mine_model.proofs.ListLemmas.{Contains-first, Contains-other, Contains-by, Contains-from}
 use Rattle.mining_job.specs.Problems.{items_of}
-use Rattle.sequence_grids.specs.Grids.{GridList, items_at}
+use Rattle.sequence_grids.specs.Grids.{GridList}
 use Rattle.sequence_grids.specs.Successors.{AreSuccessors}
 use Rattle.walk_memo.specs.Moves.{MoveSets}
 use Rattle.walk_places.specs.declared.places.Record.{Record}
@@ -17,9 +16,8 @@ use Rattle.place_walk.specs.declared.stand.Stand.{Stand}
 use Rattle.place_walk.specs.declared.visit.Visit.{Visit}
 use Rattle.place_walk.specs.Courses.{Course}
 use Rattle.place_walk.specs.Visits.{AreVisits}
-use Rattle.stand_sums.specs.declared.aim.Aim.{Aim}
-use Rattle.stand_sums.specs.Writings.{Ranks, opens, ends, follows}
-use Rattle.stand_sums.specs.Sequences.{all_weighed, weighed}
+use Rattle.stand_sums.specs.Writings.{Ranks, ends}
+use Rattle.stand_sums.specs.Sequences.{all_weighed}
 use Rattle.mask_sums.specs.Kept.{lacks, lacking}
 use Rattle.level_ahead.specs.declared.next_of.NextOf.{NextOf}
 use Rattle.level_ahead.specs.Behind.{HasBehind, FollowsBehind, GoesOnBehind}

@@ -1,5 +1,5 @@
 -- What is kept of longer prefixes where it was counted ahead what follows them.
-use Rattle.std.proofs.Common.{◌≡◌, ℕ, zero, suc, ◌-◌, ◌≤◌, ◌<◌, inl, inr, IsTrue, Option, Some, None, List, [], ◌∷◌, ◌++◌, length, map, refl, sym, ap, ◌∙◌, subst, arith}
+use Rattle.std.proofs.Common.{◌≡◌, ℕ, zero, suc, ◌-◌, ◌≤◌, ◌<◌, inl, inr, Option, Some, None, List, [], ◌∷◌, ◌++◌, length, map, refl, sym, ap, ◌∙◌, subst, arith}
 use Rattle.std.specs.List.{AllPairs, AllZip, Contains, slice_get, slice_range}
 use Rattle.std.proofs.lemmas.Bool.{cases_lt}
 use Rattle.std.specs.Option.{IfSome}
@@ -150,15 +150,15 @@ module _ (part : GridList) (is : IsPart part) (width : ℕ) (rows : List ℕ) (r
           (visits-in part is width rows rows_are places early late ranks CanAsk records prefixes list are grids rising all_grids groups groups_are sequences visits_are next.rank)
           next.support low high support in
           let own : SnapshotList = record { seen = sees list.seen part.bound.need next.rank; support = next.support; snapshots = snapshots } in
-          let same : kept.stands ≡ stands_of ranks aim next.rank sequences = is_kept.stands ∙ filed is_kept.lacked is_kept.some in
+          let same : kept.stands ≡ stands_of ranks aim next.rank sequences = ap (λ (k : StandList). k.stands) is_kept.is ∙ filed is_kept.lacked is_kept.some in
           let plain : TellNext part least (prefixes ++ next.rank ∷ []) own kept.stands None None = inl (subst (AreStandsOf part snapshots) (sym same) stands) in
           record {
             snapshots = own;
             are = taken;
-            seen = is_kept.seen;
-            support = is_kept.support;
-            stands = subst (λ (told : Option (List Next)). TellNext part least (prefixes ++ next.rank ∷ []) own kept.stands told kept.bytes) (sym is_kept.untold)
-                (subst (TellNext part least (prefixes ++ next.rank ∷ []) own kept.stands None) (sym is_kept.loose) plain);
+            seen = ap (λ (k : StandList). k.seen) is_kept.is;
+            support = ap (λ (k : StandList). k.support) is_kept.is;
+            stands = subst (λ (told : Option (List Next)). TellNext part least (prefixes ++ next.rank ∷ []) own kept.stands told kept.bytes) (sym (ap (λ (k : StandList). k.next) is_kept.is))
+                (subst (TellNext part least (prefixes ++ next.rank ∷ []) own kept.stands None) (sym (ap (λ (k : StandList). k.bytes) is_kept.is)) plain);
           }
 
   -- so of each rank that was found

@@ -1,7 +1,8 @@
 -- What walks behind visits may ask, and what several walks count.
-use Rattle.std.proofs.Common.{◌≡◌, ◌↔◌, ℕ, ◌+◌, ◌≤◌, ◌<◌, ◌⊎◌, inl, inr, Bool, true, false, ◌==◌, ◌&&◌, IsTrue, Option, Some, None, List, [], ◌∷◌, ◌++◌, length, map, replicate, refl, sym, ap, ◌∙◌, subst, arith, append_assoc, false-eqb}
-use Rattle.std.specs.List.{AllPairs, AllZip, Contains, slice_get, slice_index}
-use Rattle.std.proofs.lemmas.Bool.{eqb-true}
+use Rattle.std.proofs.Common.{◌≡◌, ◌↔◌, ℕ, ◌+◌, ◌<◌, ◌⊎◌, inl, inr, Bool, true, false, true≢false, not, ◌==◌, ◌&&◌, IsTrue, Option, Some, List, [], ◌∷◌, ◌++◌, length, map, replicate, refl, sym, ap, ◌∙◌, subst, arith, append_assoc, false-eqb}
+use Rattle.std.specs.List.{AllPairs, AllZip, Contains, filter, slice_get, slice_index}
+use Rattle.std.proofs.lemmas.Bool.{eqb-true, eq-eqb}
+use Rattle.level_ahead.proofs.NeedLemmas.{second-true}
 use Rattle.std.proofs.lemmas.List.{append-nil, length-map}
 use Rattle.std.proofs.lemmas.List.Elements.{Contains-append_cases}
 use Rattle.std.proofs.lemmas.Option.{same_Some, slice_get-get_or, slice_get_within, get_or_from_slice_get}
@@ -9,9 +10,9 @@ use Rattle.mine_model.specs.declared.item.Item.{Item}
 use Rattle.mine_model.specs.Database.{sequence_at}
 use Rattle.mine_model.specs.Support.{Sequence, Counts}
 use Rattle.mine_model.proofs.ElementLemmas.{get-some, get-held}
-use Rattle.mine_model.proofs.ListLemmas.{Contains-cases, Contains-first, Contains-other, Contains-none, Contains-from}
+use Rattle.mine_model.proofs.ListLemmas.{Contains-cases, Contains-first, Contains-other, Contains-none, Contains-by, Contains-from, Contains-filter}
 use Rattle.mining_job.specs.Problems.{items_of}
-use Rattle.sequence_grids.specs.Grids.{GridList, items_at}
+use Rattle.sequence_grids.specs.Grids.{GridList}
 use Rattle.sequence_grids.specs.Successors.{AreSuccessors}
 use Rattle.walk_memo.specs.Moves.{MoveSets}
 use Rattle.walk_places.specs.declared.places.Record.{Record}
@@ -26,7 +27,7 @@ use Rattle.stand_sums.specs.Writings.{Ranks, writes, goes_on, opens, ends}
 use Rattle.stand_sums.specs.Sequences.{HasOne, AreSequences}
 use Rattle.mask_sums.specs.Kept.{lacks, lacking}
 use Rattle.level_ahead.specs.Behind.{CanLookBehind}
-use Rattle.level_ahead.specs.Counts.{Behind, nothing_behind, asked_of, AreAdded}
+use Rattle.level_ahead.specs.Counts.{Behind, has_places, is_asked, nothing_behind, asked_of, AreAdded}
 use Rattle.level_ahead.proofs.AddLemmas.{none-added, more-added}
 use Rattle.place_records.specs.Ranks.{ranks_of, CanAskOf}
 use Rattle.place_records.specs.Records.{AreRecords}
@@ -43,7 +44,7 @@ use Rattle.snapshot_project.proofs.LongerLemmas.{aim_of}
 use Rattle.snapshot_project.proofs.GroupLemmas.{zip-both, zip-known, stands-cut}
 use Rattle.snapshot_project.proofs.ListedLemmas.{generates-not}
 use Rattle.snapshot_project.proofs.SumLemmas.{AreToldBy, groups-told}
-use Rattle.snapshot_project.proofs.UniqueLemmas.{sequences-unique, sequences-cut}
+use Rattle.snapshot_project.proofs.UniqueLemmas.{sequences-unique}
 use Rattle.snapshot_project.proofs.VisitNextLemmas.{visit-within, generates-visit, ranked}
 use Rattle.snapshot_project.proofs.WalkedLemmas.{IsCutBefore, groups-behind, groups-none, walked-cut}
 
@@ -274,3 +275,16 @@ counted-begun course ranks lack sequences next before now begun asked all behind
     let rank_is : one.rank ≡ behind.rank = sym (ap (λ (b : Behind). b.rank) same) ∙ sym added.same in
     let first_is : first ≡ record { rank = behind.rank; counts = replicate 256 0 } = same ∙ (λ i. record { rank = rank_is i; counts = replicate 256 0 }) in
     subst (λ (b : Behind). AreAdded course ranks lack sequences b behind) first_is added
+
+-- no lacking rank is asked about
+pub asked-apart : (lack : Option ℕ) (found : List NextRank) (behinds : List Behind) → behinds ≡ map nothing_behind (filter (is_asked lack) found)
+    → (rank : ℕ) → Contains (asked_of behinds) rank → lack ≡ Some rank → ⊥
+asked-apart lack found behinds begun rank asks is =
+    let ranks : asked_of behinds ≡ map (λ (n : NextRank). n.rank) (filter (is_asked lack) found) = ap asked_of begun ∙ asked-begun (filter (is_asked lack) found) in
+    let (next, held, same) = Contains-from (λ (n : NextRank). n.rank) (filter (is_asked lack) found) rank (subst (λ (l : List ℕ). Contains l rank) ranks asks) in
+    let (inside, asked) = Contains-filter (is_asked lack) found next held in
+    let its : is_asked (Some rank) next ≡ true = subst (λ (o : Option ℕ). is_asked o next ≡ true) is asked in
+    true≢false (sym (second-true (has_places next) (not (next.rank == rank)) its) ∙ ap not (eq-eqb next.rank rank (sym same)))
+
+pub entry-asked : (behinds : List Behind) (behind : Behind) → Contains behinds behind → Contains (asked_of behinds) behind.rank
+entry-asked behinds behind held = Contains-by (λ (b : Behind). b.rank) behinds behind held

@@ -1,7 +1,8 @@
 -- Ranks that have places, among those that were found.
-use Rattle.std.proofs.Common.{◌≡◌, ℕ, zero, suc, ◌+◌, ◌≤◌, ◌<◌, Bool, true, false, Option, Some, List, [], ◌∷◌, ◌++◌, length, map, filter, take, get_or, cond, refl, sym, ap, ◌∙◌, subst, arith}
-use Rattle.std.specs.List.{AllZip, slice_get}
-use Rattle.std.proofs.lemmas.List.{length-map}
+use Rattle.std.proofs.Common.{◌≡◌, ℕ, zero, suc, ◌+◌, ◌≤◌, ◌<◌, inl, inr, Bool, true, false, Option, Some, List, [], ◌∷◌, ◌++◌, length, map, filter, take, get_or, cond, refl, sym, ap, ◌∙◌, subst, arith}
+use Rattle.std.specs.List.{AllZip, Contains, slice_get}
+use Rattle.std.proofs.lemmas.List.{length-map, take_more, take_all}
+use Rattle.std.proofs.lemmas.List.Elements.{Contains-push_cases}
 use Rattle.std.proofs.lemmas.List.Filters.{length-filter_more}
 use Rattle.std.proofs.lemmas.Option.{same_Some, slice_get_within}
 use Rattle.mine_model.proofs.ElementLemmas.{get-some, slice_get-mapped_by}
@@ -9,7 +10,11 @@ use Rattle.stand_sums.specs.declared.next_rank.NextRank.{NextRank}
 use Rattle.level_ahead.specs.Counts.{Behind, is_asked, asked_of}
 use Rattle.snapshot_project.proofs.GroupLemmas.{zip-both}
 
--- a rank with places is the next of those that have some
+-- no rank
+abbrev pub blank : NextRank
+blank = record { rank = 0; weight = 0; support = 0; longer = 0; first = 0; last = 0 }
+
+-- a rank that is asked about is the next of those that are
 chosen-at : (lack : Option ℕ) (found : List NextRank) (k : ℕ) (next : NextRank) → slice_get found k ≡ Some next → is_asked lack next ≡ true
     → slice_get (filter (is_asked lack) found) (length (filter (is_asked lack) (take k found))) ≡ Some next
 chosen-at lack [] k next at has = absurd (cc)
@@ -63,3 +68,17 @@ count-most lack (next ∷ found) = by (is_asked lack next) refl (count-most lack
     by : (b : Bool) → is_asked lack next ≡ b → length (filter (is_asked lack) found) ≤ length found → length (filter (is_asked lack) (next ∷ found)) ≤ suc (length found)
     by true is most = rw is (omega (arith, most))
     by false is most = rw is (omega (arith, most))
+
+-- ---- one after another
+
+-- what holds of the first so many, and of one more
+pub so-far : (P : NextRank → Type 0) (found : List NextRank) (k : ℕ) (d : NextRank) → k < length found → ((next : NextRank) → Contains (take k found) next → P next) → P (get_or found k d)
+    → (next : NextRank) → Contains (take (k + 1) found) next → P next
+so-far P found k d inside before this next held =
+    elim (Contains-push_cases (take k found) (get_or found k d) next (subst (λ (l : List NextRank). Contains l next) (take_more found k d inside) held)) [
+      | inl there ↦ before next there
+      | inr same ↦ subst P same this
+    ]
+
+pub so-all : (P : NextRank → Type 0) (found : List NextRank) (k : ℕ) → length found ≤ k → ((next : NextRank) → Contains (take k found) next → P next) → (next : NextRank) → Contains found next → P next
+so-all P found k past before = subst (λ (l : List NextRank). (next : NextRank) → Contains l next → P next) (take_all k found past) before

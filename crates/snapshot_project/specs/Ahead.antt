@@ -18,6 +18,7 @@ use Rattle.level_ahead.specs.declared.next_of.NextOf.{NextOf}
 use Rattle.level_ahead.specs.Counts.{Behind, AreAdded, AreReaching}
 use Rattle.snapshot_project.specs.declared.next_rank.NextRank.{NextRank as Next}
 use Rattle.snapshot_project.specs.Aims.{sees}
+use Rattle.snapshot_project.specs.Longer.{kept_of}
 use Rattle.snapshot_project.specs.Stands.{StandList}
 
 -- the elements, if there is a list
@@ -50,24 +51,20 @@ pub record IsToldAhead (aim : Aim) (least : ℕ) (behinds : List Behind) (next :
       × AreReaching least behind.counts told
   pub nothing : next.last ≤ next.first → told ≡ []
 
+-- the rank, with its places from 0 on
+abbrev pub moved_front : NextRank → NextRank
+moved_front next = record next { first = 0; last = next.last - next.first }
+
 -- or its stands are kept, which are as many of the run as it has places: it is the one that was lacking
 pub record IsStandingAhead (aim : Aim) (run : List Stand) (next : NextRank) (kept : StandList) : Type 0 where
   pub lacked : lacking aim ≡ Some next.rank
   pub some : next.first < next.last
-  pub seen : kept.seen ≡ sees aim.seen aim.need next.rank
-  pub support : kept.support ≡ next.support
-  pub stands : kept.stands ≡ slice_range run 0 (next.last - next.first)
-  pub untold : kept.next ≡ None
-  pub loose : kept.bytes ≡ None
+  pub is : kept ≡ kept_of aim run (moved_front next)
 
 -- what is kept of the prefix with the rank
 abbrev pub IsKeptAhead : Aim → ℕ → List Behind → List Stand → NextRank → StandList → Type 0
 IsKeptAhead aim least behinds run next kept =
     IsToldAhead aim least behinds next kept ⊎ IsStandingAhead aim run next kept
-
--- the rank, with its places from 0 on
-abbrev pub moved_front : NextRank → NextRank
-moved_front next = record next { first = 0; last = next.last - next.first }
 
 -- the run is long enough for them
 abbrev pub HaveRoomAhead : Aim → List NextRank → List Stand → Type 0

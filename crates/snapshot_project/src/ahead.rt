@@ -24,6 +24,7 @@ use super::next_rank::NextRank;
 use super::room::Tables;
 use super::snapshots::Snapshots;
 use super::terrain::Terrain;
+use super::waiting::piece;
 use level_ahead::{Ahead, NextOf, asks_about};
 use mask_sums::Masks;
 use mine_model::NoMemory;
@@ -54,7 +55,8 @@ fn looks_ahead<const W: usize>(
 
 // Whether one of the ranks is asked about.
 fn asks_any(lacks: Option<u32>, found: &[Counted]) -> bool
-    ensures { result ≡ false → All (λ next. is_asked lacks next ≡ false) found.now }
+    ensures { result ≡ false
+        → (next : Counting) → Contains found.now next → is_asked lacks next ≡ false }
 {
     for next in found {
         if asks_about(lacks, next) {
@@ -146,25 +148,25 @@ fn lacking_stands<const W: usize>(
         (ranks_of over.now.records.table) aim stands.now found.now run.stands) }
     ensures within { IfOk result (λ run. HaveRoomAhead aim found.now run.stands) }
 {
-    match placed_lacking(lacking(aim), found) {
-        None => Ok(Run::new(alloc)),
-        Some(one) => {
-            let mut only = Vec::new(alloc);
-            only.push(at_front(one))?;
-            stands_behind(alloc, over, memo, aim, stands, next, only.as_slice(), tables)
-        }
-    }
+    let Some(need) = lacking(aim) else {
+        return Ok(Run::new(alloc));
+    };
+    let Some(one) = placed(need, found) else {
+        return Ok(Run::new(alloc));
+    };
+    let mut only = Vec::new(alloc);
+    only.push(at_front(one))?;
+    stands_behind(alloc, over, memo, aim, stands, next, only.as_slice(), tables)
 }
 
-// The rank that is lacking, if it was found and has places.
-fn placed_lacking(lacks: Option<u32>, found: &[Counted]) -> Option<Counted>
-    ensures some { IfSome result (λ one. Contains found.now one × (lacks ≡ Some one.rank)
-        × (one.first < one.last)) }
-    ensures none { IfNone result ((next : Counting) → Contains found.now next → lacks ≡ Some next.rank
+// The entry of the rank, if it was found and has places.
+fn placed(rank: u32, found: &[Counted]) -> Option<Counted>
+    ensures some { IfSome result (λ one. Contains found.now one × (one.rank ≡ rank) × (one.first < one.last)) }
+    ensures none { IfNone result ((next : Counting) → Contains found.now next → next.rank ≡ rank
         → next.last ≤ next.first) }
 {
     for next in found {
-        if Some(next.rank) == lacks && next.first < next.last {
+        if next.rank == rank && next.first < next.last {
             return Some(*next);
         }
     }
@@ -290,19 +292,19 @@ fn longer_ahead(
     ensures { IfOk result (λ longer.
         AllZip (IsKeptAhead aim least ahead.now run.stands) found.now longer.items) }
 {
-    let run = Arc::new(alloc, run)?;
+    let shared = Arc::new(alloc, run)?;
     let mut longer = Vec::with_capacity(alloc, found.len())?;
     let mut entry = 0;
     for next in found {
-        let seen = sees(aim, next.rank);
         if asks_about(lacking(aim), next) {
+            let seen = sees(aim, next.rank);
             let behind = ahead.reaching(alloc, entry, least)?;
             longer.push(Snapshots::told(seen, next.support, behind))?;
             entry += 1;
         } else if next.first < next.last {
-            let last = next.last - next.first;
-            longer.push(Snapshots::new(seen, next.support, run.clone()?, 0, last))?;
+            longer.push(piece(aim, at_front(*next), shared.clone()?))?;
         } else {
+            let seen = sees(aim, next.rank);
             let behind = Vec::new(alloc);
             longer.push(Snapshots::told(seen, next.support, behind))?;
         }

@@ -1,7 +1,6 @@
-use Rattle.std.proofs.Common.{◌≡◌, ◌∙◌, ℕ, ◌<◌, ◌^◌, IsTrue, Some, List, length, drop, refl, sym, subst, arith, rules}
+use Rattle.std.proofs.Common.{◌≡◌, ◌∙◌, ℕ, ◌<◌, ◌^◌, IsTrue, Option, Some, List, length, drop, refl, sym, subst, arith, rules}
 use Rattle.std.proofs.Math.ListN.{drop_of_length-le}
 use Rattle.std.specs.List.{All, Contains}
-use Rattle.walk_places.specs.declared.places.Record.{Record}
 use Rattle.place_walk.specs.declared.stand.Stand.{Stand}
 use Rattle.place_walk.specs.declared.visit.Visit.{Visit}
 use Rattle.place_walk.specs.Courses.{Course, course_of}
@@ -11,7 +10,7 @@ use Rattle.stand_sums.specs.Sequences.{AreSequences}
 use Rattle.stand_sums.specs.Writings.{Ranks, opens, IsReadable}
 use Rattle.mask_sums.specs.Kept.{lacks, lacking}
 use Rattle.level_ahead.specs.Behind.{CanLookBehind}
-use Rattle.level_ahead.specs.Counts.{Behind, asked_of, AreAdded}
+use Rattle.level_ahead.specs.Counts.{asked_of, AreAdded}
 use Rattle.place_records.specs.Ranks.{RanksValue, ranks_of, CanAskOf}
 use Rattle.place_records.specs.Values.{moves_for}
 use Rattle.snapshot_project.specs.Ahead.{AreAllAdded}
@@ -104,7 +103,8 @@ walks-preserved g c =
     λ sequences cut k one other at also.
     subst (λ (w : Course). AreAdded w ranks (lacking c.args.aim) sequences one other) here
     (subst (λ (t : RanksValue). AreAdded (course_of c.walk_some.new.memo c.places-in-walks.result.now) (ranks_of t) (lacking c.args.aim) sequences one other) c.table-table.ensures
-    (c.in_ok-add.ensures.counted c.if-not-branch.false sequences (subst (λ (l : List Visit). AreSequences l sequences) (sym c.as_slice-visits.ensures) cut) k one other at also)) in
+    (subst (λ (o : Option ℕ). AreAdded (course_of c.walk_some.new.memo c.places-in-walks.result.now) (ranks_of c.table-table.result.now) o sequences one other) c.lacking.ensures
+    (c.in_ok-add.ensures.counted c.if-not-branch.false sequences (subst (λ (l : List Visit). AreSequences l sequences) (sym c.as_slice-visits.ensures) cut) k one other at also))) in
     record {
       rows = c.in_ok-add.ensures.rows ∙ c.in_ok-from.ensures.rows ∙ c.walks.invariant.rows;
       moves = c.in_ok-add.ensures.moves ∙ c.in_ok-from.ensures.moves ∙ c.walks.invariant.moves;

@@ -1,4 +1,4 @@
-use Rattle.std.proofs.Common.{◌≡◌, ◌∙◌, ℕ, ◌<◌, ◌^◌, Bool, IsTrue, List, [], length, refl, sym, subst, arith, rules}
+use Rattle.std.proofs.Common.{◌≡◌, ℕ, ◌<◌, ◌^◌, Bool, IsTrue, Option, List, [], length, refl, sym, subst, arith, rules}
 use Rattle.std.proofs.lemmas.Result.{IfOk-weaker}
 use Rattle.std.specs.List.{All, AllZip, Contains}
 use Rattle.place_walk.specs.declared.stand.Stand.{Stand}
@@ -6,12 +6,11 @@ use Rattle.place_walk.specs.declared.visit.Visit.{Visit}
 use Rattle.place_walk.specs.Courses.{Course, course_of}
 use Rattle.place_walk.specs.Groups.{AreGroups}
 use Rattle.place_walk.specs.Visits.{AreVisits}
-use Rattle.place_walk.proofs.StandLemmas.{same-course}
 use Rattle.stand_sums.specs.Sequences.{AreSequences}
 use Rattle.stand_sums.specs.Writings.{Ranks, opens, IsReadable}
 use Rattle.mask_sums.specs.Kept.{lacks, lacking}
 use Rattle.level_ahead.specs.Behind.{CanLookBehind}
-use Rattle.level_ahead.specs.Counts.{Behind, asked_of, AreAdded}
+use Rattle.level_ahead.specs.Counts.{asked_of}
 use Rattle.place_records.specs.Ranks.{RanksValue, ranks_of, CanAskOf}
 use Rattle.snapshot_project.specs.Ahead.{AreAllAdded}
 use Rattle.snapshot_project.specs.Aims.{goes}
@@ -62,7 +61,7 @@ returns-clause-counted g c =
     let here : course_of c.args.memo.now c.places.result.now ≡ course = rw c.places.ensures refl in
     IfOk-weaker c.add.result
     (λ (ended : Bool). IsTrue ended → (sequences : List (List Visit)) → AreSequences c.as_slice-visits.result.now sequences
-    → AreAllAdded (course_of c.args.memo.now c.places.result.now) (ranks_of c.table-table.result.now) (lacking c.args.aim) sequences c.args.tables.now.ahead c.add.new.self)
+    → AreAllAdded (course_of c.args.memo.now c.places.result.now) (ranks_of c.table-table.result.now) c.lacking.result sequences c.args.tables.now.ahead c.add.new.self)
     (λ (ended : Bool). IsTrue ended → (groups : List (List Stand)) (sequences : List (List Visit)) → AreGroups c.args.stands.now groups
     → AllZip (AreVisits course) groups sequences → AreAllAdded course ranks (lacking c.args.aim) sequences c.args.tables.now.ahead c.add.new.self)
     (λ ended counted is groups sequences are visited.
@@ -70,5 +69,6 @@ returns-clause-counted g c =
     walked-sequences course groups c.args.tables.now.visits (c.requires.visits (omega (arith, c.if-next-len.false, c.len.ensures)) groups are) sequences visited in
     subst (λ (w : Course). AreAllAdded w ranks (lacking c.args.aim) sequences c.args.tables.now.ahead c.add.new.self) here
     (subst (λ (t : RanksValue). AreAllAdded (course_of c.args.memo.now c.places.result.now) (ranks_of t) (lacking c.args.aim) sequences c.args.tables.now.ahead c.add.new.self) c.table-table.ensures
-    (counted is sequences (subst (λ (l : List Visit). AreSequences l sequences) (sym c.as_slice-visits.ensures) cut))))
+    (subst (λ (o : Option ℕ). AreAllAdded (course_of c.args.memo.now c.places.result.now) (ranks_of c.table-table.result.now) o sequences c.args.tables.now.ahead c.add.new.self) c.lacking.ensures
+    (counted is sequences (subst (λ (l : List Visit). AreSequences l sequences) (sym c.as_slice-visits.ensures) cut)))))
     c.add.ensures.counted

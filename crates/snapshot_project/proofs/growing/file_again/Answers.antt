@@ -82,6 +82,7 @@ walks-preserved g c =
       moves = c.walk_some.ensures.moves ∙ c.walks.invariant.moves;
       sums = c.walks.invariant.sums;
       room = c.file.ensures.room ∙ c.walks.invariant.room;
+      ahead = c.walks.invariant.ahead;
       within = c.in_ok-from.ensures.within;
       filed = λ groups are.
           let filed = c.walks.invariant.filed groups are in
