@@ -40,8 +40,8 @@ pub record AreAdded (course : Course) (ranks : Ranks) (lacking : Option ℕ) (se
   pub counted : (other : ℕ) → other < 256
       → (n : ℕ) × Counts (FollowsBehind course ranks lacking before.rank other) (all_weighed [] sequences) n
       × (slice_index after.counts other ≡ slice_index before.counts other + n)
-  pub ended : (here : List Visit) → Contains sequences here → GoesOnBehind course ranks lacking before.rank here
-      → ⊥
+  pub ended : (here : List Visit) → Contains sequences here
+      → GoesOnBehind course ranks lacking before.rank here → ⊥
 
 -- exactly the ranks whose counts reach the least, rising, each with its count
 pub record AreReaching (least : ℕ) (counts : List ℕ) (found : List NextOf) : Type 0 where

@@ -27,7 +27,8 @@ use walk_places::Places;
 const RANKS: usize = 256;
 
 /// A worker's room for what follows behind each of some ranks. A contract sees the ranks that are asked
-/// about, each with the counts of those behind it. It serves ranks of at most 255, and sequences that weigh 1.
+/// about, each with the counts of those behind it. It serves ranks of at most 255, and sequences that weigh
+/// 1.
 pub struct Ahead {
     ranks: Vec<u32>,
     asked: StateSet<4>,
@@ -116,7 +117,8 @@ impl Ahead {
         requires few_ranks { IfSome lacking (λ need. need < 256) }
         requires apart { IfSome lacking (λ need. Contains (asked_of self.old) need → ⊥) }
         requires behind { (visit : Visited) (rank : ℕ) → Contains visits.now visit
-            → Contains (asked_of self.old) rank → IsTrue (opens (T.ranks table.now) (lacks lacking) rank visit)
+            → Contains (asked_of self.old) rank
+            → IsTrue (opens (T.ranks table.now) (lacks lacking) rank visit)
             → CanLookBehind (course_of memo.old places.now) (T.CanAsk table.now) visit }
         ensures rows { memo.new.rows ≡ memo.old.rows }
         ensures moves { memo.new.moves ≡ memo.old.moves }

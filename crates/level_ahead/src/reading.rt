@@ -39,7 +39,8 @@ pub(crate) fn read_visit<const W: usize, T: Masks>(
     requires asked { T.CanAsk table.now visit.kind visit.action.state }
     requires few_ranks { IfSome lacking (λ need. need < 256) }
     requires apart { IfSome lacking (λ need. Has asked.now need → ⊥) }
-    requires behind { (rank : ℕ) → Has asked.now rank → IsTrue (opens (T.ranks table.now) (lacks lacking) rank visit)
+    requires behind { (rank : ℕ) → Has asked.now rank
+        → IsTrue (opens (T.ranks table.now) (lacks lacking) rank visit)
         → CanLookBehind (course_of memo.old places.now) (T.CanAsk table.now) visit }
     requires sets { (rank : ℕ) → Has asked.now rank → rank < length gathered.old.sets.items }
     ensures rows { memo.new.rows ≡ memo.old.rows }

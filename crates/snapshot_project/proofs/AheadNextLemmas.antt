@@ -59,7 +59,7 @@ counts-alike weights One Other (here ∷ sequences) alike n (inr (lacks, counts)
 
 module _ (part : GridList) (is : IsPart part) (width : ℕ) (rows : List ℕ) (rows_are : AreSuccessors width part.problem.machine rows)
     (places : List Record) (early late : List MoveSets) (ranks : Ranks) (CanAsk : ℕ → ℕ → Type 0) (records : AreRecords part places early late ranks CanAsk)
-    (prefixes : List ℕ) (list : SnapshotList) (are : AreSnapshots part prefixes list) 
+    (prefixes : List ℕ) (list : SnapshotList) (are : AreSnapshots part prefixes list)
     (grids : List ℕ) (rising : AllPairs (λ low high. low < high) grids) (all_grids : AreAllGrids part list.snapshots grids)
     (groups : List (List Stand)) (groups_are : AreGroupsIn part are.prefix list.seen grids groups)
     (sequences : List (List Visit)) (visits_are : AllZip (AreVisits (course_for rows places early late (goes list.seen part.bound.need))) groups sequences) where

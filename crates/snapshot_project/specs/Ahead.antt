@@ -39,7 +39,8 @@ last_of aim next = record {
   bytes = None;
 }
 
--- it is told what follows the prefix with the rank: by one of these counts, if it has places, and else nothing
+-- it is told what follows the prefix with the rank: by one of these counts, if it has places, and else
+-- nothing
 pub record IsToldAhead (aim : Aim) (least : ℕ) (behinds : List Behind) (next : NextRank) (kept : StandList)
     : Type 0 where
   pub seen : kept.seen ≡ sees aim.seen aim.need next.rank
@@ -92,8 +93,8 @@ AreCountedAhead course ranks lacks sequences behinds =
     (behind : Behind) → Contains behinds behind
     → AreAdded course ranks lacks sequences (record { rank = behind.rank; counts = replicate 256 0 }) behind
 
--- so from all stands, where each sequence weighs 1 and there are few ranks; not behind the rank that is lacking,
--- whose stands are in the run
+-- so from all stands, where each sequence weighs 1 and there are few ranks; not behind the rank that is
+-- lacking, whose stands are in the run
 pub record AreAhead (course : Course) (ranks : Ranks) (aim : Aim) (weights : List ℕ) (least most : ℕ)
     (stands : List Stand) (found : List NextRank) (longer : List StandList)
     : Type 0 where

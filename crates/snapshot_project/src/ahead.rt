@@ -156,12 +156,22 @@ fn lacking_stands<const W: usize>(
     };
     let mut only = Vec::new(alloc);
     only.push(at_front(one))?;
-    stands_behind(alloc, over, memo, aim, stands, next, only.as_slice(), tables)
+    stands_behind(
+        alloc,
+        over,
+        memo,
+        aim,
+        stands,
+        next,
+        only.as_slice(),
+        tables,
+    )
 }
 
 // The entry of the rank, if it was found and has places.
 fn placed(rank: u32, found: &[Counted]) -> Option<Counted>
-    ensures some { IfSome result (λ one. Contains found.now one × (one.rank ≡ rank) × (one.first < one.last)) }
+    ensures some { IfSome result (λ one. Contains found.now one × (one.rank ≡ rank)
+        × (one.first < one.last)) }
     ensures none { IfNone result ((next : Counting) → Contains found.now next → next.rank ≡ rank
         → next.last ≤ next.first) }
 {
@@ -224,7 +234,9 @@ fn count_ahead<const W: usize>(
     }
     let visits = tables.visits.as_slice();
     let table = over.records.table();
-    tables.ahead.add(memo, over.records.places(), table, lacking(aim), visits)
+    tables
+        .ahead
+        .add(memo, over.records.places(), table, lacking(aim), visits)
 }
 
 // The same in walks of their own.
@@ -287,7 +299,8 @@ fn longer_ahead(
     run: Run,
     ahead: &Ahead,
 ) -> Result<Vec<Snapshots>, NoMemory>
-    requires asked { asked_of ahead.now ≡ map (λ next. next.rank) (filter (is_asked (lacking_of aim)) found.now) }
+    requires asked { asked_of ahead.now
+        ≡ map (λ next. next.rank) (filter (is_asked (lacking_of aim)) found.now) }
     requires within { HaveRoomAhead aim found.now run.stands }
     ensures { IfOk result (λ longer.
         AllZip (IsKeptAhead aim least ahead.now run.stands) found.now longer.items) }

@@ -1,7 +1,6 @@
 use Rattle.std.proofs.Common.{◌≡◌, ◌≤◌, take}
 use Rattle.std.specs.List.{Contains}
 use Rattle.stand_sums.specs.declared.next_rank.NextRank.{NextRank}
-
 use Rattle.snapshot_project.proofs.ahead.placed.Given as goal
 
 -- none of those so far

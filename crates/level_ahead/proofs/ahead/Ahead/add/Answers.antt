@@ -29,18 +29,18 @@ count_all-requires g c =
                 (
                   c.requires.few_ranks,
                   (
-                  not-asked c.args.lacking ranks (asked_of c.args.self.now) c.self.inside.asked asked c.self.invariant.asked_are c.requires.apart,
-                  (
-                  (λ visit rank held asks opening.
-                      c.requires.behind visit rank held (subst (λ (l : List ℕ). Contains l rank) (sym asked) ((c.self.invariant.asked_are rank).0 asks)) opening),
-                  (
-                    c.self.invariant.sets_room,
-                    (λ rank asks.
-                        let less = c.self.invariant.counts_room rank asks in
-                        let same = ap (λ (l : List (List ℕ)). length l) c.as_mut_slice.ensures.value in
-                        omega (arith, less, same)),
-                  ),
-                  ),
+                    not-asked c.args.lacking ranks (asked_of c.args.self.now) c.self.inside.asked asked c.self.invariant.asked_are c.requires.apart,
+                    (
+                      (λ visit rank held asks opening.
+                          c.requires.behind visit rank held (subst (λ (l : List ℕ). Contains l rank) (sym asked) ((c.self.invariant.asked_are rank).0 asks)) opening),
+                      (
+                        c.self.invariant.sets_room,
+                        (λ rank asks.
+                            let less = c.self.invariant.counts_room rank asks in
+                            let same = ap (λ (l : List (List ℕ)). length l) c.as_mut_slice.ensures.value in
+                            omega (arith, less, same)),
+                      ),
+                    ),
                   ),
                 ),
               ),
