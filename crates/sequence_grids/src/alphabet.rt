@@ -114,8 +114,8 @@ fn meet_items(alloc: Global, job: &Job, bound: Bound, all: &mut Alphabet) -> Res
     Ok(())
 }
 
-/// Finds the kinds of those of the items that were not yet met, and cuts them from those of the alphabet, where
-/// there is one.
+/// Finds the kinds of those of the items that were not yet met, and cuts them from those of the alphabet,
+/// where there is one.
 pub(crate) fn meet_all(
     job: &Job,
     bound: Bound,

@@ -24,8 +24,8 @@ pub struct Place {
     pub triple: u32,
 }
 
-/// The places of a sequence behind the others, from the last to the first. Kinds that are not yet known are cut
-/// from those of the alphabet, where there is one.
+/// The places of a sequence behind the others, from the last to the first. Kinds that are not yet known are
+/// cut from those of the alphabet, where there is one.
 pub fn push_places(
     job: &Job,
     bound: Bound,

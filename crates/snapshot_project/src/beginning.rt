@@ -28,8 +28,8 @@ use std::sync::Arc;
 use std::thread::Threads;
 
 /// The part of these sequences, and what is kept of the empty prefix: it stands at the starts of those that
-/// have a pattern within the bound. With a pivot the part's patterns are those whose greatest rank it is. What
-/// its items may do is cut from the alphabet.
+/// have a pattern within the bound. With a pivot the part's patterns are those whose greatest rank it is.
+/// What its items may do is cut from the alphabet.
 pub fn begin<'a>(
     alloc: Global,
     job: &'a Job,
