@@ -1,5 +1,4 @@
 pub mod BehindLemmas
-pub mod NeedLemmas
 pub mod ReadLemmas
 pub mod FollowLemmas
 pub mod GatherLemmas

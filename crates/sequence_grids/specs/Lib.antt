@@ -9,4 +9,3 @@ pub mod Widths
 pub mod Columns
 pub mod Kinds
 pub mod Places
-pub mod Wholes

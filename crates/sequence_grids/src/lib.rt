@@ -4,7 +4,6 @@
 
 mod alphabet;
 mod columns;
-mod cuts;
 mod grid;
 mod grid_parts;
 mod grids;
@@ -16,7 +15,7 @@ mod successors;
 mod table;
 mod tables;
 
-pub use alphabet::{Alphabet, alphabet_of, whole_alphabet};
+pub use alphabet::{Alphabet, alphabet_of};
 pub use columns::Columns;
 pub use grid::Grid;
 pub use grid_parts::GridParts;

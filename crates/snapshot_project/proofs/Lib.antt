@@ -33,7 +33,6 @@ pub mod AheadLemmas
 pub mod AheadNextLemmas
 pub mod FoundLemmas
 pub mod GrownLemmas
-pub mod FrontLemmas
 pub mod GrownAheadLemmas
 pub mod WalkedLemmas
 pub mod LookLemmas
