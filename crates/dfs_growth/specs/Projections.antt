@@ -1,9 +1,11 @@
 -- What a node keeps of its prefix: a part and where its snapshots stand in it, the projected database of the
 -- DESQ article.
 use Rattle.std.specs.Prelude.{◌≡◌, ℕ, ◌≤◌, IfSome, List, [], length}
+use Rattle.std.specs.Arc.{arc_value}
 use Rattle.mining_job.specs.declared.part_seed.PartSeed.{PartSeed}
 use Rattle.mining_job.specs.Problems.{Problem}
 use Rattle.sequence_grids.specs.Grids.{GridList}
+use Rattle.sequence_grids.specs.Wholes.{IsWholeAlphabet}
 use Rattle.mining_job.specs.Parts.{pivot_of, IsComplete}
 use Rattle.snapshot_project.specs.Snapshots.{bound_of}
 use Rattle.snapshot_project.specs.Rooms.{RoomValue}
@@ -43,9 +45,10 @@ pub record IsRootOf (prefix : Prefix) (seed : PartSeed) : Type 0 where
   pub pivot_is : pivot_of seed.pivot ≡ prefix.pivot
   pub empty : prefix.ranks ≡ []
 
--- the state is that of the node
+-- the state is that of the node; that of a root has the alphabet of the problem
 abbrev pub IsStateOf : Prefix → State → Type 0
-IsStateOf prefix (Root seed) = IsRootOf prefix seed
+IsStateOf prefix (Root seed alphabet) =
+    IsRootOf prefix seed × IsWholeAlphabet prefix.problem (arc_value alphabet)
 IsStateOf prefix (Projected part list) = IsProjection prefix part list
 
 -- the label has a pivot, or 0, in front, and the state is that of the node with the label

@@ -51,8 +51,8 @@ fn projection<'a>(
 {
     let Node { job, label, state } = node;
     match state {
-        State::Root(seed) => {
-            let (part, snapshots) = begin(alloc, job, seed.pivot, seed.sequences)?;
+        State::Root(seed, alphabet) => {
+            let (part, snapshots) = begin(alloc, job, &alphabet, seed.pivot, seed.sequences)?;
             Ok((label, part, snapshots))
         }
         State::Projected(part, snapshots) => Ok((label, part, snapshots)),

@@ -1,6 +1,6 @@
 //! The roots of the search tree.
 
-ghost use Rattle.std.specs.Prelude.{◌≡◌, ℕ, ◌≤◌, ◌<◌, [], ◌∷◌, map, length, sum_by, All, AllPairs, IfOk};
+ghost use Rattle.std.specs.Prelude.{◌≡◌, ℕ, ◌≤◌, ◌<◌, [], ◌∷◌, map, length, sum_by, All, AllPairs, IfOk, IfSome};
 ghost use Rattle.std.specs.List.{AllByRecursion};
 ghost use Rattle.mine_model.specs.Database.{sequence_at};
 ghost use Rattle.search_tree.specs.SearchTree.{AreRootsOf};
@@ -9,14 +9,18 @@ ghost use Rattle.mining_job.specs.Problems.{data_of};
 ghost use Rattle.mining_job.specs.Parts.{pivot_of, IsComplete};
 ghost use Rattle.snapshot_project.specs.Stands.{IsProjected};
 ghost use Rattle.snapshot_project.specs.Terrains.{IsWholePart};
+ghost use Rattle.std.specs.Arc.{arc_value};
+ghost use Rattle.sequence_grids.specs.Wholes.{IsWholeAlphabet};
 ghost use Rattle.dfs_growth.specs.Nodes.{Prefix, label_at, prefix_at};
 
 use super::node::Node;
 use super::state::State;
 use mine_model::NoMemory;
 use mining_job::{Job, PartSeed};
+use sequence_grids::{Alphabet, whole_alphabet};
 use snapshot_project::{Part, Snapshots, begin_whole, begin_whole_alone};
 use std::alloc::Global;
+use std::sync::Arc;
 use std::thread::Threads;
 
 /// The nodes of these seeds whose sequences weigh at least the support, in their order.
@@ -32,12 +36,32 @@ pub fn roots<'a>(
 {
     let support = job.support();
     let mut nodes = Vec::new(alloc);
+    let mut known = None;
     'seeds: for seed in seeds {
         if weight(job, seed.sequences.as_slice()) >= support {
-            nodes.push(root(alloc, job, seed)?)?;
+            let alphabet = shared_alphabet(alloc, job, &mut known)?;
+            nodes.push(root(alloc, job, seed, alphabet)?)?;
         }
     }
     Ok(nodes)
+}
+
+// The alphabet of the job, which is made where it is not yet known.
+fn shared_alphabet(
+    alloc: Global,
+    job: &Job,
+    known: &mut Option<Arc<Alphabet>>,
+) -> Result<Arc<Alphabet>, NoMemory>
+    requires known { IfSome known.old (λ all. IsWholeAlphabet job.now (arc_value all)) }
+    ensures known { IfSome known.new (λ all. IsWholeAlphabet job.now (arc_value all)) }
+    ensures alphabet { IfOk result (λ all. IsWholeAlphabet job.now (arc_value all)) }
+{
+    if let Some(all) = known.as_ref() {
+        return Ok(all.clone()?);
+    }
+    let all = Arc::new(alloc, whole_alphabet(alloc, job)?)?;
+    *known = Some(all.clone()?);
+    Ok(all)
 }
 
 /// The root of the search without pivots, where the sequences that have a pattern of frequent items weigh at
@@ -115,16 +139,22 @@ fn weight(job: &Job, numbers: &[u32]) -> u64
     sum
 }
 
-// The root of a seed.
-fn root<'a>(alloc: Global, job: &'a Job, seed: PartSeed) -> Result<Node<'a>, NoMemory>
-    requires { IsComplete job.now seed }
+// The root of a seed, which shares the alphabet.
+fn root<'a>(
+    alloc: Global,
+    job: &'a Job,
+    seed: PartSeed,
+    alphabet: Arc<Alphabet>,
+) -> Result<Node<'a>, NoMemory>
+    requires complete { IsComplete job.now seed }
+    requires alphabet { IsWholeAlphabet job.now (arc_value alphabet) }
     ensures { IfOk result (λ node. node ≡ prefix_at job.now (pivot_of seed.pivot ∷ [])) }
 {
     let label = root_label(alloc, seed.pivot)?;
     Ok(Node {
         job,
         label,
-        state: State::Root(seed),
+        state: State::Root(seed, alphabet),
     })
 }
 

@@ -5,6 +5,7 @@ ghost use Rattle.snapshot_project.specs.Stands.{IsProjected};
 use super::data::{RUNNING, Shape, job};
 use mine_model::NoMemory;
 use mining_job::Job;
+use sequence_grids::whole_alphabet;
 use snapshot_project::{Grown, NextRank, Part, Room, Snapshots, begin, grow, support};
 use std::alloc::Global;
 use std::fmt::Write;
@@ -40,7 +41,8 @@ fn told_in<'a>(
     }
     let pivot = known(asked.pivot, job.ranks().count());
     let sequences = vec![in alloc; 0, 1, 4]?;
-    let (part, snapshots) = begin(alloc, job, pivot, sequences)?;
+    let alphabet = whole_alphabet(alloc, job)?;
+    let (part, snapshots) = begin(alloc, job, &alphabet, pivot, sequences)?;
     told_of(
         alloc,
         &part,

@@ -1,5 +1,5 @@
 -- What is written behind visits.
-use Rattle.std.proofs.Common.{◌≡◌, ℕ, ◌⊎◌, ◌↔◌, inl, inr, Bool, true, IsTrue, List, [], ◌∷◌, ◌++◌, refl, sym, ap, ◌∙◌, subst}
+use Rattle.std.proofs.Common.{◌≡◌, ℕ, ◌⊎◌, ◌↔◌, inl, inr, Bool, true, IsTrue, Option, List, [], ◌∷◌, ◌++◌, refl, sym, ap, ◌∙◌, subst}
 use Rattle.std.specs.List.{Contains}
 use Rattle.std.proofs.lemmas.List.Elements.{Contains-push, Contains-push_cases, Contains-append_left}
 use Rattle.mine_model.proofs.ListLemmas.{Contains-cases, Contains-first, Contains-none}
@@ -10,7 +10,7 @@ use Rattle.place_walk.specs.Visits.{AreVisits}
 use Rattle.stand_sums.specs.Writings.{Ranks, opens}
 use Rattle.stand_sums.specs.Sequences.{HasOne}
 use Rattle.stand_sums.specs.Files.{stand_at}
-use Rattle.mask_sums.specs.Kept.{free}
+use Rattle.mask_sums.specs.Kept.{lacks}
 use Rattle.level_ahead.specs.Behind.{IsBehind, HasBehind}
 
 -- ---- one visit more
@@ -21,14 +21,14 @@ pub record PassesBehind (course : Course) (test : Visit → Bool) (visit : Visit
   pub behind : IsBehind course visit next
   pub passes : IsTrue (test next)
 
-module _ (course : Course) (ranks : Ranks) (rank : ℕ) (test : Visit → Bool) where
-  pub behind-none : HasBehind course ranks rank test [] → ⊥
+module _ (course : Course) (ranks : Ranks) (lacking : Option ℕ) (rank : ℕ) (test : Visit → Bool) where
+  pub behind-none : HasBehind course ranks lacking rank test [] → ⊥
   behind-none has = Contains-none has.visit has.held
 
   move-visit : (visits : List Visit) (visit one : Visit) → one ≡ visit → Contains visits visit → Contains visits one
   move-visit visits visit one same held = subst (Contains visits) (sym same) held
 
-  pub behind-within : (visits others : List Visit) → ((visit : Visit) → Contains visits visit → Contains others visit) → HasBehind course ranks rank test visits → HasBehind course ranks rank test others
+  pub behind-within : (visits others : List Visit) → ((visit : Visit) → Contains visits visit → Contains others visit) → HasBehind course ranks lacking rank test visits → HasBehind course ranks lacking rank test others
   behind-within visits others within has = record {
     visit = has.visit;
     held = within has.visit has.held;
@@ -39,7 +39,7 @@ module _ (course : Course) (ranks : Ranks) (rank : ℕ) (test : Visit → Bool) 
   }
 
   -- of visits and one more
-  pub behind-more : (visits : List Visit) (visit : Visit) → HasBehind course ranks rank test (visits ++ visit ∷ []) ↔ (HasBehind course ranks rank test visits ⊎ HasBehind course ranks rank test (visit ∷ []))
+  pub behind-more : (visits : List Visit) (visit : Visit) → HasBehind course ranks lacking rank test (visits ++ visit ∷ []) ↔ (HasBehind course ranks lacking rank test visits ⊎ HasBehind course ranks lacking rank test (visit ∷ []))
   behind-more visits visit = (
     (λ has. elim (Contains-push_cases visits visit has.visit has.held) [
       | inl there ↦ inl (record { visit = has.visit; held = there; opening = has.opening; next = has.next; behind = has.behind; passes = has.passes })
@@ -65,19 +65,19 @@ module _ (course : Course) (ranks : Ranks) (rank : ℕ) (test : Visit → Bool) 
   )
 
   -- behind one visit
-  pub one-opens : (visit : Visit) → HasBehind course ranks rank test (visit ∷ []) → IsTrue (opens ranks free rank visit)
+  pub one-opens : (visit : Visit) → HasBehind course ranks lacking rank test (visit ∷ []) → IsTrue (opens ranks (lacks lacking) rank visit)
   one-opens visit has = elim (Contains-cases visit [] has.visit has.held) [
-    | inl same ↦ subst (λ (v : Visit). IsTrue (opens ranks free rank v)) same has.opening
+    | inl same ↦ subst (λ (v : Visit). IsTrue (opens ranks (lacks lacking) rank v)) same has.opening
     | inr no' ↦ absurd (Contains-none has.visit no')
   ]
 
-  pub one-behind : (visit : Visit) → HasBehind course ranks rank test (visit ∷ []) → PassesBehind course test visit
+  pub one-behind : (visit : Visit) → HasBehind course ranks lacking rank test (visit ∷ []) → PassesBehind course test visit
   one-behind visit has = elim (Contains-cases visit [] has.visit has.held) [
     | inl same ↦ subst (PassesBehind course test) same (record { next = has.next; behind = has.behind; passes = has.passes })
     | inr no' ↦ absurd (Contains-none has.visit no')
   ]
 
-  pub behind-one : (visit : Visit) → IsTrue (opens ranks free rank visit) → PassesBehind course test visit → HasBehind course ranks rank test (visit ∷ [])
+  pub behind-one : (visit : Visit) → IsTrue (opens ranks (lacks lacking) rank visit) → PassesBehind course test visit → HasBehind course ranks lacking rank test (visit ∷ [])
   behind-one visit opening next = record {
     visit = visit;
     held = Contains-first visit [];

@@ -1,5 +1,5 @@
 -- What is found on the way behind a visit.
-use Rattle.std.proofs.Common.{◌≡◌, ℕ, zero, suc, ◌+◌, ◌<◌, ◌≤◌, ◌⊎◌, ◌↔◌, inl, inr, true, false, true≢false, Bool, IsTrue, Some, List, [], ◌∷◌, ◌++◌, length, map, take, get_or, refl, sym, ap, ◌∙◌, subst, arith}
+use Rattle.std.proofs.Common.{◌≡◌, ℕ, zero, suc, ◌+◌, ◌<◌, ◌≤◌, ◌⊎◌, ◌↔◌, inl, inr, true, false, true≢false, Bool, ◌&&◌, IsTrue, Option, Some, None, List, [], ◌∷◌, ◌++◌, length, map, take, get_or, refl, sym, ap, ◌∙◌, subst, arith}
 use Rattle.std.specs.List.{AllPairs, Contains, slice_get}
 use Rattle.std.proofs.lemmas.List.{take_more}
 use Rattle.std.proofs.lemmas.Option.{same_Some}
@@ -14,13 +14,14 @@ use Rattle.place_walk.specs.Courses.{Course}
 use Rattle.place_walk.specs.Visits.{AreVisits}
 use Rattle.place_walk.specs.Ways.{IsStepOver, IsOnWay, visit_of, with_first}
 use Rattle.place_walk.proofs.WayLemmas.{way-first, way-more, way-all}
-use Rattle.stand_sums.specs.Writings.{Ranks, ends, follows}
+use Rattle.stand_sums.specs.Writings.{Ranks, writes, ends, follows}
 use Rattle.stand_sums.specs.Sequences.{HasOne}
 use Rattle.stand_sums.specs.Files.{stand_at}
-use Rattle.mask_sums.specs.Kept.{free}
+use Rattle.mask_sums.specs.Kept.{free, lacks}
 use Rattle.mask_sums.proofs.SetLemmas.{ends-yes, ends-no}
-use Rattle.level_ahead.specs.Behind.{IsBehind}
+use Rattle.level_ahead.specs.Behind.{IsBehind, goes_further}
 use Rattle.level_ahead.specs.Following.{HasEnded}
+use Rattle.level_ahead.proofs.NeedLemmas.{needed-quiet, needed-only, needed-follows, further-marked}
 use Rattle.level_ahead.proofs.ReadLemmas.{follows-is}
 
 -- ---- visits that end
@@ -29,15 +30,15 @@ use Rattle.level_ahead.proofs.ReadLemmas.{follows-is}
 abbrev pub idle : Action
 idle = record { state = 0; more = false; unseen = false; ends = false }
 
-module _ (ranks : Ranks) where
-  pub ended-none : (before : ℕ) → HasEnded ranks [] before before
+module _ (ranks : Ranks) (lacking : Option ℕ) where
+  pub ended-none : (before : ℕ) → HasEnded ranks lacking [] before before
   ended-none before = record {
     ended = λ (one, (k, inside, is), goes). absurd (omega arith);
     added = λ rank. ((λ has. inl has), (λ either. elim either [ inl has ↦ has | inr (one, (k, inside, is), passes) ↦ absurd (omega arith) ]));
   }
 
   -- some and more behind them
-  pub ended-both : (some more : List Visit) (before mid after : ℕ) → HasEnded ranks some before mid → HasEnded ranks more mid after → HasEnded ranks (some ++ more) before after
+  pub ended-both : (some more : List Visit) (before mid after : ℕ) → HasEnded ranks lacking some before mid → HasEnded ranks lacking more mid after → HasEnded ranks lacking (some ++ more) before after
   ended-both some more before mid after first second = record {
     ended = λ (one, held, goes). elim (Contains-append_cases some more one held) [
       | inl here ↦ first.ended (one, here, goes)
@@ -62,12 +63,12 @@ module _ (ranks : Ranks) where
   }
 
   -- one that does not go on
-  one-ended : (one : Visit) → one.action.more ≡ false → (before after : ℕ) → ((rank : ℕ) → Has after rank ↔ (Has before rank ⊎ IsTrue (follows ranks free rank one)))
-      → HasEnded ranks (one ∷ []) before after
+  pub one-ended : (one : Visit) → goes_further ranks lacking one ≡ false → (before after : ℕ) → ((rank : ℕ) → Has after rank ↔ (Has before rank ⊎ IsTrue (follows ranks (lacks lacking) rank one)))
+      → HasEnded ranks lacking (one ∷ []) before after
   one-ended one stays before after adds = record {
     ended = λ (visit, held, goes). elim (Contains-push_cases [] one visit held) [
       | inl (k, inside, is) ↦ absurd (omega arith)
-      | inr same ↦ true≢false (sym goes ∙ ap (λ (v : Visit). v.action.more) (sym same) ∙ stays)
+      | inr same ↦ true≢false (sym goes ∙ ap (goes_further ranks lacking) (sym same) ∙ stays)
     ];
     added = λ rank. (
       (λ has. elim ((adds rank).0 has) [ inl had ↦ inl had | inr passes ↦ inr (one, Contains-push [] one, passes) ]),
@@ -75,28 +76,53 @@ module _ (ranks : Ranks) where
         | inl had ↦ inl had
         | inr (visit, held, passes) ↦ elim (Contains-push_cases [] one visit held) [
           | inl (k, inside, is) ↦ absurd (omega arith)
-          | inr same ↦ inr (subst (λ (v : Visit). IsTrue (follows ranks free rank v)) (sym same) passes)
+          | inr same ↦ inr (subst (λ (v : Visit). IsTrue (follows ranks (lacks lacking) rank v)) (sym same) passes)
         ]
       ])),
     );
   }
 
+module _ (ranks : Ranks) where
   pub one-stops : (one : Visit) → one.action.more ≡ false → one.action.ends ≡ true → (before after mask : ℕ)
       → ((rank : ℕ) → Has mask rank ↔ Contains (ranks one.kind one.action.state) rank) → ((rank : ℕ) → Has after rank ↔ (Has before rank ⊎ Has mask rank))
-      → HasEnded ranks (one ∷ []) before after
+      → HasEnded ranks None (one ∷ []) before after
   one-stops one stays stops before after mask is union =
-      one-ended one stays before after (λ rank.
+      one-ended ranks None one stays before after (λ rank.
       let same : follows ranks free rank one ≡ ends ranks free rank one = follows-is ranks one rank stays in
       let ending = ends-yes ranks one mask is stops rank in (
         (λ has. elim ((union rank).0 has) [ inl had ↦ inl had | inr new ↦ inr (same ∙ ending.0 new) ]),
         (λ either. (union rank).1 (elim either [ inl had ↦ inl had | inr passes ↦ inr (ending.1 (sym same ∙ passes)) ])),
       ))
 
-  pub one-passes : (one : Visit) → one.action.more ≡ false → one.action.ends ≡ false → (before : ℕ) → HasEnded ranks (one ∷ []) before before
+  pub one-passes : (one : Visit) → one.action.more ≡ false → one.action.ends ≡ false → (before : ℕ) → HasEnded ranks None (one ∷ []) before before
   one-passes one stays goes before =
-      one-ended one stays before before (λ rank. (
+      one-ended ranks None one stays before before (λ rank. (
         (λ has. inl has),
         (λ either. elim either [ inl had ↦ had | inr passes ↦ absurd (ends-no ranks one goes rank (sym (follows-is ranks one rank stays) ∙ passes)) ]),
+      ))
+
+  -- where a rank is lacking, and is written and ends
+  pub needed-stops : (need : ℕ) (one : Visit) → one.action.unseen ≡ false → (writes ranks need one && one.action.more) ≡ false → IsTrue (writes ranks need one) → one.action.ends ≡ true
+      → (before after : ℕ) → ((rank : ℕ) → Has after rank ↔ (Has before rank ⊎ (rank ≡ need))) → HasEnded ranks (Some need) (one ∷ []) before after
+  needed-stops need one unseen quiet writing stopping before after adds =
+      one-ended ranks (Some need) one (needed-quiet ranks need one unseen quiet) before after (λ rank. (
+        (λ has. elim ((adds rank).0 has) [
+          | inl had ↦ inl had
+          | inr same ↦ inr (subst (λ (r : ℕ). IsTrue (follows ranks (lacks (Some need)) r one)) (sym same) (needed-follows ranks need one writing stopping))
+        ]),
+        (λ either. (adds rank).1 (elim either [ inl had ↦ inl had | inr passes ↦ inr (sym (needed-only ranks need one unseen quiet rank passes).0) ])),
+      ))
+
+  -- or is not, or does not end
+  pub needed-passes : (need : ℕ) (one : Visit) → one.action.unseen ≡ false → (writes ranks need one && one.action.more) ≡ false → (IsTrue (writes ranks need one) → one.action.ends ≡ false)
+      → (before : ℕ) → HasEnded ranks (Some need) (one ∷ []) before before
+  needed-passes need one unseen quiet goes before =
+      one-ended ranks (Some need) one (needed-quiet ranks need one unseen quiet) before before (λ rank. (
+        (λ has. inl has),
+        (λ either. elim either [
+          | inl had ↦ had
+          | inr passes ↦ let (same, (writing, stopping)) = needed-only ranks need one unseen quiet rank passes in absurd (true≢false (sym stopping ∙ goes writing))
+        ]),
       ))
 
   -- the actions up to one, and that one
@@ -126,11 +152,11 @@ has-marked test same (first ∷ visits) = (
   ]),
 )
 
-pub ended-marked : (ranks : Ranks) (visits : List Visit) (before after : ℕ) → HasEnded ranks visits before after → HasEnded ranks (with_first visits) before after
-ended-marked ranks visits before after is = record {
-  ended = λ has. is.ended ((has-marked (λ visit. visit.action.more) (λ visit. refl) visits).0 has);
+pub ended-marked : (ranks : Ranks) (lacking : Option ℕ) (visits : List Visit) (before after : ℕ) → HasEnded ranks lacking visits before after → HasEnded ranks lacking (with_first visits) before after
+ended-marked ranks lacking visits before after is = record {
+  ended = λ has. is.ended ((has-marked (goes_further ranks lacking) (λ visit. further-marked ranks lacking visit.place visit.kind visit.action true visit.first) visits).0 has);
   added = λ rank.
-      let both = has-marked (follows ranks free rank) (λ visit. refl) visits in (
+      let both = has-marked (follows ranks (lacks lacking) rank) (λ visit. refl) visits in (
         (λ has. elim ((is.added rank).0 has) [ inl had ↦ inl had | inr one ↦ inr (both.1 one) ]),
         (λ either. (is.added rank).1 (elim either [ inl had ↦ inl had | inr one ↦ inr (both.0 one) ])),
       );

@@ -1,4 +1,5 @@
 pub mod BehindLemmas
+pub mod NeedLemmas
 pub mod ReadLemmas
 pub mod FollowLemmas
 pub mod GatherLemmas

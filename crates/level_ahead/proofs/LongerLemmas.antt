@@ -36,7 +36,7 @@ module _ (course : Course) (each : EachStand course) (ranks : Ranks) (rank : ℕ
   abbrev opening : List Visit
   opening = filter (opens ranks free rank) visits
 
-  pub kid-behind : HasOne test kid → HasBehind course ranks rank test visits
+  pub kid-behind : HasOne test kid → HasBehind course ranks None rank test visits
   kid-behind (one, held, passes) =
       let is = (are.exact one.place one.kind one.action).0 (one, held, refl, refl, refl) in
       let (stand, in', from) = (each (stands_in ranks free rank visits) one.place one.kind one.action).0 is in
@@ -52,7 +52,7 @@ module _ (course : Course) (each : EachStand course) (ranks : Ranks) (rank : ℕ
         passes = passes;
       }
 
-  pub behind-kid : HasBehind course ranks rank test visits → HasOne test kid
+  pub behind-kid : HasBehind course ranks None rank test visits → HasOne test kid
   behind-kid has =
       let visit : Visit = has.visit in
       let next : Visit = has.next in
@@ -72,7 +72,7 @@ some-weight : (P : List Visit → Type 0) (visits : List Visit) (visit : Visit) 
 some-weight P [] visit held = absurd (Contains-none visit held)
 some-weight P (first ∷ visits) visit held = refl
 
-nothing-opens : (course : Course) (ranks : Ranks) (rank : ℕ) (test : Visit → Bool) (here : List Visit) → filter (opens ranks free rank) here ≡ [] → HasBehind course ranks rank test here → ⊥
+nothing-opens : (course : Course) (ranks : Ranks) (rank : ℕ) (test : Visit → Bool) (here : List Visit) → filter (opens ranks free rank) here ≡ [] → HasBehind course ranks None rank test here → ⊥
 nothing-opens course ranks rank test here none has =
     Contains-none has.visit (subst (λ (l : List Visit). Contains l has.visit) none (filter-Contains (opens ranks free rank) here has.visit has.held has.opening))
 
@@ -91,7 +91,7 @@ module _ (course : Course) (each : EachStand course) (ranks : Ranks) (rank : ℕ
   unfolding goes-by
   goes-it one = refl
 
-  pub kids-counted : (other : ℕ) (sequences kids : List (List Visit)) (n : ℕ) → AreMatched course ranks rank sequences kids → Counts (FollowsBehind course ranks rank other) (all_weighed [] sequences) n
+  pub kids-counted : (other : ℕ) (sequences kids : List (List Visit)) (n : ℕ) → AreMatched course ranks rank sequences kids → Counts (FollowsBehind course ranks None rank other) (all_weighed [] sequences) n
       → Counts (HasOne (follows ranks free other)) (all_weighed [] kids) n
   kids-counted other [] kids n none counts = subst (λ (l : List (List Visit)). Counts (HasOne (follows ranks free other)) (all_weighed [] l) n) (sym none) counts
   kids-counted other (here ∷ sequences) kids n (inl none) (inl has) = absurd (nothing-opens course ranks rank (follows ranks free other) here none.0 has.0)
@@ -107,7 +107,7 @@ module _ (course : Course) (each : EachStand course) (ranks : Ranks) (rank : ℕ
       subst (λ (l : List (List Visit)). Counts (HasOne (follows ranks free other)) (all_weighed [] l) n) (sym cut)
       (inr ((λ one. lacks (kid-behind course each ranks rank here kid are (follows-by other) (follows ranks free other) (by-it other) one)), kids-counted other sequences others n matched counts))
 
-  pub kids-quiet : (sequences kids : List (List Visit)) → AreMatched course ranks rank sequences kids → ((here : List Visit) → Contains sequences here → GoesOnBehind course ranks rank here → ⊥)
+  pub kids-quiet : (sequences kids : List (List Visit)) → AreMatched course ranks rank sequences kids → ((here : List Visit) → Contains sequences here → GoesOnBehind course ranks None rank here → ⊥)
       → (kid : List Visit) → Contains kids kid → HasOne (λ one. one.action.more) kid → ⊥
   kids-quiet [] kids none quiet kid held goes = Contains-none kid (subst (λ (l : List (List Visit)). Contains l kid) none held)
   kids-quiet (here ∷ sequences) kids (inl none) quiet kid held goes = kids-quiet sequences kids none.1 (λ one there. quiet one (Contains-other here sequences one there)) kid held goes

@@ -1,5 +1,5 @@
 -- What follows a longer prefix, from what was counted behind its last rank.
-use Rattle.std.proofs.Common.{◌≡◌, ℕ, zero, suc, ◌+◌, ◌<◌, ◌≤◌, inl, inr, Bool, true, false, true≢false, cond, ◌||◌, ◌&&◌, ◌==◌, IsTrue, Some, List, [], ◌∷◌, length, map, get_or, replicate, refl, sym, ap, ◌∙◌, subst, arith}
+use Rattle.std.proofs.Common.{◌≡◌, ℕ, zero, suc, ◌+◌, ◌<◌, ◌≤◌, inl, inr, Bool, true, false, true≢false, cond, ◌||◌, ◌&&◌, ◌==◌, IsTrue, Some, None, List, [], ◌∷◌, length, map, get_or, replicate, refl, sym, ap, ◌∙◌, subst, arith}
 use Rattle.std.specs.List.{All, AllZip, Contains, list_any, slice_get}
 use Rattle.std.specs.Prelude.{nat_le}
 use Rattle.std.proofs.lemmas.Bool.{cases_eq, cases_lt, ne_eqb}
@@ -25,6 +25,7 @@ use Rattle.mask_sums.proofs.RoomLemmas.{free-counted}
 use Rattle.level_ahead.specs.declared.next_of.NextOf.{NextOf}
 use Rattle.level_ahead.specs.Counts.{Behind, AreAdded, AreReaching}
 use Rattle.level_ahead.specs.Longer.{last_tally, last_told, last_tallies}
+use Rattle.level_ahead.proofs.NeedLemmas.{among}
 use Rattle.level_ahead.proofs.StandLemmas.{AreMatched, matched}
 use Rattle.level_ahead.proofs.LongerLemmas.{EachStand, kids-counted, kids-quiet, quiet-counted, free-stands}
 
@@ -117,14 +118,6 @@ longer-next counts count least enough found some few none are = record {
 
 -- ---- ranks that do not follow
 
-among : (rank : ℕ) (ranks : List ℕ) → list_any (λ other. other == rank) ranks ≡ true → Contains ranks rank
-among rank [] is = absurd (cc)
-among rank (one ∷ ranks) is = elim (cases_eq one rank) [
-  | inl same ↦ subst (Contains (one ∷ ranks)) same (Contains-first one ranks)
-  | inr other ↦
-      Contains-other one ranks rank (among rank ranks (sym (ap (λ (b : Bool). b || list_any (λ other. other == rank) ranks) (ne_eqb one rank other)) ∙ is))
-]
-
 both-write : (w m e : Bool) → ((w && m) || (w && e)) ≡ true → w ≡ true
 both-write true m e is = refl
 both-write false m e is = absurd (true≢false (sym is))
@@ -150,7 +143,7 @@ none-counted P (kid ∷ kids) n never (inr lacks) = none-counted P kids n (λ on
 -- ---- the law
 
 module _ (course : Course) (each : EachStand course) (ranks : Ranks) (aim later : Aim) (sequences : List (List Visit)) (groups : List (List Stand)) (kids : List (List Visit)) (visits : List Visit) (before after : Behind)
-    (aim_seen : IsSeen aim) (later_seen : IsSeen later) (added : AreAdded course ranks sequences before after) (nothing : before.counts ≡ replicate 256 0)
+    (aim_seen : IsSeen aim) (later_seen : IsSeen later) (added : AreAdded course ranks None sequences before after) (nothing : before.counts ≡ replicate 256 0)
     (groups_are : AreGroups (stands_of ranks aim before.rank sequences) groups) (zip : AllZip (AreVisits course) groups kids) (are : AreSequences visits kids) where
   pairs : AreMatched course ranks before.rank sequences kids
   pairs = matched course ranks before.rank sequences groups kids (subst (λ (l : List Stand). AreGroups l groups) (free-stands ranks aim before.rank sequences aim_seen) groups_are) zip

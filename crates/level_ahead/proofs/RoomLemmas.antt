@@ -1,6 +1,7 @@
 -- The entries of the room.
-use Rattle.std.proofs.Common.{◌≡◌, ℕ, zero, suc, ◌+◌, ◌<◌, ◌≤◌, ◌⊎◌, ◌↔◌, inl, inr, Bool, true, false, cond, Some, List, [], ◌∷◌, ◌++◌, length, map, take, get_or, set, replicate, refl, sym, ap, ◌∙◌, subst, arith}
+use Rattle.std.proofs.Common.{◌≡◌, ℕ, zero, suc, ◌+◌, ◌<◌, ◌≤◌, ◌⊎◌, ◌↔◌, inl, inr, Bool, true, false, cond, Option, Some, None, List, [], ◌∷◌, ◌++◌, length, map, take, get_or, set, replicate, refl, sym, ap, ◌∙◌, subst, arith}
 use Rattle.std.specs.List.{Contains, AllPairs, slice_get, filter}
+use Rattle.std.specs.Option.{IfSome}
 use Rattle.std.specs.List.Sorted.{IsStrictlyIncreasing}
 use Rattle.std.proofs.lemmas.List.{append-nil, map-append, take_all, take_more, length-map, length-set, get_or-set_same, get_or-set_other}
 use Rattle.std.proofs.lemmas.Bool.{cases_eq}
@@ -12,7 +13,7 @@ use Rattle.state_bits.specs.Members.{Has}
 use Rattle.state_bits.proofs.NeighbourLemmas.{Has-none}
 use Rattle.stand_sums.specs.declared.next_rank.NextRank.{NextRank}
 use Rattle.level_ahead.specs.declared.next_of.NextOf.{NextOf}
-use Rattle.level_ahead.specs.Counts.{Behind, has_places, nothing_behind, asked_of, AreReaching}
+use Rattle.level_ahead.specs.Counts.{Behind, is_asked, nothing_behind, asked_of, AreReaching}
 use Rattle.level_ahead.specs.Kept.{behind_at, behinds, IsRoom}
 use Rattle.level_ahead.proofs.GatherLemmas.{AreLeft, left-all}
 
@@ -66,15 +67,15 @@ abbrev pub no_rank : NextRank
 no_rank = record { rank = 0; weight = 0; support = 0; longer = 0; first = 0; last = 0 }
 
 -- of the first so many of those that were found
-pub record AreBegun (found : List NextRank) (k : ℕ) (ranks : List ℕ) (asked : ℕ) (before now : List (List ℕ)) : Type 0 where
+pub record AreBegun (lacking : Option ℕ) (found : List NextRank) (k : ℕ) (ranks : List ℕ) (asked : ℕ) (before now : List (List ℕ)) : Type 0 where
   pub asked_are : (rank : ℕ) → Has asked rank ↔ Contains ranks rank
   pub few : (rank : ℕ) → Has asked rank → rank < 256
   pub room : length now ≡ length before
-  pub ranks_are : ranks ≡ map (λ (n : NextRank). n.rank) (filter has_places (take k found))
+  pub ranks_are : ranks ≡ map (λ (n : NextRank). n.rank) (filter (is_asked lacking) (take k found))
   pub none : (rank : ℕ) → Contains ranks rank → get_or now rank [] ≡ replicate 256 0
 
-pub begun-start : (found : List NextRank) (ranks : List ℕ) (asked : ℕ) (counts : List (List ℕ)) → ranks ≡ [] → asked ≡ 0 → AreBegun found 0 ranks asked counts counts
-begun-start found ranks asked counts none empty =
+pub begun-start : (lacking : Option ℕ) (found : List NextRank) (ranks : List ℕ) (asked : ℕ) (counts : List (List ℕ)) → ranks ≡ [] → asked ≡ 0 → AreBegun lacking found 0 ranks asked counts counts
+begun-start lacking found ranks asked counts none empty =
     let nobody : (rank : ℕ) → Has asked rank → ⊥ = λ rank has. Has-none rank (subst (λ (n : ℕ). Has n rank) empty has) in
     let nothing : (rank : ℕ) → Contains ranks rank → ⊥ = λ rank held. Contains-none rank (subst (λ (l : List ℕ). Contains l rank) none held) in
     record {
@@ -85,26 +86,26 @@ begun-start found ranks asked counts none empty =
       none = λ rank held. absurd (nothing rank held);
     }
 
-module _ (found : List NextRank) (k : ℕ) (d : NextRank) (inside : k < length found) where
+module _ (lacking : Option ℕ) (found : List NextRank) (k : ℕ) (d : NextRank) (inside : k < length found) where
   abbrev pub this : NextRank
   this = get_or found k d
 
-  kept-more : filter has_places (take (k + 1) found) ≡ filter has_places (take k found) ++ cond (has_places this) (this ∷ []) []
-  kept-more = ap (filter has_places) (take_more found k d inside) ∙ filter-append has_places (take k found) (this ∷ [])
+  kept-more : filter (is_asked lacking) (take (k + 1) found) ≡ filter (is_asked lacking) (take k found) ++ cond (is_asked lacking this) (this ∷ []) []
+  kept-more = ap (filter (is_asked lacking)) (take_more found k d inside) ∙ filter-append (is_asked lacking) (take k found) (this ∷ [])
 
-  pub begun-skip : (ranks : List ℕ) (asked : ℕ) (before now : List (List ℕ)) → has_places this ≡ false → AreBegun found k ranks asked before now → AreBegun found (k + 1) ranks asked before now
+  pub begun-skip : (ranks : List ℕ) (asked : ℕ) (before now : List (List ℕ)) → is_asked lacking this ≡ false → AreBegun lacking found k ranks asked before now → AreBegun lacking found (k + 1) ranks asked before now
   begun-skip ranks asked before now is begun = record {
     asked_are = begun.asked_are;
     few = begun.few;
     room = begun.room;
     ranks_are = begun.ranks_are
         ∙ ap (map (λ (n : NextRank). n.rank))
-        (sym (append-nil (filter has_places (take k found))) ∙ ap (λ (b : Bool). filter has_places (take k found) ++ cond b (this ∷ []) []) (sym is) ∙ sym kept-more);
+        (sym (append-nil (filter (is_asked lacking) (take k found))) ∙ ap (λ (b : Bool). filter (is_asked lacking) (take k found) ++ cond b (this ∷ []) []) (sym is) ∙ sym kept-more);
     none = begun.none;
   }
 
-  pub begun-more : (ranks : List ℕ) (asked after : ℕ) (before now : List (List ℕ)) → has_places this ≡ true → this.rank < 256 → 256 ≤ length before → AreBegun found k ranks asked before now
-      → ((r : ℕ) → Has after r ↔ (Has asked r ⊎ (r ≡ this.rank))) → AreBegun found (k + 1) (ranks ++ this.rank ∷ []) after before (set now this.rank (replicate 256 0))
+  pub begun-more : (ranks : List ℕ) (asked after : ℕ) (before now : List (List ℕ)) → is_asked lacking this ≡ true → this.rank < 256 → 256 ≤ length before → AreBegun lacking found k ranks asked before now
+      → ((r : ℕ) → Has after r ↔ (Has asked r ⊎ (r ≡ this.rank))) → AreBegun lacking found (k + 1) (ranks ++ this.rank ∷ []) after before (set now this.rank (replicate 256 0))
   begun-more ranks asked after before now is few long begun adds =
       let rank : ℕ = this.rank in
       let room = begun.room in
@@ -121,8 +122,8 @@ module _ (found : List NextRank) (k : ℕ) (d : NextRank) (inside : k < length f
         );
         few = λ r has. elim ((adds r).0 has) [ inl had ↦ begun.few r had | inr same ↦ omega (arith, same, few) ];
         room = length-set now rank (replicate 256 0) ∙ room;
-        ranks_are = ap (λ (l : List ℕ). l ++ rank ∷ []) begun.ranks_are ∙ sym (map-append (λ (n : NextRank). n.rank) (filter has_places (take k found)) (this ∷ []))
-            ∙ ap (map (λ (n : NextRank). n.rank)) (ap (λ (b : Bool). filter has_places (take k found) ++ cond b (this ∷ []) []) (sym is) ∙ sym kept-more);
+        ranks_are = ap (λ (l : List ℕ). l ++ rank ∷ []) begun.ranks_are ∙ sym (map-append (λ (n : NextRank). n.rank) (filter (is_asked lacking) (take k found)) (this ∷ []))
+            ∙ ap (map (λ (n : NextRank). n.rank)) (ap (λ (b : Bool). filter (is_asked lacking) (take k found) ++ cond b (this ∷ []) []) (sym is) ∙ sym kept-more);
         none = λ r held. elim (cases_eq r rank) [
           | inl same ↦ ap (λ (n : ℕ). get_or (set now rank (replicate 256 0)) n []) same ∙ get_or-set_same now rank (replicate 256 0) [] (omega (arith, few, long, room))
           | inr apart ↦ elim (Contains-push_cases ranks rank r held) [
@@ -139,11 +140,11 @@ nothing-of counts (x ∷ xs) none =
     let here : get_or counts x.rank [] ≡ replicate 256 0 = none x.rank (Contains-first x.rank (map (λ (n : NextRank). n.rank) xs)) in
     λ i. record { rank = x.rank; counts = here i } ∷ nothing-of counts xs (λ rank held. none rank (Contains-other x.rank (map (λ (n : NextRank). n.rank) xs) rank held)) i
 
-pub begun-all : (found : List NextRank) (k : ℕ) (ranks : List ℕ) (asked : ℕ) (before now : List (List ℕ)) → AreBegun found k ranks asked before now → length found ≤ k
-    → behinds now ranks ≡ map nothing_behind (filter has_places found)
-begun-all found k ranks asked before now begun past =
-    let ranks_are : ranks ≡ map (λ (n : NextRank). n.rank) (filter has_places found) = begun.ranks_are ∙ ap (λ (l : List NextRank). map (λ (n : NextRank). n.rank) (filter has_places l)) (take_all k found past) in
-    ap (map (behind_at now)) ranks_are ∙ nothing-of now (filter has_places found) (subst (λ (l : List ℕ). (rank : ℕ) → Contains l rank → get_or now rank [] ≡ replicate 256 0) ranks_are begun.none)
+pub begun-all : (lacking : Option ℕ) (found : List NextRank) (k : ℕ) (ranks : List ℕ) (asked : ℕ) (before now : List (List ℕ)) → AreBegun lacking found k ranks asked before now → length found ≤ k
+    → behinds now ranks ≡ map nothing_behind (filter (is_asked lacking) found)
+begun-all lacking found k ranks asked before now begun past =
+    let ranks_are : ranks ≡ map (λ (n : NextRank). n.rank) (filter (is_asked lacking) found) = begun.ranks_are ∙ ap (λ (l : List NextRank). map (λ (n : NextRank). n.rank) (filter (is_asked lacking) l)) (take_all k found past) in
+    ap (map (behind_at now)) ranks_are ∙ nothing-of now (filter (is_asked lacking) found) (subst (λ (l : List ℕ). (rank : ℕ) → Contains l rank → get_or now rank [] ≡ replicate 256 0) ranks_are begun.none)
 
 -- the room, where there is room for all ranks
 pub room-all : (ranks : List ℕ) (asked : ℕ) (sets : List ℕ) (counts : List (List ℕ)) → ((rank : ℕ) → Has asked rank ↔ Contains ranks rank) → ((rank : ℕ) → Has asked rank → rank < 256)
@@ -172,3 +173,9 @@ rank-asked counts ranks asked sets entries entry rank room view inside is =
     let long : length entries ≡ length ranks = ap (λ (l : List Behind). length l) (sym view) ∙ length-map ranks (behind_at counts) in
     let held : Contains ranks rank = subst (Contains ranks) (sym is) (Contains-get_or ranks entry rank (omega arith)) in
     room.counts_room rank ((room.asked_are rank).1 held)
+
+-- the lacking rank is not asked about
+pub not-asked : (lacking : Option ℕ) (ranks entries : List ℕ) (asked : ℕ) → entries ≡ ranks → ((rank : ℕ) → Has asked rank ↔ Contains ranks rank) → IfSome lacking (λ need. Contains entries need → ⊥)
+    → IfSome lacking (λ need. Has asked need → ⊥)
+not-asked None ranks entries asked same are apart = tt
+not-asked (Some need) ranks entries asked same are apart = λ has. apart (subst (λ (l : List ℕ). Contains l need) (sym same) ((are need).0 has))

@@ -1,5 +1,5 @@
 -- Sequences in which ranks follow behind ranks.
-use Rattle.std.specs.Prelude.{◌≡◌, ℕ, ◌+◌, ◌<◌, ◌≤◌, nat_lt, Bool, ◌↔◌, List, [], replicate, AllPairs, Contains, slice_index, map}
+use Rattle.std.specs.Prelude.{◌≡◌, ℕ, ◌+◌, ◌<◌, ◌≤◌, nat_lt, Bool, not, ◌&&◌, ◌==◌, ◌↔◌, Option, Some, None, List, [], replicate, AllPairs, Contains, slice_index, map}
 use Rattle.mine_model.specs.Support.{Counts}
 use Rattle.place_walk.specs.declared.visit.Visit.{Visit}
 use Rattle.place_walk.specs.Courses.{Course}
@@ -18,6 +18,11 @@ pub record Behind : Type 0 where
 abbrev pub has_places : NextRank → Bool
 has_places next = nat_lt next.first next.last
 
+-- and it is not that which the prefix lacks: with this one nothing is lacking any more
+abbrev pub is_asked : Option ℕ → NextRank → Bool
+is_asked None next = has_places next
+is_asked (Some need) next = has_places next && not (next.rank == need)
+
 -- nothing was counted behind the rank
 abbrev pub nothing_behind : NextRank → Behind
 nothing_behind next = record { rank = next.rank; counts = replicate 256 0 }
@@ -26,14 +31,17 @@ nothing_behind next = record { rank = next.rank; counts = replicate 256 0 }
 abbrev pub asked_of : List Behind → List ℕ
 asked_of behinds = map (λ behind. behind.rank) behinds
 
--- what follows behind the rank in these sequences was counted, each sequence once, and nothing goes on there
-pub record AreAdded (course : Course) (ranks : Ranks) (sequences : List (List Visit)) (before after : Behind)
+-- what follows behind the rank in these sequences was counted, each sequence once, and nothing goes on there,
+-- where the prefix lacks this rank or none
+pub record AreAdded (course : Course) (ranks : Ranks) (lacking : Option ℕ) (sequences : List (List Visit))
+    (before after : Behind)
     : Type 0 where
   pub same : after.rank ≡ before.rank
   pub counted : (other : ℕ) → other < 256
-      → (n : ℕ) × Counts (FollowsBehind course ranks before.rank other) (all_weighed [] sequences) n
+      → (n : ℕ) × Counts (FollowsBehind course ranks lacking before.rank other) (all_weighed [] sequences) n
       × (slice_index after.counts other ≡ slice_index before.counts other + n)
-  pub ended : (here : List Visit) → Contains sequences here → GoesOnBehind course ranks before.rank here → ⊥
+  pub ended : (here : List Visit) → Contains sequences here
+      → GoesOnBehind course ranks lacking before.rank here → ⊥
 
 -- exactly the ranks whose counts reach the least, rising, each with its count
 pub record AreReaching (least : ℕ) (counts : List ℕ) (found : List NextOf) : Type 0 where

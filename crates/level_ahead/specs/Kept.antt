@@ -36,18 +36,18 @@ pub record IsRoom (ranks : List ℕ) (asked : ℕ) (sets : List ℕ) (counts : L
 
 -- the sequence from this place on has this end, and what follows behind each rank asked about was met there,
 -- and nothing goes on
-pub record IsReadTo (course : Course) (ranks : Ranks) (asked : ℕ) (visits : List Visit) (from : ℕ)
-    (gathered : Gathered) (end : ℕ) : Type 0 where
+pub record IsReadTo (course : Course) (ranks : Ranks) (lacking : Option ℕ) (asked : ℕ) (visits : List Visit)
+    (from : ℕ) (gathered : Gathered) (end : ℕ) : Type 0 where
   pub end_is : IsSequenceEnd visits from end
   pub touched : (rank : ℕ) → Has gathered.touched rank → Has asked rank
   pub met : (rank other : ℕ) → Has asked rank → HasGathered gathered rank other
-      ↔ FollowsBehind course ranks rank other (slice_range visits from end)
+      ↔ FollowsBehind course ranks lacking rank other (slice_range visits from end)
   pub ended : (rank : ℕ) → Has asked rank
-      → GoesOnBehind course ranks rank (slice_range visits from end) → ⊥
+      → GoesOnBehind course ranks lacking rank (slice_range visits from end) → ⊥
 
 -- or something goes on behind one of the ranks
-abbrev pub IsReadOrNone : Course → Ranks → ℕ → List Visit → ℕ → Gathered → Option ℕ → Type 0
-IsReadOrNone course ranks asked visits from gathered (Some end) =
-    IsReadTo course ranks asked visits from gathered end
-IsReadOrNone course ranks asked visits from gathered None =
-    (rank : ℕ) × Has asked rank × GoesOnBehind course ranks rank visits
+abbrev pub IsReadOrNone : Course → Ranks → Option ℕ → ℕ → List Visit → ℕ → Gathered → Option ℕ → Type 0
+IsReadOrNone course ranks lacking asked visits from gathered (Some end) =
+    IsReadTo course ranks lacking asked visits from gathered end
+IsReadOrNone course ranks lacking asked visits from gathered None =
+    (rank : ℕ) × Has asked rank × GoesOnBehind course ranks lacking rank visits

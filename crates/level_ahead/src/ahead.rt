@@ -1,12 +1,12 @@
-ghost use Rattle.std.specs.Prelude.{◌≡◌, ℕ, ◌<◌, ◌≤◌, ◌^◌, true, false, IsTrue, List, [], Some, map, filter, length, replicate, slice_get, Contains, All, IfOk, OnOk, ◌↔◌};
+ghost use Rattle.std.specs.Prelude.{◌≡◌, ℕ, ◌<◌, ◌≤◌, ◌^◌, true, false, IsTrue, List, [], Some, IfSome, map, filter, length, replicate, slice_get, Contains, All, IfOk, OnOk, ◌↔◌};
 ghost use Rattle.state_bits.specs.Members.{Has};
 ghost use Rattle.place_walk.specs.declared.visit.Visit.{Visit as Visited};
 ghost use Rattle.place_walk.specs.Courses.{course_of};
 ghost use Rattle.stand_sums.specs.Writings.{opens};
 ghost use Rattle.stand_sums.specs.Sequences.{AreSequences};
-ghost use Rattle.mask_sums.specs.Kept.{free};
+ghost use Rattle.mask_sums.specs.Kept.{lacks};
 ghost use Rattle.level_ahead.specs.Behind.{GoesOnBehind, CanLookBehind};
-ghost use Rattle.level_ahead.specs.Counts.{Behind, has_places, nothing_behind, asked_of, AreAdded, AreReaching};
+ghost use Rattle.level_ahead.specs.Counts.{Behind, is_asked, nothing_behind, asked_of, AreAdded, AreReaching};
 ghost use Rattle.level_ahead.specs.Kept.{behinds};
 
 use super::counting::count_all;
@@ -27,8 +27,8 @@ use walk_places::Places;
 const RANKS: usize = 256;
 
 /// A worker's room for what follows behind each of some ranks. A contract sees the ranks that are asked
-/// about, each with the counts of those behind it. It serves ranks of at most 255, sequences that weigh 1,
-/// and prefixes that need nothing that is not yet seen.
+/// about, each with the counts of those behind it. It serves ranks of at most 255, and sequences that weigh
+/// 1.
 pub struct Ahead {
     ranks: Vec<u32>,
     asked: StateSet<4>,
@@ -74,16 +74,22 @@ impl Ahead {
         }
     }
 
-    /// Asks about those of these ranks that have places for stands, in their order. Where memory is wanting,
-    /// about some of them.
-    pub fn begin(&mut self, alloc: Global, found: &[NextRank]) -> Result<(), NoMemory>
+    /// Asks about those of these ranks that have places for stands, and not about that which is lacking, in
+    /// their order. Where memory is wanting, about some of them.
+    pub fn begin(
+        &mut self,
+        alloc: Global,
+        lacking: Option<u32>,
+        found: &[NextRank],
+    ) -> Result<(), NoMemory>
         requires { All (λ next. next.rank < 256) found.now }
-        ensures { OnOk result (self.new ≡ map nothing_behind (filter has_places found.now)) }
+        ensures { OnOk result (self.new ≡ map nothing_behind (filter (is_asked lacking) found.now)) }
     {
         self.ranks.clear();
         self.asked.clear();
         make_room(alloc, &mut self.gathered.sets, &mut self.counts)?;
         begin_all(
+            lacking,
             found,
             &mut self.ranks,
             &mut self.asked,
@@ -92,13 +98,15 @@ impl Ahead {
     }
 
     /// Counts what follows behind each rank asked about in some whole sequences, which are those of visits of
-    /// a walk with this memo over these places. False where something goes on behind one of the ranks: then,
-    /// and where memory is wanting, anything may have been counted.
+    /// a walk with this memo over these places, behind a prefix that lacks a rank that is not asked about, or
+    /// none. False where something goes on behind one of the ranks: then, and where memory is wanting,
+    /// anything may have been counted.
     pub fn add<const W: usize, T: Masks>(
         &mut self,
         memo: &mut Memo<W>,
         places: &Places,
         table: &T,
+        lacking: Option<u32>,
         visits: &[Visit],
     ) -> Result<bool, NoMemory>
         requires width { W ≤ 17 }
@@ -106,8 +114,11 @@ impl Ahead {
         requires moves { All (λ entry. entry.of < length memo.old.moves) places.now }
         requires kept { IsTrue (T.keeps table.now) }
         requires asked { All (λ visit. T.CanAsk table.now visit.kind visit.action.state) visits.now }
+        requires few_ranks { IfSome lacking (λ need. need < 256) }
+        requires apart { IfSome lacking (λ need. Contains (asked_of self.old) need → ⊥) }
         requires behind { (visit : Visited) (rank : ℕ) → Contains visits.now visit
-            → Contains (asked_of self.old) rank → IsTrue (opens (T.ranks table.now) free rank visit)
+            → Contains (asked_of self.old) rank
+            → IsTrue (opens (T.ranks table.now) (lacks lacking) rank visit)
             → CanLookBehind (course_of memo.old places.now) (T.CanAsk table.now) visit }
         ensures rows { memo.new.rows ≡ memo.old.rows }
         ensures moves { memo.new.moves ≡ memo.old.moves }
@@ -115,14 +126,15 @@ impl Ahead {
         ensures counted { IfOk result (λ ended. IsTrue ended → (sequences : List (List Visited))
             → AreSequences visits.now sequences → (k : ℕ) (before after : Behind)
             → slice_get self.old k ≡ Some before → slice_get self.new k ≡ Some after
-            → AreAdded (course_of memo.old places.now) (T.ranks table.now) sequences before after) }
+            → AreAdded (course_of memo.old places.now) (T.ranks table.now) lacking sequences before after) }
         ensures goes { IfOk result (λ ended. ended ≡ false → (rank : ℕ) × Contains (asked_of self.old) rank
-            × GoesOnBehind (course_of memo.old places.now) (T.ranks table.now) rank visits.now) }
+            × GoesOnBehind (course_of memo.old places.now) (T.ranks table.now) lacking rank visits.now) }
     {
         count_all(
             memo,
             places,
             table,
+            lacking,
             visits,
             &self.asked,
             &mut self.gathered,
@@ -155,8 +167,19 @@ fn reaching(alloc: Global, counts: &MemberCounts<4>, least: u64) -> Result<Vec<N
     Ok(found)
 }
 
-// Notes those of these ranks that have places, behind which nothing was counted.
+/// Whether the rank is asked about: it has places, and is not that which is lacking.
+pub fn asks_about(lacking: Option<u32>, next: &NextRank) -> bool
+    ensures { result ≡ is_asked lacking next.now }
+{
+    match lacking {
+        None => next.first < next.last,
+        Some(need) => next.first < next.last && next.rank != need,
+    }
+}
+
+// Notes those of these ranks that are asked about, behind which nothing was counted.
 fn begin_all(
+    lacking: Option<u32>,
     found: &[NextRank],
     ranks: &mut Vec<u32>,
     asked: &mut StateSet<4>,
@@ -170,10 +193,10 @@ fn begin_all(
     ensures asked { (rank : ℕ) → Has asked.new rank ↔ Contains ranks.new.items rank }
     ensures few { (rank : ℕ) → Has asked.new rank → rank < 256 }
     ensures begun { OnOk result (behinds counts.new ranks.new.items
-        ≡ map nothing_behind (filter has_places found.now)) }
+        ≡ map nothing_behind (filter (is_asked lacking) found.now)) }
 {
     for next in found {
-        if next.first < next.last {
+        if asks_about(lacking, next) {
             ranks.push(next.rank)?;
             asked.add(next.rank);
             counts[next.rank as usize].clear();

@@ -1,6 +1,6 @@
 //! Laws over the definitions. Each is the contract of a function that does nothing more.
 
-ghost use Rattle.std.specs.Prelude.{◌≡◌, ℕ, ◌<◌, ◌≤◌, ◌++◌, List, [], Some, map, replicate, All, slice_get};
+ghost use Rattle.std.specs.Prelude.{◌≡◌, ℕ, ◌<◌, ◌≤◌, ◌++◌, List, [], Option, Some, None, map, replicate, All, slice_get};
 ghost use Rattle.std.specs.List.{AllZip};
 ghost use Rattle.place_walk.specs.declared.stand.Stand.{Stand};
 ghost use Rattle.place_walk.specs.declared.visit.Visit.{Visit};
@@ -22,12 +22,13 @@ use place_walk::visits_are_those_of_each_stand;
 /// What is counted in one call and in the next is counted of the sequences of both, and of no sequences
 /// nothing is.
 pub fn counts_add_up()
-    ensures none { (course : Course) (ranks : Ranks) (behind : Behind)
-        → AreAdded course ranks [] behind behind }
-    ensures more { (course : Course) (ranks : Ranks) (sequences others : List (List Visit))
-        (before between after : Behind) → AreAdded course ranks sequences before between
-        → AreAdded course ranks others between after
-        → AreAdded course ranks (sequences ++ others) before after }
+    ensures none { (course : Course) (ranks : Ranks) (lacking : Option ℕ) (behind : Behind)
+        → AreAdded course ranks lacking [] behind behind }
+    ensures more { (course : Course) (ranks : Ranks) (lacking : Option ℕ)
+        (sequences others : List (List Visit)) (before between after : Behind)
+        → AreAdded course ranks lacking sequences before between
+        → AreAdded course ranks lacking others between after
+        → AreAdded course ranks lacking (sequences ++ others) before after }
 {}
 
 /// What was counted behind a rank, from nothing on, are the sums of the prefix with the rank: those to which
@@ -36,7 +37,7 @@ pub fn counts_add_up()
 pub fn what_reaches_follows_the_longer_prefix()
     ensures { (course : Course) (ranks : Ranks) (aim later : Aim) (sequences : List (List Visit))
         (groups : List (List Stand)) (kids : List (List Visit)) (visits : List Visit) (before after : Behind)
-        → IsSeen aim → IsSeen later → AreAdded course ranks sequences before after
+        → IsSeen aim → IsSeen later → AreAdded course ranks None sequences before after
         → before.counts ≡ replicate 256 0
         → AreGroups (stands_of ranks aim before.rank sequences) groups
         → AllZip (AreVisits course) groups kids → AreSequences visits kids

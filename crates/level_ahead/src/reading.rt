@@ -1,14 +1,14 @@
 //! What is written behind one visit.
 
-ghost use Rattle.std.specs.Prelude.{◌≡◌, ℕ, ◌<◌, ◌≤◌, ◌^◌, ◌⊎◌, ◌↔◌, [], ◌∷◌, true, false, IsTrue, length, All, IfSome, IfNone, IfOk, OnOk};
+ghost use Rattle.std.specs.Prelude.{◌≡◌, ℕ, ◌<◌, ◌≤◌, ◌^◌, ◌⊎◌, ◌↔◌, [], ◌∷◌, true, false, IsTrue, Some, length, All, IfSome, IfNone, IfOk, OnOk};
 ghost use Rattle.state_bits.specs.Members.{Has};
 ghost use Rattle.place_walk.specs.declared.visit.Visit.{Visit as Visited};
 ghost use Rattle.place_walk.specs.Courses.{course_of};
 ghost use Rattle.place_walk.specs.Visits.{AreVisits};
-ghost use Rattle.stand_sums.specs.Writings.{opens, follows};
+ghost use Rattle.stand_sums.specs.Writings.{opens, goes_on, follows};
 ghost use Rattle.stand_sums.specs.Sequences.{HasOne};
 ghost use Rattle.stand_sums.specs.Files.{stand_at};
-ghost use Rattle.mask_sums.specs.Kept.{free};
+ghost use Rattle.mask_sums.specs.Kept.{lacks};
 ghost use Rattle.level_ahead.specs.Behind.{IsBehind, FollowsBehind, GoesOnBehind, CanLookBehind};
 ghost use Rattle.level_ahead.specs.Kept.{HasGathered};
 
@@ -18,15 +18,16 @@ use mask_sums::Masks;
 use mine_model::NoMemory;
 use place_walk::Visit;
 use state_bits::StateSet;
-use walk_memo::Memo;
+use walk_memo::{Action, Memo};
 use walk_places::Places;
 
-/// Gathers what follows behind the visit, for each rank asked about that it writes, if the visit goes on.
-/// False where something goes on behind it.
+/// Gathers what follows behind the visit, for each rank asked about that it writes, if the visit goes on,
+/// where this rank is lacking or none. False where something goes on behind it.
 pub(crate) fn read_visit<const W: usize, T: Masks>(
     memo: &mut Memo<W>,
     places: &Places,
     table: &T,
+    lacking: Option<u32>,
     visit: Visit,
     asked: &StateSet<4>,
     gathered: &mut Gathered,
@@ -36,7 +37,10 @@ pub(crate) fn read_visit<const W: usize, T: Masks>(
     requires moves { All (λ entry. entry.of < length memo.old.moves) places.now }
     requires kept { IsTrue (T.keeps table.now) }
     requires asked { T.CanAsk table.now visit.kind visit.action.state }
-    requires behind { (rank : ℕ) → Has asked.now rank → IsTrue (opens (T.ranks table.now) free rank visit)
+    requires few_ranks { IfSome lacking (λ need. need < 256) }
+    requires apart { IfSome lacking (λ need. Has asked.now need → ⊥) }
+    requires behind { (rank : ℕ) → Has asked.now rank
+        → IsTrue (opens (T.ranks table.now) (lacks lacking) rank visit)
         → CanLookBehind (course_of memo.old places.now) (T.CanAsk table.now) visit }
     requires sets { (rank : ℕ) → Has asked.now rank → rank < length gathered.old.sets.items }
     ensures rows { memo.new.rows ≡ memo.old.rows }
@@ -46,13 +50,15 @@ pub(crate) fn read_visit<const W: usize, T: Masks>(
         → Has gathered.old.touched rank ⊎ Has asked.now rank) }
     ensures gathered { IfOk result (λ ended. IsTrue ended → (rank other : ℕ) → Has asked.now rank
         → HasGathered gathered.new rank other ↔ (HasGathered gathered.old rank other
-        ⊎ FollowsBehind (course_of memo.old places.now) (T.ranks table.now) rank other (visit ∷ []))) }
+        ⊎ FollowsBehind (course_of memo.old places.now) (T.ranks table.now) lacking rank other
+        (visit ∷ []))) }
     ensures ended { IfOk result (λ ended. IsTrue ended → (rank : ℕ) → Has asked.now rank
-        → GoesOnBehind (course_of memo.old places.now) (T.ranks table.now) rank (visit ∷ []) → ⊥) }
+        → GoesOnBehind (course_of memo.old places.now) (T.ranks table.now) lacking rank (visit ∷ [])
+        → ⊥) }
     ensures goes { IfOk result (λ ended. ended ≡ false → (rank : ℕ) × Has asked.now rank
-        × GoesOnBehind (course_of memo.old places.now) (T.ranks table.now) rank (visit ∷ [])) }
+        × GoesOnBehind (course_of memo.old places.now) (T.ranks table.now) lacking rank (visit ∷ [])) }
 {
-    if !visit.action.more {
+    if !goes_with_others(lacking, visit.action) {
         return Ok(true);
     }
     let mut wanted = *table.mask(visit.kind, visit.action.state);
@@ -61,12 +67,23 @@ pub(crate) fn read_visit<const W: usize, T: Masks>(
         Some(first) => first,
         None => return Ok(true),
     };
-    match follow_behind(memo, places, table, visit)? {
+    match follow_behind(memo, places, table, lacking, visit)? {
         Some(next) => {
             gathered.gather(&wanted, &next);
             Ok(true)
         }
         None => Ok(false),
+    }
+}
+
+/// Whether more can be written behind the ranks that are not lacking.
+#[inline]
+fn goes_with_others(lacking: Option<u32>, action: Action) -> bool
+    ensures { (rank : ℕ) → (lacking ≡ Some rank → ⊥) → goes_on (lacks lacking) rank action ≡ result }
+{
+    match lacking {
+        None => action.more,
+        Some(_need) => action.unseen,
     }
 }
 

@@ -18,6 +18,7 @@ use Rattle.snapshot_project.specs.contracts.part.Ground as Ground
 use Rattle.snapshot_project.specs.contracts.terrain.AnyTerrain as AnyTerrain
 use Rattle.snapshot_project.specs.contracts.room.Room as Room
 use Rattle.snapshot_project.specs.contracts.room.Room.TheInside as RoomInside
+use Rattle.sequence_grids.specs.contracts.alphabet.Alphabet as Alphabet
 use Rattle.mask_sums.specs.contracts.sums.MaskedSums as MaskedSums
 use Rattle.level_ahead.specs.contracts.ahead.Ahead as Ahead
 use Rattle.dfs_growth.specs.contracts.node.Node as Node
@@ -37,6 +38,12 @@ fst-sync = let i : IsSync FstInside.the_row = declared_sync FstInside.the_type (
 
 job-sync : IsSync Job.the_row
 job-sync = let f = fst-sync in search (sendable, crosses) depth 40 fits 20000
+
+alphabet-send : IsSend Alphabet.the_row
+alphabet-send = search (sendable, crosses) depth 40 fits 20000
+
+alphabet-sync : IsSync Alphabet.the_row
+alphabet-sync = search (sendable, crosses) depth 40 fits 20000
 
 seed-send : IsSend Seed.the_row
 seed-send = search (sendable, crosses) depth 40 fits 20000
@@ -63,7 +70,7 @@ part-sync : (l : NamedLft) → IsSync (Part.the_row l)
 part-sync l = let i : IsSync (PartInside.the_row l) = declared_sync (PartInside.the_type l) (let g = ground-send l in let h = ground-sync l in search (sendable, crosses) depth 40 fits 20000) in search sendable
 
 pub node-send : (l : NamedLft) → IsSend (Node.the_row l)
-node-send l = let j = job-sync in let s = seed-send in let n = snapshots-send in let p = part-send l in let q = part-sync l in search (sendable, crosses) depth 40 fits 20000
+node-send l = let j = job-sync in let a = alphabet-send in let b = alphabet-sync in let s = seed-send in let n = snapshots-send in let p = part-send l in let q = part-sync l in search (sendable, crosses) depth 40 fits 20000
 
 sums-send : IsSend MaskedSums.the_row
 sums-send = search (sendable, crosses) depth 40 fits 20000

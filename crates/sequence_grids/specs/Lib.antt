@@ -9,3 +9,4 @@ pub mod Widths
 pub mod Columns
 pub mod Kinds
 pub mod Places
+pub mod Wholes

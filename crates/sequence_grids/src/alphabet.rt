@@ -1,12 +1,14 @@
 //! The kinds of at least all items that occur.
 
-ghost use Rattle.std.specs.Prelude.{◌≡◌, ◌≤◌, ◌<◌, length, All, IfOk, OnOk};
+ghost use Rattle.std.specs.Prelude.{◌≡◌, ◌≤◌, ◌<◌, length, All, IfOk, IfSome, OnOk};
 ghost use Rattle.mine_model.specs.declared.item.Item.{Item};
 ghost use Rattle.sequence_grids.specs.Tables.{Grows};
 ghost use Rattle.sequence_grids.specs.Kinds.{AreKinds, KindsGrow, IsMet, AreMet};
 ghost use Rattle.sequence_grids.specs.Places.{IsTableOf, IsAlphabetTo, IsAlphabet};
+ghost use Rattle.sequence_grids.specs.Wholes.{IsWholeAlphabet};
 
-use super::kinds::{Kinds, Scratch, kind_of};
+use super::cuts::meet;
+use super::kinds::{Kinds, Scratch};
 use super::tables::Tables;
 use mine_model::{Item, NoMemory};
 use mining_job::{Bound, Job};
@@ -31,6 +33,14 @@ pub fn alphabet_of(alloc: Global, job: &Job, bound: Bound) -> Result<Alphabet, N
         meet_sequences(alloc, job, bound, &mut all)?;
     }
     Ok(all)
+}
+
+/// The same under the bound of all ranks.
+pub fn whole_alphabet(alloc: Global, job: &Job) -> Result<Alphabet, NoMemory>
+    ensures { IfOk result (IsWholeAlphabet job.now) }
+{
+    let top = job.ranks().count();
+    alphabet_of(alloc, job, Bound { top, need: None })
 }
 
 // From how many places for each item on it takes less to find the kinds of all items than to look at each
@@ -76,6 +86,7 @@ fn meet_sequences(
             &mut all.tables,
             &mut all.kinds,
             &mut scratch,
+            None,
             items,
         )?;
     }
@@ -96,24 +107,28 @@ fn meet_items(alloc: Global, job: &Job, bound: Bound, all: &mut Alphabet) -> Res
             &mut all.tables,
             &mut all.kinds,
             &mut scratch,
+            None,
             &t,
         )?;
     }
     Ok(())
 }
 
-/// Finds the kinds of those of the items that were not yet met.
+/// Finds the kinds of those of the items that were not yet met, and cuts them from those of the alphabet,
+/// where there is one.
 pub(crate) fn meet_all(
     job: &Job,
     bound: Bound,
     tables: &mut Tables,
     kinds: &mut Kinds,
     scratch: &mut Scratch,
+    alphabet: Option<&Alphabet>,
     items: &[Item],
 ) -> Result<(), NoMemory>
     requires table { IsTableOf job.now tables.old }
     requires kinds { AreKinds job.now bound tables.old.classes kinds.old }
     requires items { All (λ t. t.0 < job.now.hierarchy.items) items.now }
+    requires alphabet { IfSome alphabet (λ all. IsWholeAlphabet job.now all.now) }
     ensures table { IsTableOf job.now tables.new }
     ensures kinds { AreKinds job.now bound tables.new.classes kinds.new }
     ensures tables_grow { Grows tables.old tables.new }
@@ -122,7 +137,7 @@ pub(crate) fn meet_all(
     ensures met { OnOk result (AreMet kinds.new items.now) }
 {
     for t in items {
-        kind_of(job, bound, tables, kinds, scratch, *t)?;
+        meet(job, bound, tables, kinds, scratch, alphabet, *t)?;
     }
     Ok(())
 }

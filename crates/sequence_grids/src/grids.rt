@@ -1,10 +1,12 @@
-ghost use Rattle.std.specs.Prelude.{◌≡◌, ◌≢◌, AllPairs, ℕ, ◌+◌, ◌-◌, ◌*◌, ◌≤◌, ◌<◌, ◌↔◌, length, [], ◌∷◌, ◌++◌, IfOk, OnOk, OnErr, IsTrue, Contains, Some, slice_get, slice_index};
+ghost use Rattle.std.specs.Prelude.{◌≡◌, ◌≢◌, AllPairs, ℕ, ◌+◌, ◌-◌, ◌*◌, ◌≤◌, ◌<◌, ◌↔◌, length, [], ◌∷◌, ◌++◌, IfOk, IfSome, OnOk, OnErr, IsTrue, Contains, Some, slice_get, slice_index};
 ghost use Rattle.mine_model.specs.declared.item.Item.{Item};
 ghost use Rattle.state_bits.specs.Members.{HasBit};
 ghost use Rattle.sequence_grids.specs.Grids.{Completes, Ends, Reads, WritesRank, items_at, rest_at};
 ghost use Rattle.sequence_grids.specs.Places.{AreGrids};
 ghost use Rattle.sequence_grids.specs.Readings.{IsReading};
+ghost use Rattle.sequence_grids.specs.Wholes.{IsWholeAlphabet};
 
+use super::alphabet::Alphabet;
 use super::grid_parts::GridParts;
 use super::kinds::{Kinds, Scratch, ends_from, outputs_of};
 use super::places::{Place, push_places};
@@ -88,6 +90,26 @@ impl<'a> Grids<'a> {
         ensures ok { OnOk result (self.new ≡ record self.old { sequences = self.old.sequences ++ seq ∷ [] }) }
         ensures err { OnErr result (self.new ≡ self.old) }
     {
+        self.push_with(None, seq)
+    }
+
+    /// The same, where what an item may do is cut from what it may do under the bound of all ranks.
+    pub fn push_by(&mut self, alphabet: &Alphabet, seq: u32) -> Result<(), NoMemory>
+        requires seq { seq < length self.old.problem.sequences }
+        requires alphabet { IsWholeAlphabet self.old.problem alphabet.now }
+        ensures ok { OnOk result (self.new ≡ record self.old { sequences = self.old.sequences ++ seq ∷ [] }) }
+        ensures err { OnErr result (self.new ≡ self.old) }
+    {
+        self.push_with(Some(alphabet), seq)
+    }
+
+    // The same, with an alphabet or without one.
+    fn push_with(&mut self, alphabet: Option<&Alphabet>, seq: u32) -> Result<(), NoMemory>
+        requires seq { seq < length self.old.problem.sequences }
+        requires alphabet { IfSome alphabet (λ all. IsWholeAlphabet self.old.problem all.now) }
+        ensures ok { OnOk result (self.new ≡ record self.old { sequences = self.old.sequences ++ seq ∷ [] }) }
+        ensures err { OnErr result (self.new ≡ self.old) }
+    {
         self.sequences.reserve(1)?;
         self.ends.reserve(1)?;
         let items = self.job.db().sequence(seq);
@@ -97,6 +119,7 @@ impl<'a> Grids<'a> {
             &mut self.tables,
             &mut self.kinds,
             &mut self.scratch,
+            alphabet,
             &mut self.places,
             items,
         )?;

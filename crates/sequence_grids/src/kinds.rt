@@ -9,8 +9,11 @@ ghost use Rattle.sequence_grids.specs.Tables.{Grows, unknown};
 ghost use Rattle.sequence_grids.specs.Columns.{AreColumns, AreHeads};
 ghost use Rattle.sequence_grids.specs.Kinds.{IsTarget, IsNeededRank, IsRow, AreActs, AreEntered, Extends, HasKind, HasCell, IsMet, AreKinds, KindsGrow, IsKind, AreRows, IsInside, row_at};
 ghost use Rattle.sequence_grids.specs.declared.kinds.Kind.{Kind};
+ghost use Rattle.sequence_grids.specs.Wholes.{IsWholeAlphabet};
 
+use super::alphabet::Alphabet;
 use super::columns::Columns;
+use super::cuts::push_found;
 use super::number::{NONE, to_number};
 use super::tables::Tables;
 use fst_compile::{Fst, State, outputs};
@@ -71,6 +74,8 @@ pub struct Scratch {
     pub(crate) needs: Vec<u32>,
     written: Vec<Item>,
     found: Vec<u32>,
+    // By the number of a kind of an alphabet an item that has it there and was met: no more than a hint.
+    pub(crate) twins: Vec<u32>,
 }
 
 // Written out, so that it is let go of by a call, and not part by part wherever one is.
@@ -83,6 +88,7 @@ impl Drop for Scratch {
             needs: _,
             written: _,
             found: _,
+            twins: _,
         } = self;
     }
 }
@@ -97,6 +103,7 @@ impl Scratch {
             needs: Vec::new(alloc),
             written: Vec::new(alloc),
             found: Vec::new(alloc),
+            twins: Vec::new(alloc),
         }
     }
 }
@@ -173,11 +180,13 @@ pub(crate) fn kind_of(
     tables: &mut Tables,
     kinds: &mut Kinds,
     scratch: &mut Scratch,
+    alphabet: Option<&Alphabet>,
     t: Item,
 ) -> Result<u32, NoMemory>
     requires item { t.0 < job.now.hierarchy.items }
     requires states { length tables.old.predecessors ≡ length job.now.machine.labels + 1 }
     requires kinds { AreKinds job.now bound tables.old.classes kinds.old }
+    requires alphabet { IfSome alphabet (λ all. IsWholeAlphabet job.now all.now) }
     ensures tables { Grows tables.old tables.new }
     ensures grow { KindsGrow kinds.old kinds.new }
     ensures kinds { AreKinds job.now bound tables.new.classes kinds.new }
@@ -199,6 +208,7 @@ pub(crate) fn kind_of(
         &mut kinds.ends,
         &mut kinds.ranks,
         scratch,
+        alphabet,
     )?;
     enter(job, bound, &kinds.columns, t, scratch)?;
     let class = tables.class_number(
@@ -337,9 +347,11 @@ fn push_outputs(
     ends: &mut Vec<u32>,
     ranks: &mut Vec<u32>,
     scratch: &mut Scratch,
+    alphabet: Option<&Alphabet>,
 ) -> Result<(), NoMemory>
     requires item { t.0 < job.now.hierarchy.items }
     requires heads { AreHeads job.now.machine.labels columns.now.heads.items }
+    requires alphabet { IfSome alphabet (λ all. IsWholeAlphabet job.now all.now) }
     ensures ends { Extends ends.old.items ends.new.items }
     ensures ranks { Extends ranks.old.items ranks.new.items }
     ensures row { OnOk result (IsRow job.now bound t columns.now.heads.items
@@ -351,7 +363,7 @@ fn push_outputs(
     ends.push(to_number(ranks.len())?)?;
     for column in 0..columns.heads.len() {
         let head = columns.heads[column];
-        push_at(job, bound, t, head, ends, ranks, scratch)?;
+        push_at(job, bound, t, head, ends, ranks, scratch, alphabet)?;
     }
     Ok(())
 }
@@ -366,9 +378,11 @@ fn push_at(
     ends: &mut Vec<u32>,
     ranks: &mut Vec<u32>,
     scratch: &mut Scratch,
+    alphabet: Option<&Alphabet>,
 ) -> Result<(), NoMemory>
     requires item { t.0 < job.now.hierarchy.items }
     requires state { IsTarget job.now k }
+    requires alphabet { IfSome alphabet (λ all. IsWholeAlphabet job.now all.now) }
     ensures ends { Extends ends.old.items ends.new.items }
     ensures ranks { Extends ranks.old.items ranks.new.items }
     ensures row { OnOk result ((heads : List ℕ) (base column : ℕ) → slice_index heads column ≡ k
@@ -378,8 +392,18 @@ fn push_at(
         → AreActs job.now bound t heads scratch.old.acts.items column
         → AreActs job.now bound t heads scratch.new.acts.items (column + 1)) }
 {
-    let silent = read_at(job, bound, t, k, &mut scratch.written, &mut scratch.found)?;
-    let found = scratch.found.as_slice();
+    let first = ranks.len();
+    let silent = push_found(
+        job,
+        bound,
+        t,
+        k,
+        ranks,
+        &mut scratch.written,
+        &mut scratch.found,
+        alphabet,
+    )?;
+    let found = &ranks.as_slice()[first..];
     let writes = is_needed(None, found);
     let needs = is_needed(bound.need, found);
     scratch.acts.push(Act {
@@ -387,7 +411,6 @@ fn push_at(
         writes,
         needs,
     })?;
-    ranks.extend_from_slice(found)?;
     ends.push(to_number(ranks.len())?)?;
     Ok(())
 }
@@ -421,8 +444,8 @@ fn enter(
     Ok(())
 }
 
-// What edges into state k may write at an item, as ranks, and whether they match it and write nothing.
-fn read_at(
+/// What edges into state k may write at an item, as ranks, and whether they match it and write nothing.
+pub(crate) fn read_at(
     job: &Job,
     bound: Bound,
     t: Item,

@@ -4,6 +4,7 @@
 
 mod alphabet;
 mod columns;
+mod cuts;
 mod grid;
 mod grid_parts;
 mod grids;
@@ -15,7 +16,7 @@ mod successors;
 mod table;
 mod tables;
 
-pub use alphabet::{Alphabet, alphabet_of};
+pub use alphabet::{Alphabet, alphabet_of, whole_alphabet};
 pub use columns::Columns;
 pub use grid::Grid;
 pub use grid_parts::GridParts;

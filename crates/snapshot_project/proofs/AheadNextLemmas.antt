@@ -1,15 +1,14 @@
 -- What follows longer prefixes, from what was counted behind the visits of all sequences.
-use Rattle.std.proofs.Common.{◌≡◌, ◌↔◌, ℕ, ◌+◌, ◌≤◌, ◌<◌, ◌⊎◌, inl, inr, Bool, true, false, ◌||◌, IsTrue, Some, None, List, [], ◌∷◌, ◌++◌, length, map, replicate, refl, sym, ap, ◌∙◌, subst, arith}
+use Rattle.std.proofs.Common.{◌≡◌, ◌↔◌, ℕ, ◌≤◌, ◌<◌, inl, inr, Some, Option, List, [], ◌∷◌, ◌++◌, length, map, replicate, refl, sym, ap, ◌∙◌, subst, arith}
 use Rattle.std.specs.List.{AllPairs, AllZip, Contains, slice_get, slice_index}
 use Rattle.std.proofs.lemmas.List.{get_or-replicate}
 use Rattle.std.proofs.lemmas.Option.{slice_get-get_or, get_or_from_slice_get}
 use Rattle.mine_model.specs.declared.item.Item.{Item}
-use Rattle.mine_model.specs.Support.{Sequence, Counts}
-use Rattle.mine_model.specs.Growth.{WeighAtLeast}
+use Rattle.mine_model.specs.Support.{Counts}
 use Rattle.mine_model.proofs.AliveLemmas.{WeighAtLeast-counted}
 use Rattle.mine_model.proofs.ListLemmas.{Contains-first, Contains-other, Contains-by, Contains-from}
 use Rattle.mining_job.specs.Problems.{items_of}
-use Rattle.sequence_grids.specs.Grids.{GridList, items_at}
+use Rattle.sequence_grids.specs.Grids.{GridList}
 use Rattle.sequence_grids.specs.Successors.{AreSuccessors}
 use Rattle.walk_memo.specs.Moves.{MoveSets}
 use Rattle.walk_places.specs.declared.places.Record.{Record}
@@ -17,10 +16,9 @@ use Rattle.place_walk.specs.declared.stand.Stand.{Stand}
 use Rattle.place_walk.specs.declared.visit.Visit.{Visit}
 use Rattle.place_walk.specs.Courses.{Course}
 use Rattle.place_walk.specs.Visits.{AreVisits}
-use Rattle.stand_sums.specs.declared.aim.Aim.{Aim}
-use Rattle.stand_sums.specs.Writings.{Ranks, opens, ends, follows}
-use Rattle.stand_sums.specs.Sequences.{all_weighed, weighed}
-use Rattle.mask_sums.specs.Kept.{free}
+use Rattle.stand_sums.specs.Writings.{Ranks, ends}
+use Rattle.stand_sums.specs.Sequences.{all_weighed}
+use Rattle.mask_sums.specs.Kept.{lacks, lacking}
 use Rattle.level_ahead.specs.declared.next_of.NextOf.{NextOf}
 use Rattle.level_ahead.specs.Behind.{HasBehind, FollowsBehind, GoesOnBehind}
 use Rattle.level_ahead.specs.Counts.{Behind, AreAdded, AreReaching}
@@ -61,12 +59,15 @@ counts-alike weights One Other (here ∷ sequences) alike n (inr (lacks, counts)
 
 module _ (part : GridList) (is : IsPart part) (width : ℕ) (rows : List ℕ) (rows_are : AreSuccessors width part.problem.machine rows)
     (places : List Record) (early late : List MoveSets) (ranks : Ranks) (CanAsk : ℕ → ℕ → Type 0) (records : AreRecords part places early late ranks CanAsk)
-    (prefixes : List ℕ) (list : SnapshotList) (are : AreSnapshots part prefixes list) (seen : IsTrue list.seen ⊎ (part.bound.need ≡ None))
+    (prefixes : List ℕ) (list : SnapshotList) (are : AreSnapshots part prefixes list)
     (grids : List ℕ) (rising : AllPairs (λ low high. low < high) grids) (all_grids : AreAllGrids part list.snapshots grids)
     (groups : List (List Stand)) (groups_are : AreGroupsIn part are.prefix list.seen grids groups)
     (sequences : List (List Visit)) (visits_are : AllZip (AreVisits (course_for rows places early late (goes list.seen part.bound.need))) groups sequences) where
   abbrev pub course : Course
   course = course_for rows places early late (goes list.seen part.bound.need)
+
+  abbrev pub lack : Option ℕ
+  lack = lacking (aim_of part list.seen)
 
   some-visits : (rank : ℕ) (grids : List ℕ) (groups : List (List Stand)) (sequences : List (List Visit)) → AreGroupsIn part are.prefix list.seen grids groups
       → AllZip (AreVisits course) groups sequences → AllZip (AreVisitsIn part are.prefix list.seen ranks rank) grids sequences
@@ -87,10 +88,10 @@ module _ (part : GridList) (is : IsPart part) (width : ℕ) (rows : List ℕ) (r
     longer_ranks = prefixes ++ rank ∷ []
 
     abbrev pub kid : SnapshotList
-    kid = kid_list part is width rows rows_are places early late ranks CanAsk records prefixes list are seen rank low high support is_support grids rising all_grids sequences (visits-in rank)
+    kid = kid_list part is width rows rows_are places early late ranks CanAsk records prefixes list are rank low high support is_support grids rising all_grids sequences (visits-in rank)
 
     pub kid-is : AreSnapshots part longer_ranks kid
-    kid-is = kid-are part is width rows rows_are places early late ranks CanAsk records prefixes list are seen rank low high support is_support grids rising all_grids sequences (visits-in rank)
+    kid-is = kid-are part is width rows rows_are places early late ranks CanAsk records prefixes list are rank low high support is_support grids rising all_grids sequences (visits-in rank)
 
     -- what grows behind the longer prefix is in a sequence of the list
     grows-listed : (other i : ℕ) → Contains part.sequences i → GrowsBehind part (longer_ranks ++ other ∷ []) (items_of part.problem i)
@@ -105,9 +106,9 @@ module _ (part : GridList) (is : IsPart part) (width : ℕ) (rows : List ℕ) (r
         (grows-next part is.whole kid-is.prefix longer_ranks kid-is.ranked kid-is.top items other).1 (position, state, next.0)
 
     -- where nothing goes on behind the rank, nothing follows behind the other one
-    kid-last : ((here : List Visit) → Contains sequences here → GoesOnBehind course ranks rank here → ⊥) → (other : ℕ) → IsLast part (longer_ranks ++ other ∷ [])
+    kid-last : (lack ≡ Some rank → ⊥) → ((here : List Visit) → Contains sequences here → GoesOnBehind course ranks lack rank here → ⊥) → (other : ℕ) → IsLast part (longer_ranks ++ other ∷ [])
     unfolding kid-is
-    kid-last quiet other i further known grows =
+    kid-last apart quiet other i further known grows =
         let (position, state, opening) = follows-opens part is.whole longer_ranks kid kid-is (items_of part.problem i) other further grows in
         let (before, position_is, writes, completes) = opening in
         let here : GrowsBehind part (longer_ranks ++ other ∷ []) (items_of part.problem i) =
@@ -119,48 +120,48 @@ module _ (part : GridList) (is : IsPart part) (width : ℕ) (rows : List ℕ) (r
         let (visits, there, told) = zip-known (AreVisitsIn part are.prefix list.seen ranks rank) grids sequences (visits-in rank) grid among in
         let index : i ≡ slice_index part.sequences grid = sym (get_or_from_slice_get part.sequences grid i 0 at) in
         quiet visits there
-        (kid-goes part is width rows rows_are places early late ranks CanAsk records prefixes list are seen rank low high support is_support grids rising all_grids sequences (visits-in rank)
+        (kid-goes part is width rows rows_are places early late ranks CanAsk records prefixes list are rank low high support is_support grids rising all_grids sequences (visits-in rank) apart
         grid visits told other position state
         (subst (λ (k : ℕ). OpensNext part.problem part.bound (items_of part.problem k) kid-is.prefix kid.seen other position state) index opening))
 
     -- ---- what was counted
 
-    module _ (weights : List ℕ) (weigh : AreWeights part weights) where
-      kid-follows : (other n : ℕ) → Counts (FollowsBehind course ranks rank other) (all_weighed weights sequences) n → CanFollow part longer_ranks other n
+    module _ (weights : List ℕ) (weigh : AreWeights part weights) (apart : lack ≡ Some rank → ⊥) where
+      kid-follows : (other n : ℕ) → Counts (FollowsBehind course ranks lack rank other) (all_weighed weights sequences) n → CanFollow part longer_ranks other n
       kid-follows other =
           groups-counted part is ranks (aim_of part list.seen) prefixes list are course
           (λ grid group here those exact. visit-within part is width rows rows_are places early late ranks CanAsk records are.prefix list.seen grid group here (Contains those) exact.exact)
           grids rising all_grids groups groups_are sequences visits_are weights weigh
-          (GrowsBehind part (longer_ranks ++ other ∷ [])) (FollowsBehind course ranks rank other) (λ visits has. (has.visit, has.held))
+          (GrowsBehind part (longer_ranks ++ other ∷ [])) (FollowsBehind course ranks lack rank other) (λ visits has. (has.visit, has.held))
           (λ grid group here those exact.
-          kid-grows part is width rows rows_are places early late ranks CanAsk records prefixes list are seen rank low high support is_support grids rising all_grids sequences (visits-in rank)
+          kid-grows part is width rows rows_are places early late ranks CanAsk records prefixes list are rank low high support is_support grids rising all_grids sequences (visits-in rank) apart
           grid those (told-at rank grid group here those exact) other)
           (grows-listed other)
 
-      kid-supports : (other n : ℕ) → Counts (HasBehind course ranks rank (ends ranks free other)) (all_weighed weights sequences) n → IsSupportOf part (longer_ranks ++ other ∷ []) n
+      kid-supports : (other n : ℕ) → Counts (HasBehind course ranks lack rank (ends ranks (lacks lack) other)) (all_weighed weights sequences) n → IsSupportOf part (longer_ranks ++ other ∷ []) n
       kid-supports other =
           groups-counted part is ranks (aim_of part list.seen) prefixes list are course
           (λ grid group here those exact. visit-within part is width rows rows_are places early late ranks CanAsk records are.prefix list.seen grid group here (Contains those) exact.exact)
           grids rising all_grids groups groups_are sequences visits_are weights weigh
-          (GeneratesWithin part (longer_ranks ++ other ∷ [])) (HasBehind course ranks rank (ends ranks free other)) (λ visits has. (has.visit, has.held))
+          (GeneratesWithin part (longer_ranks ++ other ∷ [])) (HasBehind course ranks lack rank (ends ranks (lacks lack) other)) (λ visits has. (has.visit, has.held))
           (λ grid group here those exact.
-          kid-generates part is width rows rows_are places early late ranks CanAsk records prefixes list are seen rank low high support is_support grids rising all_grids sequences (visits-in rank)
+          kid-generates part is width rows rows_are places early late ranks CanAsk records prefixes list are rank low high support is_support grids rising all_grids sequences (visits-in rank) apart
           grid those (told-at rank grid group here those exact) other)
           (λ i known generates. grows-listed other i known (generates-grows other (items_of part.problem i) generates))
 
       module _ (light : weights ≡ []) (behind : Behind) (rank_is : behind.rank ≡ rank)
-          (added : AreAdded course ranks sequences (record { rank = behind.rank; counts = replicate 256 0 }) behind) where
-        quiet : (here : List Visit) → Contains sequences here → GoesOnBehind course ranks rank here → ⊥
-        quiet here held = subst (λ (r : ℕ). GoesOnBehind course ranks r here → ⊥) rank_is (added.ended here held)
+          (added : AreAdded course ranks lack sequences (record { rank = behind.rank; counts = replicate 256 0 }) behind) where
+        quiet : (here : List Visit) → Contains sequences here → GoesOnBehind course ranks lack rank here → ⊥
+        quiet here held = subst (λ (r : ℕ). GoesOnBehind course ranks lack r here → ⊥) rank_is (added.ended here held)
 
-        counted : (other : ℕ) → other < 256 → Counts (FollowsBehind course ranks rank other) (all_weighed weights sequences) (slice_index behind.counts other)
+        counted : (other : ℕ) → other < 256 → Counts (FollowsBehind course ranks lack rank other) (all_weighed weights sequences) (slice_index behind.counts other)
         counted other few =
             let (n, counts, sum) = added.counted other few in
             let none : slice_index (replicate 256 0) other ≡ 0 = get_or-replicate 256 other 0 0 few in
             let same : n ≡ slice_index behind.counts other = omega arith in
-            subst (λ (w : List ℕ). Counts (FollowsBehind course ranks rank other) (all_weighed w sequences) (slice_index behind.counts other)) (sym light)
-            (subst (λ (r : ℕ). Counts (FollowsBehind course ranks r other) (all_weighed [] sequences) (slice_index behind.counts other)) rank_is
-            (subst (Counts (FollowsBehind course ranks behind.rank other) (all_weighed [] sequences)) same counts))
+            subst (λ (w : List ℕ). Counts (FollowsBehind course ranks lack rank other) (all_weighed w sequences) (slice_index behind.counts other)) (sym light)
+            (subst (λ (r : ℕ). Counts (FollowsBehind course ranks lack r other) (all_weighed [] sequences) (slice_index behind.counts other)) rank_is
+            (subst (Counts (FollowsBehind course ranks lack behind.rank other) (all_weighed [] sequences)) same counts))
 
         follows-there : (other : ℕ) → other < 256 → CanFollow part longer_ranks other (slice_index behind.counts other)
         follows-there other few = kid-follows other (slice_index behind.counts other) (counted other few)
@@ -169,8 +170,8 @@ module _ (part : GridList) (is : IsPart part) (width : ℕ) (rows : List ℕ) (r
         supports-there : (other : ℕ) → other < 256 → IsSupportOf part (longer_ranks ++ other ∷ []) (slice_index behind.counts other)
         supports-there other few =
             kid-supports other (slice_index behind.counts other)
-            (counts-alike weights (FollowsBehind course ranks rank other) (HasBehind course ranks rank (ends ranks free other)) sequences
-            (λ here held. (ends-quiet course ranks rank other here (quiet here held), ends-follow course ranks rank other here))
+            (counts-alike weights (FollowsBehind course ranks lack rank other) (HasBehind course ranks lack rank (ends ranks (lacks lack) other)) sequences
+            (λ here held. (ends-quiet course ranks lack rank other here (quiet here held), ends-follow course ranks lack rank other here))
             (slice_index behind.counts other) (counted other few))
 
         -- so what was counted is what follows the longer prefix
@@ -196,5 +197,5 @@ module _ (part : GridList) (is : IsPart part) (width : ℕ) (rows : List ℕ) (r
                 let next : NextOf = record { rank = other; count = slice_index behind.counts other } in
                 (next_of next, Contains-by next_of told next ((reaching.exact next).1 (few, refl, reached)), refl);
           };
-          last = λ next held. kid-last quiet next.rank;
+          last = λ next held. kid-last apart quiet next.rank;
         }

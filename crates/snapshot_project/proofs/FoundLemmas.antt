@@ -1,7 +1,7 @@
 -- From what was summed up of all stands to the ranks that follow, and the stands behind them.
 use Rattle.std.proofs.Common.{◌≡◌, ℕ, ◌+◌, ◌*◌, ◌≤◌, ◌<◌, inl, inr, true, ◌==◌, true≢false, Option, Some, None, List, [], ◌∷◌, ◌++◌, length, map, replicate, get_or, refl, sym, ap, ◌∙◌, subst, arith}
 use Rattle.std.specs.List.{All, AllZip, Contains, slice_get}
-use Rattle.std.specs.Option.{IfSome, option_eq, option_map}
+use Rattle.std.specs.Option.{IfSome, IfNone, option_eq, option_map}
 use Rattle.std.proofs.lemmas.Bool.{cases_lt, le-ltb, eqb-true}
 use Rattle.std.proofs.lemmas.List.{append-nil, length-replicate, get_or_past, get_or-replicate}
 use Rattle.std.proofs.lemmas.List.Elements.{Contains-get_or}
@@ -161,6 +161,10 @@ known-is value known x is view ranks seen part told =
 -- what holds of each that is known holds of this one
 pub known-holds : {X : Type 0} (P : X → Type 0) (known : Option X) (x : X) → known ≡ Some x → IfSome known P → P x
 known-holds P known x is holds = subst (λ o. IfSome o P) is holds
+
+-- what holds where there is none
+pub none-holds : {X : Type 0} (P : Type 0) (found : Option X) → found ≡ None → IfNone found P → P
+none-holds P found is holds = subst (λ o. IfNone o P) is holds
 
 -- what was found over a terrain was found in its part
 pub found-in : (width : ℕ) (part : GridList) (rows : List ℕ) (value : RecordsValue) → IsGround width part rows value → (weights : List ℕ) → AreWeights part weights

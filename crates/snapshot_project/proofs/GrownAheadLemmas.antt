@@ -1,5 +1,5 @@
 -- What is kept of longer prefixes where it was counted ahead what follows them.
-use Rattle.std.proofs.Common.{◌≡◌, ℕ, zero, suc, ◌≤◌, ◌<◌, ◌⊎◌, inl, inr, IsTrue, Option, Some, None, List, [], ◌∷◌, ◌++◌, length, map, refl, sym, ap, ◌∙◌, subst, arith}
+use Rattle.std.proofs.Common.{◌≡◌, ℕ, zero, suc, ◌-◌, ◌≤◌, ◌<◌, inl, inr, Option, Some, None, List, [], ◌∷◌, ◌++◌, length, map, refl, sym, ap, ◌∙◌, subst, arith}
 use Rattle.std.specs.List.{AllPairs, AllZip, Contains, slice_get, slice_range}
 use Rattle.std.proofs.lemmas.Bool.{cases_lt}
 use Rattle.std.specs.Option.{IfSome}
@@ -23,23 +23,24 @@ use Rattle.stand_sums.specs.Sequences.{AreSequences, HasOne, all_weighed}
 use Rattle.stand_sums.specs.Sums.{Tally, empty_tally, stands_among, AreCounted, IsTold, AreNext}
 use Rattle.stand_sums.specs.Files.{stands_of}
 use Rattle.mine_model.specs.Support.{Counts}
+use Rattle.mask_sums.specs.Kept.{lacking}
 use Rattle.level_ahead.specs.Counts.{Behind}
 use Rattle.place_records.specs.Ranks.{ranks_of, CanAskOf}
 use Rattle.place_records.specs.Records.{AreRecords}
 use Rattle.snapshot_project.specs.declared.next_rank.NextRank.{NextRank as Next}
-use Rattle.snapshot_project.specs.Ahead.{next_of, IsKeptAhead, AreCountedAhead, AreAhead}
+use Rattle.snapshot_project.specs.Ahead.{next_of, IsToldAhead, IsStandingAhead, IsKeptAhead, AreCountedAhead, AreAhead}
 use Rattle.snapshot_project.specs.Aims.{sees, goes}
 use Rattle.snapshot_project.specs.Extensions.{CanFollow, IsSupportOf, AreNextRanks}
 use Rattle.snapshot_project.specs.Grouped.{course_for, AreGroupsIn, AreAllGrids, AreWeights}
 use Rattle.snapshot_project.specs.Founds.{course_over, IsFoundIn}
 use Rattle.snapshot_project.specs.Longer.{told_of, IsKeptOf}
 use Rattle.snapshot_project.specs.Snapshots.{IsPart, SnapshotList, AreSnapshots}
-use Rattle.snapshot_project.specs.Stands.{IsLight, AreLastRanks, StandList, TellNext, IsProjected}
+use Rattle.snapshot_project.specs.Stands.{AreStandsOf, IsLight, AreLastRanks, StandList, TellNext, IsProjected}
 use Rattle.snapshot_project.proofs.AheadNextLemmas.{visits-in, kid, kid-is, kid-told}
 use Rattle.snapshot_project.proofs.GrownLemmas.{aim-same, empty-next, some-stands}
 use Rattle.snapshot_project.proofs.FoundLemmas.{walked-whole}
 use Rattle.snapshot_project.proofs.GroupLemmas.{stands-cut}
-use Rattle.snapshot_project.proofs.LongerLemmas.{aim_of}
+use Rattle.snapshot_project.proofs.LongerLemmas.{aim_of, longer-stands}
 use Rattle.snapshot_project.proofs.KidLemmas.{range-none, follow-ranked, kid-projected}
 use Rattle.snapshot_project.proofs.RoomLemmas.{stands-long}
 use Rattle.snapshot_project.proofs.SumLemmas.{follows-counted, ends-counted, opens-counted}
@@ -56,7 +57,7 @@ zip-at R (first ∷ xs) (other ∷ ys) zip (suc i) x y at beside = zip-at R xs y
 
 module _ (part : GridList) (is : IsPart part) (width : ℕ) (rows : List ℕ) (rows_are : AreSuccessors width part.problem.machine rows)
     (places : List Record) (early late : List MoveSets) (ranks : Ranks) (CanAsk : ℕ → ℕ → Type 0) (records : AreRecords part places early late ranks CanAsk)
-    (prefixes : List ℕ) (list : SnapshotList) (are : AreSnapshots part prefixes list) (seen : IsTrue list.seen ⊎ (part.bound.need ≡ None))
+    (prefixes : List ℕ) (list : SnapshotList) (are : AreSnapshots part prefixes list)
     (grids : List ℕ) (rising : AllPairs (λ low high. low < high) grids) (all_grids : AreAllGrids part list.snapshots grids)
     (groups : List (List Stand)) (groups_are : AreGroupsIn part are.prefix list.seen grids groups)
     (sequences : List (List Visit)) (visits_are : AllZip (AreVisits (course_for rows places early late (goes list.seen part.bound.need))) groups sequences)
@@ -100,7 +101,7 @@ module _ (part : GridList) (is : IsPart part) (width : ℕ) (rows : List ℕ) (r
         let among : tally.stands ≡ stands_among ranks aim next.rank visits = stands-all_among ranks aim weights next.rank visits sequences tally count in
         let long : length (stands_of ranks aim next.rank sequences) ≡ stands_among ranks aim next.rank visits = stands-long ranks aim next.rank visits sequences cut in
         let bare = kid-projected part is prefixes list are ranks grids rising all_grids sequences
-        (visits-in part is width rows rows_are places early late ranks CanAsk records prefixes list are seen grids rising all_grids groups groups_are sequences visits_are)
+        (visits-in part is width rows rows_are places early late ranks CanAsk records prefixes list are grids rising all_grids groups groups_are sequences visits_are)
         least next low high tally told (among ∙ sym long) [] (λ places. absurd (omega (arith, none, places)))
         (supported next.rank tally.support (support-all ranks aim weights next.rank visits sequences tally count))
         (light-behind next.rank tally.longer (longer-all ranks aim weights next.rank visits sequences tally count)) in
@@ -108,42 +109,75 @@ module _ (part : GridList) (is : IsPart part) (width : ℕ) (rows : List ℕ) (r
         (record { seen = sees list.seen part.bound.need next.rank; support = next.support; stands = slice_range [] next.first next.last; next = None; bytes = None }) bare refl refl
         (ap (λ (l : List Stand). length l) (range-none [] next.first next.last none))
 
-    -- what is kept of the prefix with it
-    ahead-by : (support : IsSupportOf part (prefixes ++ next.rank ∷ []) next.support) (light : weights ≡ []) → length part.problem.ranking.order < 256 → (behinds : List Behind)
-        → AreCountedAhead course ranks sequences behinds → (kept : StandList) → IsKeptAhead aim least behinds next kept
-        → IsProjected part least (prefixes ++ next.rank ∷ []) kept
-    ahead-by support light few behinds ahead kept is_kept =
-        let mine : SnapshotList =
-        kid part is width rows rows_are places early late ranks CanAsk records prefixes list are seen grids rising all_grids groups groups_are sequences visits_are
-        next.rank low high next.support support in
-        let last : AreLastRanks part least (prefixes ++ next.rank ∷ []) (map next_of is_kept.told) = elim (cases_lt next.first next.last) [
-          | inl places_are ↦
-              let (behind, inside, same, reaching) = is_kept.counted places_are in
-              kid-told part is width rows rows_are places early late ranks CanAsk records prefixes list are seen grids rising all_grids groups groups_are sequences visits_are
-              next.rank low high next.support support weights weigh light behind same (ahead behind inside) least some few is_kept.told reaching
-          | inr none ↦
-              subst (λ (l : List _). AreLastRanks part least (prefixes ++ next.rank ∷ []) (map next_of l)) (sym (is_kept.nothing none))
-              (record { are = nowhere-next none; last = λ n there. absurd (Contains-none n there) })
-        ] in
-        record {
-          snapshots = mine;
-          are = kid-is part is width rows rows_are places early late ranks CanAsk records prefixes list are seen grids rising all_grids groups groups_are sequences visits_are
-              next.rank low high next.support support;
-          seen = is_kept.seen;
-          support = is_kept.support;
-          stands = subst (λ (told : Option (List Next)). TellNext part least (prefixes ++ next.rank ∷ []) mine kept.stands told kept.bytes) (sym is_kept.next_is) last;
-        }
+    module _ (support : IsSupportOf part (prefixes ++ next.rank ∷ []) next.support) where
+      abbrev mine : SnapshotList
+      mine =
+          kid part is width rows rows_are places early late ranks CanAsk records prefixes list are grids rising all_grids groups groups_are sequences visits_are
+          next.rank low high next.support support
+
+      -- where it is told what follows it
+      told-by : (light : weights ≡ []) → length part.problem.ranking.order < 256 → (behinds : List Behind)
+          → ((behind : Behind) → Contains behinds behind → lacking aim ≡ Some behind.rank → ⊥)
+          → AreCountedAhead course ranks (lacking aim) sequences behinds → (kept : StandList) → IsToldAhead aim least behinds next kept
+          → IsProjected part least (prefixes ++ next.rank ∷ []) kept
+      told-by light few behinds apart ahead kept is_kept =
+          let last : AreLastRanks part least (prefixes ++ next.rank ∷ []) (map next_of is_kept.told) = elim (cases_lt next.first next.last) [
+            | inl places_are ↦
+                let (behind, inside, same, reaching) = is_kept.counted places_are in
+                kid-told part is width rows rows_are places early late ranks CanAsk records prefixes list are grids rising all_grids groups groups_are sequences visits_are
+                next.rank low high next.support support weights weigh (λ lack. apart behind inside (lack ∙ ap Some (sym same))) light behind same (ahead behind inside) least some few
+                is_kept.told reaching
+            | inr none ↦
+                subst (λ (l : List _). AreLastRanks part least (prefixes ++ next.rank ∷ []) (map next_of l)) (sym (is_kept.nothing none))
+                (record { are = nowhere-next none; last = λ n there. absurd (Contains-none n there) })
+          ] in
+          record {
+            snapshots = mine;
+            are = kid-is part is width rows rows_are places early late ranks CanAsk records prefixes list are grids rising all_grids groups groups_are sequences visits_are
+                next.rank low high next.support support;
+            seen = is_kept.seen;
+            support = is_kept.support;
+            stands = subst (λ (told : Option (List Next)). TellNext part least (prefixes ++ next.rank ∷ []) mine kept.stands told kept.bytes) (sym is_kept.next_is) last;
+          }
+
+      -- where its stands are kept
+      standing-by : (run : List Stand)
+          → (lacking aim ≡ Some next.rank → next.first < next.last → slice_range run 0 (next.last - next.first) ≡ stands_of ranks aim next.rank sequences)
+          → (kept : StandList) → IsStandingAhead aim run next kept → IsProjected part least (prefixes ++ next.rank ∷ []) kept
+      standing-by run filed kept is_kept =
+          let (snapshots, taken, stands) =
+          longer-stands part is prefixes list are ranks next.rank grids rising all_grids sequences
+          (visits-in part is width rows rows_are places early late ranks CanAsk records prefixes list are grids rising all_grids groups groups_are sequences visits_are next.rank)
+          next.support low high support in
+          let own : SnapshotList = record { seen = sees list.seen part.bound.need next.rank; support = next.support; snapshots = snapshots } in
+          let same : kept.stands ≡ stands_of ranks aim next.rank sequences = ap (λ (k : StandList). k.stands) is_kept.is ∙ filed is_kept.lacked is_kept.some in
+          let plain : TellNext part least (prefixes ++ next.rank ∷ []) own kept.stands None None = inl (subst (AreStandsOf part snapshots) (sym same) stands) in
+          record {
+            snapshots = own;
+            are = taken;
+            seen = ap (λ (k : StandList). k.seen) is_kept.is;
+            support = ap (λ (k : StandList). k.support) is_kept.is;
+            stands = subst (λ (told : Option (List Next)). TellNext part least (prefixes ++ next.rank ∷ []) own kept.stands told kept.bytes) (sym (ap (λ (k : StandList). k.next) is_kept.is))
+                (subst (TellNext part least (prefixes ++ next.rank ∷ []) own kept.stands None) (sym (ap (λ (k : StandList). k.bytes) is_kept.is)) plain);
+          }
 
   -- so of each rank that was found
-  pub ahead-projected : weights ≡ [] → length part.problem.ranking.order < 256 → (behinds : List Behind) → AreCountedAhead course ranks sequences behinds
-      → (next : NextRank) → Contains found next → (kept : StandList) → IsKeptAhead aim least behinds next kept → IsProjected part least (prefixes ++ next.rank ∷ []) kept
-  ahead-projected light few behinds ahead next held kept is_kept =
+  pub ahead-projected : weights ≡ [] → length part.problem.ranking.order < 256 → (behinds : List Behind)
+      → ((behind : Behind) → Contains behinds behind → lacking aim ≡ Some behind.rank → ⊥) → AreCountedAhead course ranks (lacking aim) sequences behinds → (run : List Stand)
+      → ((next : NextRank) → Contains found next → lacking aim ≡ Some next.rank → next.first < next.last
+      → slice_range run 0 (next.last - next.first) ≡ stands_of ranks aim next.rank sequences)
+      → (next : NextRank) → Contains found next → (kept : StandList) → IsKeptAhead aim least behinds run next kept → IsProjected part least (prefixes ++ next.rank ∷ []) kept
+  ahead-projected light few behinds apart ahead run filed next held kept is_kept =
       let (tally, at, heavy, told) = are_next.right next held in
       let count = counted next.rank tally at in
       let follows' = follow next.rank tally.weight (weight-all ranks aim weights next.rank visits sequences tally count) in
       let (low, high) = follow-ranked part is prefixes list are next.rank tally.weight follows' (omega arith) in
-      let support = supported next.rank tally.support (support-all ranks aim weights next.rank visits sequences tally count) in
-      ahead-by next held low high tally told count (subst (IsSupportOf part (prefixes ++ next.rank ∷ [])) (sym told.support) support) light few behinds ahead kept is_kept
+      let support : IsSupportOf part (prefixes ++ next.rank ∷ []) next.support =
+      subst (IsSupportOf part (prefixes ++ next.rank ∷ [])) (sym told.support) (supported next.rank tally.support (support-all ranks aim weights next.rank visits sequences tally count)) in
+      elim is_kept [
+        | inl is_told ↦ told-by next held low high tally told count support light few behinds apart ahead kept is_told
+        | inr stands ↦ standing-by next held low high tally told count support run (filed next held) kept stands
+      ]
 
 -- ---- from what was found in the part
 
@@ -165,7 +199,7 @@ module _ (part : GridList) (is : IsPart part) (least : ℕ) (some : 1 ≤ least)
     ahead = subst (λ (o : Option (List StandList)). IfSome o (AreAhead (course_over moved.rows moved.value own) (ranks_of moved.value.table) own moved.weights least room kept.stands found))
         told moved.found_are.ahead
 
-    ahead-each : (next : NextRank) → Contains found next → (list : StandList) → IsKeptAhead own least ahead.behinds next list → IsProjected part least (prefixes ++ next.rank ∷ []) list
+    ahead-each : (next : NextRank) → Contains found next → (list : StandList) → IsKeptAhead own least ahead.behinds ahead.run next list → IsProjected part least (prefixes ++ next.rank ∷ []) list
     ahead-each =
         let list : SnapshotList = projected.snapshots in
         let stands_are = some-stands part is least some prefixes kept projected untold loose any in
@@ -176,9 +210,10 @@ module _ (part : GridList) (is : IsPart part) (least : ℕ) (some : 1 ≤ least)
         let value = moved.value in
         let few : room ≤ 256 = ahead.few in
         ahead-projected part is moved.width moved.rows moved.ground.rows_are value.places value.early value.late (ranks_of value.table) (CanAskOf value.table) moved.ground.records_are
-        prefixes list projected.are ahead.seen stands_are.grids stands_are.rising all_grids groups groups_in summed.walk.sequences visited
+        prefixes list projected.are stands_are.grids stands_are.rising all_grids groups groups_in summed.walk.sequences visited
         moved.weights moved.weights_are least some summed.visits summed.walk.cut_are fact.tallies summed.tallied found fact.next
-        ahead.light (omega arith) ahead.behinds (ahead.counted groups summed.walk.sequences groups_are visited)
+        ahead.light (omega arith) ahead.behinds ahead.apart (ahead.counted groups summed.walk.sequences groups_are visited) ahead.run
+        (λ next held lacked places. ahead.filed next held lacked places groups summed.walk.sequences groups_are visited)
 
     -- where what may follow and what is kept were listed side by side
     pub ahead-all : (next : List Next) → next ≡ map told_of found → (i : ℕ) (n : Next) (list : StandList) → slice_get next i ≡ Some n → slice_get all i ≡ Some list
@@ -189,7 +224,7 @@ module _ (part : GridList) (is : IsPart part) (least : ℕ) (some : 1 ≤ least)
         let (one, there) = get-some found i inside in
         let n_is : told_of one ≡ n = same_Some (told_of one) n (sym (slice_get-mapped_by told_of found i one there) ∙ here) in
         subst (λ (m : Next). IsProjected part least (prefixes ++ m.rank ∷ []) list) n_is
-        (ahead-each one (get-held found i one there) list (zip-at (IsKeptAhead own least ahead.behinds) found all ahead.kept i one list there beside))
+        (ahead-each one (get-held found i one there) list (zip-at (IsKeptAhead own least ahead.behinds ahead.run) found all ahead.kept i one list there beside))
 
   -- in either case
   pub grown-longer : (next : List Next) (all : List StandList) → next ≡ map told_of found
@@ -219,4 +254,4 @@ module _ (part : GridList) (is : IsPart part) (least : ℕ) (some : 1 ≤ least)
       by None none = AllZip-long (IsKeptOf part least prefixes) found all (filed none)
       by (Some those) some_are =
           let same_all : all ≡ those = subst (λ (o : Option (List StandList)). IfSome o (λ l. all ≡ l)) some_are told in
-          ap length same_all ∙ AllZip-long (IsKeptAhead own least (ahead those some_are).behinds) found those (ahead those some_are).kept
+          ap length same_all ∙ AllZip-long (IsKeptAhead own least (ahead those some_are).behinds (ahead those some_are).run) found those (ahead those some_are).kept

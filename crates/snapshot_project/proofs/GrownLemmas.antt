@@ -40,7 +40,7 @@ pub aim-same : (part : GridList) (aim : Aim) (seen : Bool) → aim.seen ≡ seen
 aim-same part aim seen one other = λ i. record { seen = one i; need = other i }
 
 -- a range as long as it is to be is within the list
-range-within : (run : List Stand) (from end : ℕ) → from < end → from + length (slice_range run from end) ≡ end → end ≤ length run
+pub range-within : (run : List Stand) (from end : ℕ) → from < end → from + length (slice_range run from end) ≡ end → end ≤ length run
 range-within run from end some long =
     let cut : length (slice_range run from end) ≡ min (end - from) (length (drop from run)) = length-take (end - from) (drop from run) in
     let rest : length (drop from run) ≡ length run - from = length-drop from run in

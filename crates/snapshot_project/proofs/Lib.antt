@@ -33,6 +33,7 @@ pub mod AheadLemmas
 pub mod AheadNextLemmas
 pub mod FoundLemmas
 pub mod GrownLemmas
+pub mod FrontLemmas
 pub mod GrownAheadLemmas
 pub mod WalkedLemmas
 pub mod LookLemmas

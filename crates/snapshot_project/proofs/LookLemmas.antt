@@ -1,7 +1,8 @@
 -- What walks behind visits may ask, and what several walks count.
-use Rattle.std.proofs.Common.{◌≡◌, ◌↔◌, ℕ, ◌+◌, ◌≤◌, ◌<◌, ◌⊎◌, inl, inr, Bool, true, false, ◌==◌, ◌&&◌, IsTrue, Some, None, List, [], ◌∷◌, ◌++◌, length, map, replicate, refl, sym, ap, ◌∙◌, subst, arith, append_assoc, false-eqb}
-use Rattle.std.specs.List.{AllPairs, AllZip, Contains, slice_get, slice_index}
-use Rattle.std.proofs.lemmas.Bool.{eqb-true}
+use Rattle.std.proofs.Common.{◌≡◌, ◌↔◌, ℕ, ◌+◌, ◌<◌, ◌⊎◌, inl, inr, Bool, true, false, true≢false, not, ◌==◌, ◌&&◌, IsTrue, Option, Some, List, [], ◌∷◌, ◌++◌, length, map, replicate, refl, sym, ap, ◌∙◌, subst, arith, append_assoc, false-eqb}
+use Rattle.std.specs.List.{AllPairs, AllZip, Contains, filter, slice_get, slice_index}
+use Rattle.std.proofs.lemmas.Bool.{eqb-true, eq-eqb}
+use Rattle.level_ahead.proofs.NeedLemmas.{second-true}
 use Rattle.std.proofs.lemmas.List.{append-nil, length-map}
 use Rattle.std.proofs.lemmas.List.Elements.{Contains-append_cases}
 use Rattle.std.proofs.lemmas.Option.{same_Some, slice_get-get_or, slice_get_within, get_or_from_slice_get}
@@ -9,9 +10,9 @@ use Rattle.mine_model.specs.declared.item.Item.{Item}
 use Rattle.mine_model.specs.Database.{sequence_at}
 use Rattle.mine_model.specs.Support.{Sequence, Counts}
 use Rattle.mine_model.proofs.ElementLemmas.{get-some, get-held}
-use Rattle.mine_model.proofs.ListLemmas.{Contains-cases, Contains-first, Contains-other, Contains-none, Contains-from}
+use Rattle.mine_model.proofs.ListLemmas.{Contains-cases, Contains-first, Contains-other, Contains-none, Contains-by, Contains-from, Contains-filter}
 use Rattle.mining_job.specs.Problems.{items_of}
-use Rattle.sequence_grids.specs.Grids.{GridList, items_at}
+use Rattle.sequence_grids.specs.Grids.{GridList}
 use Rattle.sequence_grids.specs.Successors.{AreSuccessors}
 use Rattle.walk_memo.specs.Moves.{MoveSets}
 use Rattle.walk_places.specs.declared.places.Record.{Record}
@@ -22,11 +23,11 @@ use Rattle.place_walk.specs.Groups.{AreGroups, AreWalked as AreWalkedOnce}
 use Rattle.place_walk.specs.Visits.{AreVisits, AreVisitsOf}
 use Rattle.stand_sums.specs.declared.aim.Aim.{Aim}
 use Rattle.stand_sums.specs.declared.next_rank.NextRank.{NextRank}
-use Rattle.stand_sums.specs.Writings.{Ranks, writes, opens, ends}
+use Rattle.stand_sums.specs.Writings.{Ranks, writes, goes_on, opens, ends}
 use Rattle.stand_sums.specs.Sequences.{HasOne, AreSequences}
-use Rattle.mask_sums.specs.Kept.{free, IsSeen}
+use Rattle.mask_sums.specs.Kept.{lacks, lacking}
 use Rattle.level_ahead.specs.Behind.{CanLookBehind}
-use Rattle.level_ahead.specs.Counts.{Behind, nothing_behind, asked_of, AreAdded}
+use Rattle.level_ahead.specs.Counts.{Behind, has_places, is_asked, nothing_behind, asked_of, AreAdded}
 use Rattle.level_ahead.proofs.AddLemmas.{none-added, more-added}
 use Rattle.place_records.specs.Ranks.{ranks_of, CanAskOf}
 use Rattle.place_records.specs.Records.{AreRecords}
@@ -39,10 +40,11 @@ use Rattle.snapshot_project.specs.Grouped.{course_for, IsGroupIn, AreGroupsIn, A
 use Rattle.snapshot_project.specs.Snapshots.{IsPart, SnapshotList, AreSnapshots}
 use Rattle.snapshot_project.proofs.AheadLemmas.{kid-looks}
 use Rattle.snapshot_project.proofs.AheadNextLemmas.{visits-in, told-at}
+use Rattle.snapshot_project.proofs.LongerLemmas.{aim_of}
 use Rattle.snapshot_project.proofs.GroupLemmas.{zip-both, zip-known, stands-cut}
 use Rattle.snapshot_project.proofs.ListedLemmas.{generates-not}
 use Rattle.snapshot_project.proofs.SumLemmas.{AreToldBy, groups-told}
-use Rattle.snapshot_project.proofs.UniqueLemmas.{sequences-unique, sequences-cut}
+use Rattle.snapshot_project.proofs.UniqueLemmas.{sequences-unique}
 use Rattle.snapshot_project.proofs.VisitNextLemmas.{visit-within, generates-visit, ranked}
 use Rattle.snapshot_project.proofs.WalkedLemmas.{IsCutBefore, groups-behind, groups-none, walked-cut}
 
@@ -131,17 +133,17 @@ module _ (part : GridList) (is : IsPart part) (width : ℕ) (rows : List ℕ) (r
       (generates-or-not rank i inside))
 
   -- a walk can begin behind a visit that writes the rank and goes on
-  pub visit-looks : IsTrue list.seen ⊎ (part.bound.need ≡ None) → (grid : ℕ) (group : List Stand) → IsGroupIn part are.prefix list.seen grid group
-      → (here : List Visit) → AreVisits course group here → (visit : Visit) → Contains here visit → (rank : ℕ) → IsTrue (opens ranks free rank visit)
-      → CanLookBehind course CanAsk visit
-  visit-looks seen grid group in' here exact visit held rank opening =
+  pub visit-looks : (grid : ℕ) (group : List Stand) → IsGroupIn part are.prefix list.seen grid group
+      → (here : List Visit) → AreVisits course group here → (visit : Visit) → Contains here visit → (rank : ℕ) → (lacking (aim_of part list.seen) ≡ Some rank → ⊥)
+      → IsTrue (opens ranks (lacks (lacking (aim_of part list.seen))) rank visit) → CanLookBehind course CanAsk visit
+  visit-looks grid group in' here exact visit held rank apart opening =
       let (low, high) = ranked part is width rows rows_are places early late ranks CanAsk records are.prefix list.seen grid group in' (Contains here) exact.exact rank visit held
-      (writes-of (writes ranks rank visit) visit.action.more opening) in
+      (writes-of (writes ranks rank visit) (goes_on (lacks (lacking (aim_of part list.seen))) rank visit.action) opening) in
       let (support, is_support) = support-known rank in
-      kid-looks part is width rows rows_are places early late ranks CanAsk records prefixes list are seen rank low high support is_support grids rising all_grids sequences
-      (visits-in part is width rows rows_are places early late ranks CanAsk records prefixes list are seen grids rising all_grids groups groups_are sequences visits_are rank)
+      kid-looks part is width rows rows_are places early late ranks CanAsk records prefixes list are rank low high support is_support grids rising all_grids sequences
+      (visits-in part is width rows rows_are places early late ranks CanAsk records prefixes list are grids rising all_grids groups groups_are sequences visits_are rank) apart
       grid here
-      (told-at part is width rows rows_are places early late ranks CanAsk records prefixes list are seen grids rising all_grids groups groups_are sequences visits_are rank grid group in' here exact)
+      (told-at part is width rows rows_are places early late ranks CanAsk records prefixes list are grids rising all_grids groups groups_are sequences visits_are rank grid group in' here exact)
       group exact visit held opening
     where
       writes-of : (one other : Bool) → IsTrue (one && other) → IsTrue one
@@ -161,14 +163,15 @@ visit-found part prefix seen way (grid ∷ grids) (group ∷ done) rest (group_i
     ]
 
 -- so behind the visits of a walk over a terrain
-pub ready-looks : {W : ℕ} (terrain : Terrain W) (aim : Aim) (stands : List Stand) (room : ℕ) → IsReady terrain aim stands room → IsSeen aim
+pub ready-looks : {W : ℕ} (terrain : Terrain W) (aim : Aim) (stands : List Stand) (room : ℕ) → IsReady terrain aim stands room
     → (left further : List Stand) → ((groups : List (List Stand)) → AreGroups stands groups → IsCutBefore groups left)
     → (course : Course) → course ≡ course_over terrain.rows.items terrain.records aim
     → ((groups : List (List Stand)) → AreGroups stands groups → (sequences : List (List Visit)) × AllZip (AreVisits course) groups sequences)
     → (visits : List Visit) → ((groups : List (List Stand)) → AreGroups left groups → AreWalkedOnce course groups further visits)
-    → (visit : Visit) → Contains visits visit → (rank : ℕ) → IsTrue (opens (ranks_of terrain.records.table) free rank visit)
+    → (visit : Visit) → Contains visits visit → (rank : ℕ) → (lacking aim ≡ Some rank → ⊥)
+    → IsTrue (opens (ranks_of terrain.records.table) (lacks (lacking aim)) rank visit)
     → CanLookBehind course (CanAskOf terrain.records.table) visit
-ready-looks {W} terrain aim stands room ready seen left further begun course same walked visits found visit held rank opening =
+ready-looks {W} terrain aim stands room ready left further begun course same walked visits found visit held rank apart opening =
     let for = ready.stands_for in
     let ranks : Ranks = ranks_of terrain.records.table in
     let (groups, are, groups_in, all) = stands-cut ready.part for.is for.prefixes for.list for.are for.stands_are.grids stands for.stands_are.rising for.stands_are.are in
@@ -183,20 +186,20 @@ ready-looks {W} terrain aim stands room ready seen left further begun course sam
     let (sequences, visited) = walked groups are in
     let (grid, group, group_in, here, exact, inside) = visit-found ready.part for.are.prefix for.list.seen course others walk.done walk.rest
     (subst (λ (l : List (List Stand)). AreGroupsIn ready.part for.are.prefix for.list.seen others l) walk.cut behind) visits walk.visits_are visit held in
-    let was : IsTrue for.list.seen ⊎ (ready.part.bound.need ≡ None) = elim seen [
-      | inl is ↦ inl (sym for.seen ∙ is)
-      | inr none ↦ inr (sym for.need ∙ none)
-    ] in
+    let own : Aim = aim_of ready.part for.list.seen in
+    let mine : aim ≡ own = (λ i. record { seen = for.seen i; need = for.need i }) in
     subst (λ (c : Course). CanLookBehind c (CanAskOf terrain.records.table) visit) (sym whole)
     (visit-looks ready.part for.is W terrain.rows.items ready.ground.rows_are terrain.records.places terrain.records.early terrain.records.late
     ranks (CanAskOf terrain.records.table) ready.ground.records_are for.prefixes for.list for.are for.stands_are.grids for.stands_are.rising all groups groups_in sequences
-    (subst (λ (c : Course). AllZip (AreVisits c) groups sequences) whole visited) was grid group group_in here
-    (subst (λ (c : Course). AreVisits c group here) whole exact) visit inside rank opening)
+    (subst (λ (c : Course). AllZip (AreVisits c) groups sequences) whole visited) grid group group_in here
+    (subst (λ (c : Course). AreVisits c group here) whole exact) visit inside rank
+    (λ lack. apart (ap lacking mine ∙ lack))
+    (subst (λ (a : Aim). IsTrue (opens ranks (lacks (lacking a)) rank visit)) mine opening))
 
 -- ---- what several walks count
 
 -- walks over the first of the groups have counted what follows behind each rank
-pub record AreAheadTo (course : Course) (ranks : Ranks) (groups : List (List Stand)) (left : List Stand) (before now : List Behind)
+pub record AreAheadTo (course : Course) (ranks : Ranks) (lack : Option ℕ) (groups : List (List Stand)) (left : List Stand) (before now : List Behind)
     : Type 0 where
   pub done : List (List Stand)
   pub rest : List (List Stand)
@@ -204,11 +207,11 @@ pub record AreAheadTo (course : Course) (ranks : Ranks) (groups : List (List Sta
   pub left_are : AreGroups left rest
   pub sequences : List (List Visit)
   pub walked : AllZip (AreVisits course) done sequences
-  pub added : AreAllAdded course ranks sequences before now
+  pub added : AreAllAdded course ranks lack sequences before now
 
-module _ (course : Course) (ranks : Ranks) where
+module _ (course : Course) (ranks : Ranks) (lack : Option ℕ) where
   -- of no walk yet
-  pub ahead-none : (groups : List (List Stand)) (left : List Stand) → AreGroups left groups → (behinds : List Behind) → AreAheadTo course ranks groups left behinds behinds
+  pub ahead-none : (groups : List (List Stand)) (left : List Stand) → AreGroups left groups → (behinds : List Behind) → AreAheadTo course ranks lack groups left behinds behinds
   ahead-none groups left are behinds = record {
     done = [];
     rest = groups;
@@ -217,17 +220,17 @@ module _ (course : Course) (ranks : Ranks) where
     sequences = [];
     walked = tt;
     added = λ k before after at also.
-        subst (AreAdded course ranks [] before) (same-behind before after k at also) (none-added course ranks [] before tt);
+        subst (AreAdded course ranks lack [] before) (same-behind before after k at also) (none-added course ranks lack [] before tt);
   }
     where
       same-behind : (before after : Behind) (k : ℕ) → slice_get behinds k ≡ Some before → slice_get behinds k ≡ Some after → before ≡ after
       same-behind before after k at also = same_Some before after (sym at ∙ also)
 
   -- and of one more
-  pub ahead-more : (groups : List (List Stand)) (left further : List Stand) (before between now : List Behind) → (to : AreAheadTo course ranks groups left before between)
+  pub ahead-more : (groups : List (List Stand)) (left further : List Stand) (before between now : List Behind) → (to : AreAheadTo course ranks lack groups left before between)
       → (visits : List Visit) → AreWalkedOnce course to.rest further visits → asked_of between ≡ asked_of before → asked_of now ≡ asked_of between
-      → ((sequences : List (List Visit)) → AreSequences visits sequences → AreAllAdded course ranks sequences between now)
-      → AreAheadTo course ranks groups further before now
+      → ((sequences : List (List Visit)) → AreSequences visits sequences → AreAllAdded course ranks lack sequences between now)
+      → AreAheadTo course ranks lack groups further before now
   ahead-more groups left further before between now to visits walk one other more =
       let next = walked-cut course to.rest further visits walk in record {
         done = to.done ++ next.done;
@@ -240,18 +243,18 @@ module _ (course : Course) (ranks : Ranks) where
             let inside : k < length before = slice_get_within before k first at in
             let long : length between ≡ length before = sym (length-map between (λ (b : Behind). b.rank)) ∙ ap length one ∙ length-map before (λ (b : Behind). b.rank) in
             let (middle, there) = get-some between k (omega arith) in
-            more-added course ranks to.sequences next.sequences first middle last (to.added k first middle at there) (more next.sequences next.cut_are k middle last there also);
+            more-added course ranks lack to.sequences next.sequences first middle last (to.added k first middle at there) (more next.sequences next.cut_are k middle last there also);
       }
 
   -- those of all groups
-  pub ahead-all : (groups : List (List Stand)) (left : List Stand) (before now : List Behind) → AreAheadTo course ranks groups left before now → left ≡ []
-      → (all : List (List Visit)) → AllZip (AreVisits course) groups all → AreAllAdded course ranks all before now
+  pub ahead-all : (groups : List (List Stand)) (left : List Stand) (before now : List Behind) → AreAheadTo course ranks lack groups left before now → left ≡ []
+      → (all : List (List Visit)) → AllZip (AreVisits course) groups all → AreAllAdded course ranks lack all before now
   ahead-all groups left before now to nothing all visited =
       let none : to.rest ≡ [] = groups-none to.rest (subst (λ (l : List Stand). AreGroups l to.rest) nothing to.left_are) in
       let whole : groups ≡ to.done = to.cut ∙ ap (λ (l : List (List Stand)). to.done ++ l) none ∙ append-nil to.done in
       let same : to.sequences ≡ all = sequences-unique course to.done to.sequences all to.walked
       (subst (λ (l : List (List Stand)). AllZip (AreVisits course) l all) whole visited) in
-      subst (λ (l : List (List Visit)). AreAllAdded course ranks l before now) same to.added
+      subst (λ (l : List (List Visit)). AreAllAdded course ranks lack l before now) same to.added
 
 -- ---- from nothing on
 
@@ -260,15 +263,28 @@ asked-begun [] = refl
 asked-begun (n ∷ next) = ap (λ (l : List ℕ). n.rank ∷ l) (asked-begun next)
 
 -- what was counted behind ranks behind which nothing was
-pub counted-begun : (course : Course) (ranks : Ranks) (sequences : List (List Visit)) (next : List NextRank) (before now : List Behind) → before ≡ map nothing_behind next
-    → asked_of now ≡ asked_of before → AreAllAdded course ranks sequences before now → AreCountedAhead course ranks sequences now
-counted-begun course ranks sequences next before now begun asked all behind held =
+pub counted-begun : (course : Course) (ranks : Ranks) (lack : Option ℕ) (sequences : List (List Visit)) (next : List NextRank) (before now : List Behind) → before ≡ map nothing_behind next
+    → asked_of now ≡ asked_of before → AreAllAdded course ranks lack sequences before now → AreCountedAhead course ranks lack sequences now
+counted-begun course ranks lack sequences next before now begun asked all behind held =
     let (k, below, is) = held in
     let at : slice_get now k ≡ Some behind = slice_get-get_or now k behind below ∙ ap Some is in
     let long : length now ≡ length before = sym (length-map now (λ (b : Behind). b.rank)) ∙ ap length asked ∙ length-map before (λ (b : Behind). b.rank) in
     let (first, there) = get-some before k (omega arith) in
     let (one, inside, same) = Contains-from nothing_behind next first (subst (λ (l : List Behind). Contains l first) begun (get-held before k first there)) in
-    let added : AreAdded course ranks sequences first behind = all k first behind there at in
+    let added : AreAdded course ranks lack sequences first behind = all k first behind there at in
     let rank_is : one.rank ≡ behind.rank = sym (ap (λ (b : Behind). b.rank) same) ∙ sym added.same in
     let first_is : first ≡ record { rank = behind.rank; counts = replicate 256 0 } = same ∙ (λ i. record { rank = rank_is i; counts = replicate 256 0 }) in
-    subst (λ (b : Behind). AreAdded course ranks sequences b behind) first_is added
+    subst (λ (b : Behind). AreAdded course ranks lack sequences b behind) first_is added
+
+-- no lacking rank is asked about
+pub asked-apart : (lack : Option ℕ) (found : List NextRank) (behinds : List Behind) → behinds ≡ map nothing_behind (filter (is_asked lack) found)
+    → (rank : ℕ) → Contains (asked_of behinds) rank → lack ≡ Some rank → ⊥
+asked-apart lack found behinds begun rank asks is =
+    let ranks : asked_of behinds ≡ map (λ (n : NextRank). n.rank) (filter (is_asked lack) found) = ap asked_of begun ∙ asked-begun (filter (is_asked lack) found) in
+    let (next, held, same) = Contains-from (λ (n : NextRank). n.rank) (filter (is_asked lack) found) rank (subst (λ (l : List ℕ). Contains l rank) ranks asks) in
+    let (inside, asked) = Contains-filter (is_asked lack) found next held in
+    let its : is_asked (Some rank) next ≡ true = subst (λ (o : Option ℕ). is_asked o next ≡ true) is asked in
+    true≢false (sym (second-true (has_places next) (not (next.rank == rank)) its) ∙ ap not (eq-eqb next.rank rank (sym same)))
+
+pub entry-asked : (behinds : List Behind) (behind : Behind) → Contains behinds behind → Contains (asked_of behinds) behind.rank
+entry-asked behinds behind held = Contains-by (λ (b : Behind). b.rank) behinds behind held

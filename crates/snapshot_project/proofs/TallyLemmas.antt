@@ -1,14 +1,11 @@
 -- Sums that were made in one walk or in several.
-use Rattle.std.proofs.Common.{◌≡◌, ℕ, ◌+◌, Bool, List, [], ◌++◌, length, filter, refl, sym, ap, ◌∙◌, subst, arith}
-use Rattle.std.proofs.lemmas.List.{length-append, map-append}
-use Rattle.std.proofs.lemmas.List.Elements.{filter-append}
+use Rattle.std.proofs.Common.{◌≡◌, ℕ, Bool, List, [], refl, subst, arith}
 use Rattle.mine_model.specs.Support.{Sequence, Counts}
 use Rattle.place_walk.specs.declared.visit.Visit.{Visit}
 use Rattle.stand_sums.specs.declared.aim.Aim.{Aim}
 use Rattle.stand_sums.specs.Writings.{Ranks, opens, ends, follows}
-use Rattle.stand_sums.specs.Sequences.{HasOne, weighed, all_weighed}
+use Rattle.stand_sums.specs.Sequences.{HasOne, all_weighed}
 use Rattle.stand_sums.specs.Sums.{Tally, empty_tally, Grows, stands_among, AreCounted}
-use Rattle.stand_sums.proofs.PartLemmas.{grows-more}
 
 -- nothing was counted yet
 pub counted-none : (ranks : Ranks) (aim : Aim) (weights : List ℕ) (rank : ℕ) (tally : Tally) → AreCounted ranks aim weights rank [] [] tally tally

@@ -20,7 +20,7 @@ use Rattle.place_walk.specs.declared.stand.Stand.{Stand}
 use Rattle.place_walk.specs.declared.visit.Visit.{Visit}
 use Rattle.place_walk.specs.Courses.{Course, Holds}
 use Rattle.place_walk.specs.Stands.{IsAt}
-use Rattle.place_walk.specs.Visits.{IsVisit, AreVisits, AreVisitsOf}
+use Rattle.place_walk.specs.Visits.{IsVisit, AreVisitsOf}
 use Rattle.place_walk.proofs.StandLemmas.{one-entry, one-move}
 use Rattle.stand_sums.specs.declared.aim.Aim.{Aim}
 use Rattle.stand_sums.specs.Writings.{Ranks, writes, opens, ends, follows, IsReadable}

@@ -1,8 +1,6 @@
 -- Live states: where a path can stand that has written a prefix and nothing since, and can still complete.
-use Rattle.std.specs.Prelude.{◌≡◌, ℕ, ◌+◌, ◌≤◌, ◌<◌, Bool, ◌⊎◌, ◌↔◌, IsTrue, Some, List, [], ◌++◌, map, length, take, drop, slice_get, AllPairs, Contains}
+use Rattle.std.specs.Prelude.{◌≡◌, ℕ, ◌+◌, ◌≤◌, ◌<◌, Bool, ◌⊎◌, ◌↔◌, IsTrue, Some, List, [], ◌++◌, length, take, drop, slice_get, AllPairs, Contains}
 use Rattle.mine_model.specs.declared.item.Item.{Item}
-use Rattle.mine_model.specs.Database.{sequence_at}
-use Rattle.mine_model.specs.Support.{Sequence}
 use Rattle.fst_compile.specs.Transducer.{Leads}
 use Rattle.mining_job.specs.declared.bound.Bound.{Bound}
 use Rattle.mining_job.specs.Problems.{Problem}

@@ -1,6 +1,7 @@
 //! What a prefix still asks of a path.
 
 ghost use Rattle.std.specs.Prelude.{◌≡◌};
+ghost use Rattle.mask_sums.specs.Kept.{lacking as lacking_of};
 ghost use Rattle.snapshot_project.specs.Aims.{goes, sees};
 
 use stand_sums::Aim;
@@ -13,6 +14,13 @@ pub(crate) fn sees(aim: Aim, rank: u32) -> bool
         Some(need) => aim.seen || need == rank,
         None => true,
     }
+}
+
+/// What is needed and not yet seen.
+pub(crate) fn lacking(aim: Aim) -> Option<u32>
+    ensures { result ≡ lacking_of aim }
+{
+    if aim.seen { None } else { aim.need }
 }
 
 /// Whether paths with this aim need not write what is needed: where something is needed that was seen.

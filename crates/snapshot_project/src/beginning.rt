@@ -12,6 +12,7 @@ ghost use Rattle.mine_model.specs.Limits.{most_length};
 ghost use Rattle.mining_job.specs.declared.bound.Bound.{Bound as Bounded};
 ghost use Rattle.mining_job.specs.Problems.{IsWhole, items_of};
 ghost use Rattle.sequence_grids.specs.Grids.{Completes};
+ghost use Rattle.sequence_grids.specs.Wholes.{IsWholeAlphabet};
 
 use super::part::{Part, bound_by, part_of};
 use super::snapshots::Snapshots;
@@ -20,7 +21,7 @@ use fst_compile::State;
 use mine_model::NoMemory;
 use mining_job::{Bound, Job};
 use place_walk::{Stand, fits};
-use sequence_grids::Grids;
+use sequence_grids::{Alphabet, Grids};
 use stand_sums::Run;
 use std::alloc::Global;
 use std::sync::Arc;
@@ -28,9 +29,11 @@ use std::thread::Threads;
 
 /// The part of these sequences, and what is kept of the empty prefix: it stands at the starts of those that
 /// have a pattern within the bound. With a pivot the part's patterns are those whose greatest rank it is.
+/// What its items may do is cut from the alphabet.
 pub fn begin<'a>(
     alloc: Global,
     job: &'a Job,
+    alphabet: &Alphabet,
     pivot: Option<u32>,
     sequences: Vec<u32>,
 ) -> Result<(Part<'a>, Snapshots), NoMemory>
@@ -38,6 +41,7 @@ pub fn begin<'a>(
     requires within { AllByRecursion (λ i. i < length job.now.sequences) sequences.items }
     requires least { IfSome pivot (λ rank. 1 ≤ rank) }
     requires most { IfSome pivot (λ rank. rank ≤ length job.now.ranking.order) }
+    requires alphabet { IsWholeAlphabet job.now alphabet.now }
     ensures part { IfOk result (λ begun. begun.0 ≡ record {
       problem = job.now;
       bound = bound_of (length job.now.ranking.order) pivot;
@@ -46,7 +50,7 @@ pub fn begin<'a>(
     ensures start { IfOk result (λ begun. (least : ℕ) → IsProjected begun.0 least [] begun.1) }
 {
     let bound = bound_by(job.ranks().count(), pivot);
-    let grids = grids_of(alloc, job, bound, sequences.as_slice())?;
+    let grids = grids_of(alloc, job, alphabet, bound, sequences.as_slice())?;
     let starts = starts_of(alloc, job, &grids)?;
     let last = starts.len();
     let weights = weights_of(alloc, job, sequences.as_slice())?;
@@ -153,20 +157,22 @@ fn begun_at<'a>(
     Ok((part, Snapshots::new(false, 0, run, 0, last)))
 }
 
-// The grids of these sequences.
+// The grids of these sequences, by the alphabet.
 fn grids_of<'a>(
     alloc: Global,
     job: &'a Job,
+    alphabet: &Alphabet,
     bound: Bound,
     sequences: &[u32],
 ) -> Result<Grids<'a>, NoMemory>
-    requires { AllByRecursion (λ i. i < length job.now.sequences) sequences.now }
+    requires within { AllByRecursion (λ i. i < length job.now.sequences) sequences.now }
+    requires alphabet { IsWholeAlphabet job.now alphabet.now }
     ensures { IfOk result (λ grids. grids
         ≡ record { problem = job.now; bound = bound; sequences = sequences.now }) }
 {
     let mut grids = Grids::new(alloc, job, bound)?;
     for number in sequences {
-        grids.push(*number)?;
+        grids.push_by(alphabet, *number)?;
     }
     Ok(grids)
 }

@@ -289,11 +289,11 @@ fn find_by<const W: usize>(
     let longer = look_ahead(
         alloc, over, memo, weights, aim, stands, next, found, least, few, tables,
     )?;
-    if longer.is_some() {
+    if let Some(longer) = longer {
         return Ok(Found {
             ranks,
             run: Run::new(alloc),
-            longer,
+            longer: Some(longer),
         });
     }
     let run = stands_behind(alloc, over, memo, aim, stands, next, found, tables)?;
@@ -304,8 +304,8 @@ fn find_by<const W: usize>(
     })
 }
 
-// The stands of the prefixes with these ranks, in one run.
-fn stands_behind<const W: usize>(
+/// The stands of the prefixes with these ranks, in one run.
+pub(crate) fn stands_behind<const W: usize>(
     alloc: Global,
     over: &Terrain<W>,
     memo: &mut Memo<W>,
@@ -332,6 +332,7 @@ fn stands_behind<const W: usize>(
     ensures moves { memo.new.moves ≡ memo.old.moves }
     ensures sums { tables.new.sums ≡ tables.old.sums }
     ensures room { tables.new.files.room ≡ tables.old.files.room }
+    ensures ahead { tables.new.ahead ≡ tables.old.ahead }
     ensures run { IfOk result (λ run. (groups : List (List Standing)) (sequences : List (List Visited))
         → AreGroups stands.now groups
         → AllZip (AreVisits (course_of memo.old over.now.records.places)) groups sequences
@@ -403,6 +404,7 @@ fn file_stands<const W: usize>(
     ensures moves { memo.new.moves ≡ memo.old.moves }
     ensures sums { tables.new.sums ≡ tables.old.sums }
     ensures room { tables.new.files.room ≡ tables.old.files.room }
+    ensures ahead { tables.new.ahead ≡ tables.old.ahead }
     ensures filed { OnOk result ((groups : List (List Standing)) (sequences : List (List Visited))
         → AreGroups stands.now groups
         → AllZip (AreVisits (course_of memo.old over.now.records.places)) groups sequences
@@ -519,6 +521,7 @@ fn file_again<const W: usize>(
     ensures moves { memo.new.moves ≡ memo.old.moves }
     ensures sums { tables.new.sums ≡ tables.old.sums }
     ensures room { tables.new.files.room ≡ tables.old.files.room }
+    ensures ahead { tables.new.ahead ≡ tables.old.ahead }
     ensures filed { OnOk result ((groups : List (List Standing)) (sequences : List (List Visited))
         → AreGroups stands.now groups
         → AllZip (AreVisits (course_of memo.old over.now.records.places)) groups sequences

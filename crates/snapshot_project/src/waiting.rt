@@ -71,8 +71,8 @@ fn longer_in(
     Ok(longer)
 }
 
-// What is kept of the prefix with the rank.
-fn piece(aim: Aim, next: Counted, run: Arc<Run>) -> Snapshots
+/// What is kept of the prefix with the rank.
+pub(crate) fn piece(aim: Aim, next: Counted, run: Arc<Run>) -> Snapshots
     requires { IsWithin (arc_value run).stands next }
     ensures { result ≡ kept_of aim (arc_value run).stands next }
 {

@@ -8,7 +8,7 @@ use super::files::{Failed, Files};
 use std::alloc::{AllocError, Global};
 
 /// The most bytes that are read at once.
-const PIECE: usize = 4_096;
+const PIECE: usize = 16_384;
 
 /// The most bytes of a file.
 pub(crate) const MOST_FILE_BYTES: usize = 67_108_864;

@@ -16,20 +16,20 @@ sequences-preserved g c =
     let from : ℕ = c.sequences.from in
     let end : ℕ = c.in-Some.end in
     let same : here ≡ course = same-course c.sequences.memo c.args.memo.now c.args.places.now c.sequences.invariant.rows c.sequences.invariant.moves in
-    let read : IsReadTo course ranks asked visits from c.read_sequence.new.gathered end =
-    subst (λ (k : Course). IsReadTo k ranks asked visits from c.read_sequence.new.gathered end) same
-    (subst (IsReadOrNone here ranks asked visits from c.read_sequence.new.gathered) c.in-Some.is c.in_ok-end.ensures.read) in
+    let read : IsReadTo course ranks c.args.lacking asked visits from c.read_sequence.new.gathered end =
+    subst (λ (k : Course). IsReadTo k ranks c.args.lacking asked visits from c.read_sequence.new.gathered end) same
+    (subst (IsReadOrNone here ranks c.args.lacking asked visits from c.read_sequence.new.gathered) c.in-Some.is c.in_ok-end.ensures.read) in
     record {
       rows = c.in_ok-end.ensures.rows ∙ c.sequences.invariant.rows;
       moves = c.in_ok-end.ensures.moves ∙ c.sequences.invariant.moves;
       sets = c.in_ok-end.ensures.sets ∙ c.sequences.invariant.sets;
       room = c.in_ok-count_sequence-in-Some.ensures.room ∙ c.sequences.invariant.room;
       added = λ sequences are.
-          added-more course ranks asked visits from end sequences c.read_sequence.new.gathered c.args.counts.now c.sequences.counts c.count_sequence.new.counts (c.sequences.invariant.added sequences are) read
+          added-more course ranks c.args.lacking asked visits from end sequences c.read_sequence.new.gathered c.args.counts.now c.sequences.counts c.count_sequence.new.counts (c.sequences.invariant.added sequences are) read
           c.in_ok-count_sequence-in-Some.ensures.counted;
     }
 
 pub returns-clause-counted : goal.returns-clause-counted
 returns-clause-counted g c quiet sequences are rank asks =
-    added-all (course_of c.args.memo.now c.args.places.now) (g.T.Outputs.ranks c.args.table.now) c.args.asked.now c.args.visits.now c.sequences.from sequences c.args.counts.now c.sequences.counts
+    added-all (course_of c.args.memo.now c.args.places.now) (g.T.Outputs.ranks c.args.table.now) c.args.lacking c.args.asked.now c.args.visits.now c.sequences.from sequences c.args.counts.now c.sequences.counts
     (c.sequences.invariant.added sequences are) c.sequences-test.false rank asks

@@ -12,7 +12,7 @@ invariant-sequences g l = record {
   sets : length l.gathered.sets.items ≡ length l.fn.gathered.sets.items;
   room : length l.counts ≡ length l.fn.counts;
   added : (sequences : List (List Visit)) → AreSequences l.visits sequences
-      → AreAddedTo (course_of l.fn.memo l.places) (g.T.Outputs.ranks l.table) l.asked l.visits l.from sequences l.fn.counts l.counts;
+      → AreAddedTo (course_of l.fn.memo l.places) (g.T.Outputs.ranks l.table) l.lacking l.asked l.visits l.from sequences l.fn.counts l.counts;
 }
 
 abbrev pub decreases-sequences : goal.decreases-sequences

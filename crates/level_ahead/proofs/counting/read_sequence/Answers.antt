@@ -22,7 +22,7 @@ visits-init g c =
       forward = omega arith;
       within = omega arith;
       here = λ k visit past before at. absurd (omega arith);
-      read = read-start (course_of c.args.memo.now c.args.places.now) (g.T.Outputs.ranks c.args.table.now) c.args.asked.now c.args.visits.now c.args.from c.forget.new.self c.forget.ensures.none;
+      read = read-start (course_of c.args.memo.now c.args.places.now) (g.T.Outputs.ranks c.args.table.now) c.args.lacking c.args.asked.now c.args.visits.now c.args.from c.forget.new.self c.forget.ensures.none;
     }
 
 pub visits-preserved : goal.visits-preserved
@@ -37,8 +37,8 @@ visits-preserved g c =
     let inside : end < length visits = c.visits-test.true in
     let same : course_of c.visits.memo c.args.places.now ≡ course = same-course c.visits.memo c.args.memo.now c.args.places.now c.visits.invariant.rows c.visits.invariant.moves in
     let quiet : c.in_ok-read_visit.field-0 ≡ true = c.if-not-branch.false in
-    let step : IsVisitRead course ranks asked (get_or visits end blank) c.visits.gathered c.read_visit.new.gathered =
-    subst (λ (k : Course). IsVisitRead k ranks asked (get_or visits end blank) c.visits.gathered c.read_visit.new.gathered) same (record {
+    let step : IsVisitRead course ranks c.args.lacking asked (get_or visits end blank) c.visits.gathered c.read_visit.new.gathered =
+    subst (λ (k : Course). IsVisitRead k ranks c.args.lacking asked (get_or visits end blank) c.visits.gathered c.read_visit.new.gathered) same (record {
       touched = λ rank has. c.in_ok-read_visit.ensures.touched rank has;
       met = λ rank other asks. c.in_ok-read_visit.ensures.gathered quiet rank other asks;
       ended = λ rank asks goes. c.in_ok-read_visit.ensures.ended quiet rank asks goes;
@@ -58,7 +58,7 @@ visits-preserved g c =
             ]
         | inr other ↦ c.visits.invariant.here k visit past (omega arith) at
       ];
-      read = read-more course ranks asked visits from end blank c.visits.gathered c.read_visit.new.gathered forward inside c.visits.invariant.read step;
+      read = read-more course ranks c.args.lacking asked visits from end blank c.visits.gathered c.read_visit.new.gathered forward inside c.visits.invariant.read step;
     }
 
 pub returns-else-not-visits-end-clause-read : goal.returns-else-not-visits-end-clause-read

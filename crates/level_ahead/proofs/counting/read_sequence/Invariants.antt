@@ -14,7 +14,7 @@ invariant-visits g l = record {
   forward : l.from ≤ l.end;
   within : l.end ≤ length l.visits;
   here : (k : ℕ) (visit : Visit) → l.from < k → k < l.end → slice_get l.visits k ≡ Some visit → visit.first ≡ false;
-  read : AreRead (course_of l.fn.memo l.places) (g.T.Outputs.ranks l.table) l.asked (slice_range l.visits l.from l.end) l.gathered;
+  read : AreRead (course_of l.fn.memo l.places) (g.T.Outputs.ranks l.table) l.lacking l.asked (slice_range l.visits l.from l.end) l.gathered;
 }
 
 abbrev pub decreases-visits : goal.decreases-visits

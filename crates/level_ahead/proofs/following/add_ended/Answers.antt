@@ -1,4 +1,4 @@
-use Rattle.std.proofs.Common.{ℕ, List, [], ◌∷◌, map, take, get_or, sym, subst, arith}
+use Rattle.std.proofs.Common.{ℕ, None, List, [], ◌∷◌, map, take, get_or, sym, subst, arith}
 use Rattle.std.proofs.lemmas.List.{take_all}
 use Rattle.std.proofs.lemmas.List.Elements.{Contains-get_or}
 use Rattle.mine_model.proofs.ListLemmas.{Contains-by}
@@ -19,7 +19,7 @@ returns-then-action-clause-goes g c stays place =
 
 pub loop-action-init : goal.loop-action-init
 loop-action-init g c = record {
-  ended = λ place. ended-none (g.T.Outputs.ranks c.args.table.now) c.args.ranks.now;
+  ended = λ place. ended-none (g.T.Outputs.ranks c.args.table.now) None c.args.ranks.now;
 }
 
 pub loop-action-preserved : goal.loop-action-preserved
@@ -32,8 +32,8 @@ loop-action-preserved g c =
       ended = λ place.
           let one : Visit = visit_of place c.args.kind (get_or actions k idle) in
           let before : List Visit = map (visit_of place c.args.kind) (take k actions) in
-          subst (λ (vs : List Visit). HasEnded ranks vs c.args.ranks.now c.if-action-2.ranks) (sym (mapped-more ranks place c.args.kind actions k idle inside))
-          (ended-both ranks before (one ∷ []) c.args.ranks.now c.loop-action.ranks c.if-action-2.ranks (c.loop-action.invariant.ended place)
+          subst (λ (vs : List Visit). HasEnded ranks None vs c.args.ranks.now c.if-action-2.ranks) (sym (mapped-more ranks place c.args.kind actions k idle inside))
+          (ended-both ranks None before (one ∷ []) c.args.ranks.now c.loop-action.ranks c.if-action-2.ranks (c.loop-action.invariant.ended place)
           (elim c.if-action-2.branch [
             | then-action-2 w ↦
                 rw w.ranks-is
@@ -46,5 +46,5 @@ pub returns-clause-ended : goal.returns-clause-ended
 returns-clause-ended g c _ place =
     let ranks = g.T.Outputs.ranks c.args.table.now in
     let actions : List Action = c.args.actions.now in
-    subst (λ (l : List Action). HasEnded ranks (map (visit_of place c.args.kind) l) c.args.ranks.now c.loop-action.ranks)
+    subst (λ (l : List Action). HasEnded ranks None (map (visit_of place c.args.kind) l) c.args.ranks.now c.loop-action.ranks)
     (take_all c.loop-action.action-index actions (let past = c.loop-action-test.false in omega arith)) (c.loop-action.invariant.ended place)

@@ -11,6 +11,7 @@ use Rattle.place_walk.specs.Ways.{IsStepOver, IsOnWay, with_first}
 use Rattle.place_walk.proofs.JoinLemmas.{numbered-set, joined-within, joined-set}
 use Rattle.place_walk.proofs.StandLemmas.{same-course}
 use Rattle.stand_sums.specs.Sequences.{HasOne}
+use Rattle.level_ahead.specs.Behind.{goes_further}
 use Rattle.level_ahead.specs.Following.{HasEnded}
 use Rattle.level_ahead.proofs.FollowLemmas.{alone, ended-both, ended-marked, way-begins, way-goes, way-ends, way-held}
 use Rattle.level_ahead.proofs.following.follow_behind.Given.{Over}
@@ -44,6 +45,7 @@ read_place-requires g c =
     let width = c.requires.width in
     let place = c.requires.place in
     let kept = c.requires.kept in
+    let few_ranks = c.requires.few_ranks in
     let moves : All (λ (e : Record). e.of < length c.join.new.self.moves) c.args.places.now = rw c.join.ensures.memo.moves c.requires.moves in
     let number : c.in_ok-start.start < length c.join.new.self.sets = joined-within c.join.new.self 0 c.from.result c.in_ok-start.start (joined g there) in
     let asked : (after : ℕ) (more : List Visit) → IsStepOver (course_of c.join.new.self c.args.places.now) c.args.visit.place (start g there) after more
@@ -56,7 +58,7 @@ returns-in-None-clause-none g c =
     let there : In_ok-start g = (goal.at.returns-in-None-clause-none g c).In_ok-start in
     let (after, more, over, (one, held, goes)) =
     subst (λ (o : Option ℕ). IfNone o ((after : ℕ) × (more : List Visit) × IsStepOver (course_of c.join.new.self c.args.places.now) c.args.visit.place (start g there) after more
-    × HasOne (λ visit. visit.action.more) more)) c.in-None.is c.in_ok-next.ensures.none in
+    × HasOne (goes_further (g.T.Outputs.ranks c.args.table.now) c.args.lacking) more)) c.in-None.is c.in_ok-next.ensures.none in
     (one, way-held (course g there) c.args.visit (c.args.visit.place + 1) after more (first g there after more over) one held, goes)
 
 pub places-init : goal.places-init
@@ -65,7 +67,7 @@ places-init g c =
     let (more, over, ended) =
     subst (λ (o : Option ℕ). IfSome o (λ next. (more : List Visit)
     × IsStepOver (course_of c.join.new.self c.args.places.now) c.args.visit.place (start g there) (slice_index c.read_place.new.memo.sets next) more
-    × HasEnded (g.T.Outputs.ranks c.args.table.now) more c.new-ranks.result c.read_place.new.ranks)) c.in-Some.is c.in_ok-next.ensures.some in
+    × HasEnded (g.T.Outputs.ranks c.args.table.now) c.args.lacking more c.new-ranks.result c.read_place.new.ranks)) c.in-Some.is c.in_ok-next.ensures.some in
     record {
       rows = c.in_ok-next.ensures.rows ∙ c.join.ensures.memo.rows;
       moves = c.in_ok-next.ensures.moves ∙ c.join.ensures.memo.moves;
@@ -74,7 +76,7 @@ places-init g c =
       found = (
         more,
         first g there (slice_index c.read_place.new.memo.sets c.in-Some.next) more over,
-        subst (λ (s : ℕ). HasEnded (g.T.Outputs.ranks c.args.table.now) more s c.read_place.new.ranks) c.new-ranks.ensures ended,
+        subst (λ (s : ℕ). HasEnded (g.T.Outputs.ranks c.args.table.now) c.args.lacking more s c.read_place.new.ranks) c.new-ranks.ensures ended,
       );
     }
 
@@ -104,6 +106,7 @@ read_place-requires-in-places g c =
     let width = c.requires.width in
     let place : c.places.place < length c.args.places.now = omega (arith, c.if-place-end.true, c.len-end.ensures) in
     let kept = c.requires.kept in
+    let few_ranks = c.requires.few_ranks in
     let moves : All (λ (e : Record). e.of < length c.places.memo.moves) c.args.places.now = rw c.places.invariant.moves c.requires.moves in
     let number : c.places.set < length c.places.memo.sets = c.places.invariant.number in
     let asked : (after : ℕ) (more : List Visit) → IsStepOver (course_of c.places.memo c.args.places.now) c.places.place (set-at g there) after more
@@ -117,7 +120,7 @@ returns-in-None-2-clause-none g c =
     let there : Then-place-end g = (goal.at.returns-in-None-2-clause-none g c).Then-place-end in
     let (after, more, over, (one, held, goes)) =
     subst (λ (o : Option ℕ). IfNone o ((after : ℕ) × (more : List Visit) × IsStepOver (course_of c.places.memo c.args.places.now) c.places.place (set-at g there) after more
-    × HasOne (λ visit. visit.action.more) more)) c.in-None-2.is c.in_ok-next-2.ensures.none in (
+    × HasOne (goes_further (g.T.Outputs.ranks c.args.table.now) c.args.lacking) more)) c.in-None-2.is c.in_ok-next-2.ensures.none in (
       one,
       way-held (over-places g there) c.args.visit (c.places.place + 1) after (c.places.invariant.found.0 ++ more) (next g there after more over) one
           (Contains-append_right c.places.invariant.found.0 more one held),
@@ -130,7 +133,7 @@ places-preserved g c =
     let (more, over, ended) =
     subst (λ (o : Option ℕ). IfSome o (λ next. (more : List Visit)
     × IsStepOver (course_of c.places.memo c.args.places.now) c.places.place (set-at g there) (slice_index c.read_place-in-places.new.memo.sets next) more
-    × HasEnded (g.T.Outputs.ranks c.args.table.now) more c.places.ranks c.read_place-in-places.new.ranks)) c.in-Some-2.is c.in_ok-next-2.ensures.some in
+    × HasEnded (g.T.Outputs.ranks c.args.table.now) c.args.lacking more c.places.ranks c.read_place-in-places.new.ranks)) c.in-Some-2.is c.in_ok-next-2.ensures.some in
     record {
       rows = c.in_ok-next-2.ensures.rows ∙ c.places.invariant.rows;
       moves = c.in_ok-next-2.ensures.moves ∙ c.places.invariant.moves;
@@ -139,7 +142,7 @@ places-preserved g c =
       found = (
         c.places.invariant.found.0 ++ more,
         next g there (slice_index c.read_place-in-places.new.memo.sets c.in-Some-2.next) more over,
-        ended-both (g.T.Outputs.ranks c.args.table.now) c.places.invariant.found.0 more 0 c.places.ranks c.read_place-in-places.new.ranks c.places.invariant.found.2 ended,
+        ended-both (g.T.Outputs.ranks c.args.table.now) c.args.lacking c.places.invariant.found.0 more 0 c.places.ranks c.read_place-in-places.new.ranks c.places.invariant.found.2 ended,
       );
     }
 
@@ -152,4 +155,4 @@ returns-clause-some g c =
       | then-places-test+else-place-end w ↦ inl (omega (arith, w.if-place-end.false, c.len-end.ensures))
       | else-places-test w ↦ inr (get_or_from_slice_get c.places.memo.sets c.places.set 0 0 (c.is_empty.ensures.0 w.places-test.false))
     ] in
-    (with_first here, way-ends course_is c.args.visit c.places.place set here way stops, ended-marked (g.T.Outputs.ranks c.args.table.now) here 0 c.places.ranks ended)
+    (with_first here, way-ends course_is c.args.visit c.places.place set here way stops, ended-marked (g.T.Outputs.ranks c.args.table.now) c.args.lacking here 0 c.places.ranks ended)

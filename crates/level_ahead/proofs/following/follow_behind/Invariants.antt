@@ -14,7 +14,7 @@ invariant-places g l = record {
   moves : l.memo.moves ≡ l.fn.memo.moves;
   inside : l.place ≤ l.end;
   number : l.set < length l.memo.sets;
-  found : (here : List Visit) × IsOnWay (course_of l.fn.memo l.places) (alone l.fn.visit) 1 l.place (slice_index l.memo.sets l.set) here × HasEnded (g.T.Outputs.ranks l.table) here 0 l.ranks;
+  found : (here : List Visit) × IsOnWay (course_of l.fn.memo l.places) (alone l.fn.visit) 1 l.place (slice_index l.memo.sets l.set) here × HasEnded (g.T.Outputs.ranks l.table) l.lacking here 0 l.ranks;
 }
 
 abbrev pub decreases-places : goal.decreases-places

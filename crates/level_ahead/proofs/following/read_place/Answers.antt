@@ -14,6 +14,7 @@ use Rattle.place_walk.specs.Courses.{course_of}
 use Rattle.place_walk.specs.Ways.{IsStepOver, visit_of}
 use Rattle.place_walk.proofs.JoinLemmas.{numbered-set}
 use Rattle.stand_sums.specs.Sequences.{HasOne}
+use Rattle.level_ahead.specs.Behind.{goes_further}
 use Rattle.level_ahead.specs.Following.{HasEnded}
 use Rattle.level_ahead.proofs.following.read_place.Given.{Over}
 use Rattle.level_ahead.proofs.following.read_place.Goals as goal
@@ -67,9 +68,9 @@ actions-requires g c =
     let within : c.in_ok-step.step.last ≤ length c.step.new.self.actions = step.within in
     search rules
 
-pub add_ended-requires-clause-asked : goal.add_ended-requires-clause-asked
-add_ended-requires-clause-asked g c k d inside =
-    let there : In_ok-step g = (goal.at.add_ended-requires-clause-asked g c).In_ok-step in
+pub add_following-requires-clause-asked : goal.add_following-requires-clause-asked
+add_following-requires-clause-asked g c k d inside =
+    let there : In_ok-step g = (goal.at.add_following-requires-clause-asked g c).In_ok-step in
     let list : List Action = c.actions.result.now in
     let one : Action = get_or list k d in
     let held : Contains (actions g there) one = subst (λ (l : List Action). Contains l one) c.actions.ensures (Contains-get_or list k d inside) in
@@ -77,26 +78,26 @@ add_ended-requires-clause-asked g c k d inside =
     (c.requires.asked (slice_index c.step.new.self.sets c.in_ok-step.step.next) (visits g there) (over g there))
     (Contains-by (visit_of (c.args.place + 1) c.get-entry.result.kind) (actions g there) one held)
 
-pub returns-then-add_ended-clause-number : goal.returns-then-add_ended-clause-number
-returns-then-add_ended-clause-number g c =
-    let step = is g (goal.at.returns-then-add_ended-clause-number g c).In_ok-step in
+pub returns-then-add_following-clause-number : goal.returns-then-add_following-clause-number
+returns-then-add_following-clause-number g c =
+    let step = is g (goal.at.returns-then-add_following-clause-number g c).In_ok-step in
     slice_get_within c.step.new.self.sets c.in_ok-step.step.next step.after step.numbered
 
-pub returns-then-add_ended-clause-some : goal.returns-then-add_ended-clause-some
-returns-then-add_ended-clause-some g c =
-    let there : In_ok-step g = (goal.at.returns-then-add_ended-clause-some g c).In_ok-step in (
+pub returns-then-add_following-clause-some : goal.returns-then-add_following-clause-some
+returns-then-add_following-clause-some g c =
+    let there : In_ok-step g = (goal.at.returns-then-add_following-clause-some g c).In_ok-step in (
       visits g there,
       over g there,
-      subst (λ (l : List Action). HasEnded (g.T.Outputs.ranks c.args.table.now) (map (visit_of (c.args.place + 1) c.get-entry.result.kind) l) c.args.ranks.now c.add_ended.new.ranks)
-          c.actions.ensures (c.add_ended.ensures.ended c.if-add_ended.true (c.args.place + 1)),
+      subst (λ (l : List Action). HasEnded (g.T.Outputs.ranks c.args.table.now) c.args.lacking (map (visit_of (c.args.place + 1) c.get-entry.result.kind) l) c.args.ranks.now c.add_following.new.ranks)
+          c.actions.ensures (c.add_following.ensures.ended c.if-add_following.true (c.args.place + 1)),
     )
 
-pub returns-else-add_ended-clause-none : goal.returns-else-add_ended-clause-none
-returns-else-add_ended-clause-none g c =
-    let there : In_ok-step g = (goal.at.returns-else-add_ended-clause-none g c).In_ok-step in (
+pub returns-else-add_following-clause-none : goal.returns-else-add_following-clause-none
+returns-else-add_following-clause-none g c =
+    let there : In_ok-step g = (goal.at.returns-else-add_following-clause-none g c).In_ok-step in (
       slice_index c.step.new.self.sets c.in_ok-step.step.next,
       visits g there,
       over g there,
-      subst (λ (l : List Action). HasOne (λ visit. visit.action.more) (map (visit_of (c.args.place + 1) c.get-entry.result.kind) l)) c.actions.ensures
-          (c.add_ended.ensures.goes c.if-add_ended.false (c.args.place + 1)),
+      subst (λ (l : List Action). HasOne (goes_further (g.T.Outputs.ranks c.args.table.now) c.args.lacking) (map (visit_of (c.args.place + 1) c.get-entry.result.kind) l)) c.actions.ensures
+          (c.add_following.ensures.goes c.if-add_following.false (c.args.place + 1)),
     )

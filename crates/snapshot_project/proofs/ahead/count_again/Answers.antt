@@ -1,7 +1,6 @@
-use Rattle.std.proofs.Common.{◌≡◌, ◌∙◌, ℕ, ◌<◌, ◌^◌, IsTrue, List, length, drop, refl, sym, subst, arith, rules}
+use Rattle.std.proofs.Common.{◌≡◌, ◌∙◌, ℕ, ◌<◌, ◌^◌, IsTrue, Option, Some, List, length, drop, refl, sym, subst, arith, rules}
 use Rattle.std.proofs.Math.ListN.{drop_of_length-le}
 use Rattle.std.specs.List.{All, Contains}
-use Rattle.walk_places.specs.declared.places.Record.{Record}
 use Rattle.place_walk.specs.declared.stand.Stand.{Stand}
 use Rattle.place_walk.specs.declared.visit.Visit.{Visit}
 use Rattle.place_walk.specs.Courses.{Course, course_of}
@@ -9,9 +8,9 @@ use Rattle.place_walk.specs.Groups.{AreGroups, AreWalked as AreWalkedOnce}
 use Rattle.place_walk.proofs.StandLemmas.{same-course}
 use Rattle.stand_sums.specs.Sequences.{AreSequences}
 use Rattle.stand_sums.specs.Writings.{Ranks, opens, IsReadable}
-use Rattle.mask_sums.specs.Kept.{free}
+use Rattle.mask_sums.specs.Kept.{lacks, lacking}
 use Rattle.level_ahead.specs.Behind.{CanLookBehind}
-use Rattle.level_ahead.specs.Counts.{Behind, asked_of, AreAdded}
+use Rattle.level_ahead.specs.Counts.{asked_of, AreAdded}
 use Rattle.place_records.specs.Ranks.{RanksValue, ranks_of, CanAskOf}
 use Rattle.place_records.specs.Values.{moves_for}
 use Rattle.snapshot_project.specs.Ahead.{AreAllAdded}
@@ -29,7 +28,7 @@ walks-init g c = record {
   within = omega arith;
   asked = refl;
   added = λ groups are.
-      ahead-none (course_of c.args.memo.now c.args.over.now.records.places) (ranks_of c.args.over.now.records.table) groups c.args.stands.now are c.args.tables.now.ahead;
+      ahead-none (course_of c.args.memo.now c.args.over.now.records.places) (ranks_of c.args.over.now.records.table) (lacking c.args.aim) groups c.args.stands.now are c.args.tables.now.ahead;
 }
 
 pub walk_some-requires : goal.walk_some-requires
@@ -77,13 +76,15 @@ add-requires g c =
     let kept : IsTrue c.table-table.result.now.keeps = rw c.table-table.ensures c.requires.keeps in
     let asked : All (λ (visit : Visit). CanAskOf c.table-table.result.now visit.kind visit.action.state) c.as_slice-visits.result.now =
     rw (c.table-table.ensures, c.as_slice-visits.ensures) (λ k d below. (readable k d below).asked) in
-    let behind : (visit : Visit) (rank : ℕ) → Contains c.as_slice-visits.result.now visit → Contains (asked_of c.walks.tables.ahead) rank → IsTrue (opens (ranks_of c.table-table.result.now) free rank visit)
+    let apart : (rank : ℕ) → Contains (asked_of c.walks.tables.ahead) rank → lacking c.args.aim ≡ Some rank → ⊥ = λ rank asks.
+    c.requires.apart rank (subst (λ (l : List ℕ). Contains l rank) c.walks.invariant.asked asks) in
+    let behind : (visit : Visit) (rank : ℕ) → Contains c.as_slice-visits.result.now visit → Contains (asked_of c.walks.tables.ahead) rank → IsTrue (opens (ranks_of c.table-table.result.now) (lacks (lacking c.args.aim)) rank visit)
     → CanLookBehind (course_of c.walk_some.new.memo c.places-in-walks.result.now) (CanAskOf c.table-table.result.now) visit = λ visit rank held asks opening.
     subst (λ (k : Course). CanLookBehind k (CanAskOf c.table-table.result.now) visit) (sym here)
     (subst (λ (t : RanksValue). CanLookBehind course (CanAskOf t) visit) (sym c.table-table.ensures)
-    (ready-looks c.args.over.now c.args.aim c.args.stands.now room c.requires.ready c.requires.seen left further begun course known c.requires.walked c.walk_some.new.visits found
-    visit (subst (λ (l : List Visit). Contains l visit) c.as_slice-visits.ensures held) rank
-    (subst (λ (t : RanksValue). IsTrue (opens (ranks_of t) free rank visit)) c.table-table.ensures opening))) in
+    (ready-looks c.args.over.now c.args.aim c.args.stands.now room c.requires.ready left further begun course known c.requires.walked c.walk_some.new.visits found
+    visit (subst (λ (l : List Visit). Contains l visit) c.as_slice-visits.ensures held) rank (apart rank asks)
+    (subst (λ (t : RanksValue). IsTrue (opens (ranks_of t) (lacks (lacking c.args.aim)) rank visit)) c.table-table.ensures opening))) in
     let width = c.requires.width in
     search rules
 
@@ -98,11 +99,12 @@ walks-preserved g c =
     (c.in_ok-from.ensures.rows ∙ c.walks.invariant.rows) (c.in_ok-from.ensures.moves ∙ c.walks.invariant.moves)) in
     let left : List Stand = drop c.walks.from c.args.stands.now in
     let further : List Stand = drop c.in_ok-from.from c.args.stands.now in
-    let more : (sequences : List (List Visit)) → AreSequences c.walk_some.new.visits sequences → AreAllAdded course ranks sequences c.walks.tables.ahead c.add.new.self =
+    let more : (sequences : List (List Visit)) → AreSequences c.walk_some.new.visits sequences → AreAllAdded course ranks (lacking c.args.aim) sequences c.walks.tables.ahead c.add.new.self =
     λ sequences cut k one other at also.
-    subst (λ (w : Course). AreAdded w ranks sequences one other) here
-    (subst (λ (t : RanksValue). AreAdded (course_of c.walk_some.new.memo c.places-in-walks.result.now) (ranks_of t) sequences one other) c.table-table.ensures
-    (c.in_ok-add.ensures.counted c.if-not-branch.false sequences (subst (λ (l : List Visit). AreSequences l sequences) (sym c.as_slice-visits.ensures) cut) k one other at also)) in
+    subst (λ (w : Course). AreAdded w ranks (lacking c.args.aim) sequences one other) here
+    (subst (λ (t : RanksValue). AreAdded (course_of c.walk_some.new.memo c.places-in-walks.result.now) (ranks_of t) (lacking c.args.aim) sequences one other) c.table-table.ensures
+    (subst (λ (o : Option ℕ). AreAdded (course_of c.walk_some.new.memo c.places-in-walks.result.now) (ranks_of c.table-table.result.now) o sequences one other) c.lacking.ensures
+    (c.in_ok-add.ensures.counted c.if-not-branch.false sequences (subst (λ (l : List Visit). AreSequences l sequences) (sym c.as_slice-visits.ensures) cut) k one other at also))) in
     record {
       rows = c.in_ok-add.ensures.rows ∙ c.in_ok-from.ensures.rows ∙ c.walks.invariant.rows;
       moves = c.in_ok-add.ensures.moves ∙ c.in_ok-from.ensures.moves ∙ c.walks.invariant.moves;
@@ -112,12 +114,12 @@ walks-preserved g c =
       asked = c.in_ok-add.ensures.asked ∙ c.walks.invariant.asked;
       added = λ groups are.
           let to = c.walks.invariant.added groups are in
-          ahead-more course ranks groups left further c.args.tables.now.ahead c.walks.tables.ahead c.add.new.self to c.walk_some.new.visits
+          ahead-more course ranks (lacking c.args.aim) groups left further c.args.tables.now.ahead c.walks.tables.ahead c.add.new.self to c.walk_some.new.visits
           (subst (λ (w : Course). AreWalkedOnce w to.rest further c.walk_some.new.visits) before (c.in_ok-from.ensures.walked to.rest to.left_are))
           c.walks.invariant.asked c.in_ok-add.ensures.asked more;
     }
 
 pub returns-clause-counted : goal.returns-clause-counted
 returns-clause-counted g c ended groups sequences are visited =
-    ahead-all (course_of c.args.memo.now c.args.over.now.records.places) (ranks_of c.args.over.now.records.table) groups (drop c.walks.from c.args.stands.now)
+    ahead-all (course_of c.args.memo.now c.args.over.now.records.places) (ranks_of c.args.over.now.records.table) (lacking c.args.aim) groups (drop c.walks.from c.args.stands.now)
     c.args.tables.now.ahead c.walks.tables.ahead (c.walks.invariant.added groups are) (drop_of_length-le c.args.stands.now (omega (arith, c.walks-test.false))) sequences visited

@@ -2,6 +2,7 @@ use Rattle.std.proofs.Common.{◌≡◌, ◌-◌, ◌≤◌, List, length, drop}
 use Rattle.place_walk.specs.declared.stand.Stand.{Stand}
 use Rattle.place_walk.specs.Courses.{course_of}
 use Rattle.place_walk.specs.Groups.{AreGroups}
+use Rattle.mask_sums.specs.Kept.{lacking}
 use Rattle.level_ahead.specs.Counts.{asked_of}
 use Rattle.place_records.specs.Ranks.{ranks_of}
 use Rattle.snapshot_project.proofs.LookLemmas.{AreAheadTo}
@@ -16,7 +17,7 @@ invariant-walks g l = record {
   within : l.from ≤ length l.stands;
   asked : asked_of l.tables.ahead ≡ asked_of l.initial.tables.ahead;
   added : (groups : List (List Stand)) → AreGroups l.stands groups
-      → AreAheadTo (course_of l.initial.memo l.over.records.places) (ranks_of l.over.records.table) groups (drop l.from l.stands) l.initial.tables.ahead l.tables.ahead;
+      → AreAheadTo (course_of l.initial.memo l.over.records.places) (ranks_of l.over.records.table) (lacking l.aim) groups (drop l.from l.stands) l.initial.tables.ahead l.tables.ahead;
 }
 
 abbrev pub decreases-walks : goal.decreases-walks

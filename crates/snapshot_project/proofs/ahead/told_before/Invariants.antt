@@ -1,5 +1,4 @@
 use Rattle.std.proofs.Common.{◌≡◌, map, take}
-use Rattle.std.specs.Arc.{arc_value}
 use Rattle.snapshot_project.specs.Ahead.{next_of, last_of}
 use Rattle.snapshot_project.proofs.ahead.told_before.Given as goal
 

@@ -18,6 +18,7 @@ walks-init g c = record {
   moves = refl;
   sums = refl;
   room = refl;
+  ahead = refl;
   within = omega arith;
   filed = λ groups are.
       filed-none (course_of c.args.memo.now c.args.over.now.records.places) (ranks_of c.args.over.now.records.table) c.args.aim c.args.found.now groups c.args.stands.now are c.args.tables.now.files.filed c.requires.begun;
@@ -81,6 +82,7 @@ walks-preserved g c =
       moves = c.walk_some.ensures.moves ∙ c.walks.invariant.moves;
       sums = c.walks.invariant.sums;
       room = c.file.ensures.room ∙ c.walks.invariant.room;
+      ahead = c.walks.invariant.ahead;
       within = c.in_ok-from.ensures.within;
       filed = λ groups are.
           let filed = c.walks.invariant.filed groups are in

@@ -12,6 +12,7 @@ invariant-walks g l = record {
   moves : l.memo.moves ≡ l.initial.memo.moves;
   sums : l.tables.sums ≡ l.initial.tables.sums;
   room : l.tables.files.room ≡ l.initial.tables.files.room;
+  ahead : l.tables.ahead ≡ l.initial.tables.ahead;
   within : l.from ≤ length l.stands;
   filed : (groups : List (List Stand)) → AreGroups l.stands groups
       → AreFiledTo (course_of l.initial.memo l.over.records.places) (ranks_of l.over.records.table) l.aim l.found groups (drop l.from l.stands) l.tables.files.filed;

@@ -1,4 +1,4 @@
-use Rattle.std.proofs.Common.{◌≡◌, ◌∙◌, ℕ, ◌≤◌, ◌<◌, IsTrue, List, [], length, map, sym, ap, subst, rules}
+use Rattle.std.proofs.Common.{◌≡◌, ◌∙◌, ℕ, ◌≤◌, ◌<◌, IsTrue, List, [], length, sym, ap, subst, rules}
 use Rattle.std.specs.List.{All, AllPairs, AllZip}
 use Rattle.place_walk.specs.declared.stand.Stand.{Stand}
 use Rattle.place_walk.specs.declared.visit.Visit.{Visit}
@@ -14,7 +14,7 @@ use Rattle.place_records.specs.Values.{moves_for}
 use Rattle.snapshot_project.specs.Aims.{goes}
 use Rattle.snapshot_project.specs.Founds.{IsReady, AreWalked}
 use Rattle.snapshot_project.specs.Longer.{HaveAllPlaces}
-use Rattle.snapshot_project.proofs.FoundLemmas.{next-below, summed-sequences}
+use Rattle.snapshot_project.proofs.FoundLemmas.{next-below, summed-sequences, none-holds}
 use Rattle.snapshot_project.proofs.growing.find_by.Goals as goal
 
 pub look_ahead-requires : goal.look_ahead-requires
@@ -31,11 +31,17 @@ look_ahead-requires g c =
     rw c.as_slice-found.ensures.value (next-below c.args.least c.args.least c.count_all.new.tables.sums found c.in_ok-ranks.ensures) in
     let same : course_of c.args.memo.now places ≡ course_of c.count_all.new.memo places =
     sym (same-course c.count_all.new.memo c.args.memo.now places c.count_all.ensures.rows c.count_all.ensures.moves) in
-    let walked : (groups : List (List Stand)) → AreGroups c.args.stands.now groups
-    → (sequences : List (List Visit)) × AllZip (AreVisits (course_of c.count_all.new.memo places)) groups sequences = λ groups are.
-    let (sequences, visited, rest) = summed-sequences (course_of c.args.memo.now places) groups (ranks_of c.args.over.now.records.table) c.args.aim c.args.weights.now c.count_all.new.tables.sums
-    (c.in_ok-next.ensures.counted groups are) c.args.least found c.in_ok-ranks.ensures in
-    (sequences, subst (λ (course : Course). AllZip (AreVisits course) groups sequences) same visited) in
+    let all : (groups : List (List Stand)) → AreGroups c.args.stands.now groups
+    → (sequences : List (List Visit)) × AllZip (AreVisits (course_of c.count_all.new.memo places)) groups sequences
+    × HaveAllPlaces (ranks_of c.args.over.now.records.table) c.args.aim sequences c.as_slice-found.result.now = λ groups are.
+    subst (λ (l : List NextRank). (sequences : List (List Visit)) × AllZip (AreVisits (course_of c.count_all.new.memo places)) groups sequences
+    × HaveAllPlaces (ranks_of c.args.over.now.records.table) c.args.aim sequences l) (sym c.as_slice-found.ensures.value)
+    (subst (λ (course : Course). (sequences : List (List Visit)) × AllZip (AreVisits course) groups sequences
+    × HaveAllPlaces (ranks_of c.args.over.now.records.table) c.args.aim sequences found) same
+    (summed-sequences (course_of c.args.memo.now places) groups (ranks_of c.args.over.now.records.table) c.args.aim c.args.weights.now c.count_all.new.tables.sums
+    (c.in_ok-next.ensures.counted groups are) c.args.least found c.in_ok-ranks.ensures)) in
+    let room : c.count_all.new.tables.files.room ≡ length c.count_all.new.tables.sums =
+    ap (λ (f : FilesValue). f.room) c.count_all.ensures.files ∙ c.requires.room ∙ sym c.count_all.ensures.sums in
     let visits : length c.args.stands.now ≤ c.in_ok-next.next → (groups : List (List Stand)) → AreGroups c.args.stands.now groups
     → AreWalked (course_of c.count_all.new.memo places) groups [] c.count_all.new.tables.visits =
     subst (λ (course : Course). length c.args.stands.now ≤ c.in_ok-next.next → (groups : List (List Stand)) → AreGroups c.args.stands.now groups
@@ -48,7 +54,7 @@ stands_behind-requires g c =
     let places = c.args.over.now.records.places in
     let width = c.requires.width in
     let room : c.look_ahead.new.tables.files.room ≡ length c.args.tables.now.sums =
-    ap (λ (f : FilesValue). f.room) c.look_ahead.ensures.files ∙ ap (λ (f : FilesValue). f.room) c.count_all.ensures.files ∙ c.requires.room in
+    c.look_ahead.ensures.room ∙ ap (λ (f : FilesValue). f.room) c.count_all.ensures.files ∙ c.requires.room in
     let ready : IsReady c.args.over.now c.args.aim c.args.stands.now c.look_ahead.new.tables.files.room =
     subst (λ (n : ℕ). IsReady c.args.over.now c.args.aim c.args.stands.now n) (sym room) c.requires.ready in
     let rows : c.look_ahead.new.memo.rows ≡ c.args.over.now.rows.items = c.look_ahead.ensures.rows ∙ c.count_all.ensures.rows ∙ c.requires.rows in
@@ -71,8 +77,10 @@ stands_behind-requires g c =
     × HaveAllPlaces (ranks_of c.args.over.now.records.table) c.args.aim sequences found) same
     (summed-sequences (course_of c.args.memo.now places) groups (ranks_of c.args.over.now.records.table) c.args.aim c.args.weights.now c.count_all.new.tables.sums
     (c.in_ok-next.ensures.counted groups are) c.args.least found c.in_ok-ranks.ensures)) in
+    let kept : length c.args.stands.now ≤ c.in_ok-next.next → c.look_ahead.new.tables.visits ≡ c.count_all.new.tables.visits =
+    none-holds (length c.args.stands.now ≤ c.in_ok-next.next → c.look_ahead.new.tables.visits ≡ c.count_all.new.tables.visits) c.in_ok-longer.longer c.in_default.is c.in_ok-longer.ensures.visits in
     let visits : length c.args.stands.now ≤ c.in_ok-next.next → (groups : List (List Stand)) → AreGroups c.args.stands.now groups
     → AreWalked (course_of c.look_ahead.new.memo places) groups [] c.look_ahead.new.tables.visits = λ whole groups are.
-    subst (λ (v : List Visit). AreWalked (course_of c.look_ahead.new.memo places) groups [] v) (sym (c.look_ahead.ensures.visits whole))
+    subst (λ (v : List Visit). AreWalked (course_of c.look_ahead.new.memo places) groups [] v) (sym (kept whole))
     (subst (λ (course : Course). AreWalked course groups [] c.count_all.new.tables.visits) same (c.in_ok-next.ensures.visits whole groups are)) in
     search rules

@@ -1,6 +1,3 @@
-use Rattle.std.proofs.Common.{◌≡◌}
-use Rattle.stand_sums.specs.declared.next_rank.NextRank.{NextRank}
-use Rattle.stand_sums.specs.Files.{unfiled, with_more}
 use Rattle.place_records.specs.Ranks.{ranks_of}
 use Rattle.snapshot_project.proofs.RoomLemmas.{files-full}
 use Rattle.snapshot_project.proofs.WalkedLemmas.{ready-groups}

@@ -8,7 +8,7 @@ use Rattle.mine_model.proofs.ElementLemmas.{get-held}
 use Rattle.place_walk.specs.Courses.{Course, course_of}
 use Rattle.level_ahead.specs.Counts.{Behind, asked_of, AreAdded}
 use Rattle.level_ahead.specs.Kept.{behind_at, behinds}
-use Rattle.level_ahead.proofs.RoomLemmas.{asked-is, entry-at}
+use Rattle.level_ahead.proofs.RoomLemmas.{asked-is, entry-at, not-asked}
 use Rattle.level_ahead.proofs.ahead.Ahead.add.Goals as goal
 
 pub count_all-requires : goal.count_all-requires
@@ -27,14 +27,20 @@ count_all-requires g c =
               (
                 c.requires.asked,
                 (
-                  (λ visit rank held asks opening.
-                      c.requires.behind visit rank held (subst (λ (l : List ℕ). Contains l rank) (sym asked) ((c.self.invariant.asked_are rank).0 asks)) opening),
+                  c.requires.few_ranks,
                   (
-                    c.self.invariant.sets_room,
-                    (λ rank asks.
-                        let less = c.self.invariant.counts_room rank asks in
-                        let same = ap (λ (l : List (List ℕ)). length l) c.as_mut_slice.ensures.value in
-                        omega (arith, less, same)),
+                    not-asked c.args.lacking ranks (asked_of c.args.self.now) c.self.inside.asked asked c.self.invariant.asked_are c.requires.apart,
+                    (
+                      (λ visit rank held asks opening.
+                          c.requires.behind visit rank held (subst (λ (l : List ℕ). Contains l rank) (sym asked) ((c.self.invariant.asked_are rank).0 asks)) opening),
+                      (
+                        c.self.invariant.sets_room,
+                        (λ rank asks.
+                            let less = c.self.invariant.counts_room rank asks in
+                            let same = ap (λ (l : List (List ℕ)). length l) c.as_mut_slice.ensures.value in
+                            omega (arith, less, same)),
+                      ),
+                    ),
                   ),
                 ),
               ),
@@ -64,10 +70,10 @@ returns-clause-counted g c =
     let (rank, there, is) = entry-at old ranks k before (ap (λ (l : List Behind). slice_get l k) c.self.view_is ∙ at) in
     let (rank', there', is') = entry-at new ranks k after (ap (λ (l : List (List ℕ)). slice_get (behinds l ranks) k) (sym kept) ∙ also) in
     let same : rank' ≡ rank = same_Some rank' rank (sym there' ∙ there) in
-    let added : AreAdded course outputs sequences (behind_at old rank) (behind_at new rank) =
-    subst (λ (l : List (List ℕ)). AreAdded course outputs sequences (behind_at l rank) (behind_at new rank)) value (counted quiet sequences are rank ((c.self.invariant.asked_are rank).1 (get-held ranks k rank there))) in
-    subst (λ (b : Behind). AreAdded course outputs sequences b after) (sym is)
-    (subst (AreAdded course outputs sequences (behind_at old rank)) (ap (behind_at new) (sym same) ∙ sym is') added))
+    let added : AreAdded course outputs c.args.lacking sequences (behind_at old rank) (behind_at new rank) =
+    subst (λ (l : List (List ℕ)). AreAdded course outputs c.args.lacking sequences (behind_at l rank) (behind_at new rank)) value (counted quiet sequences are rank ((c.self.invariant.asked_are rank).1 (get-held ranks k rank there))) in
+    subst (λ (b : Behind). AreAdded course outputs c.args.lacking sequences b after) (sym is)
+    (subst (AreAdded course outputs c.args.lacking sequences (behind_at old rank)) (ap (behind_at new) (sym same) ∙ sym is') added))
     c.count_all.ensures.counted
 
 pub returns-clause-goes : goal.returns-clause-goes
