@@ -1,13 +1,13 @@
 //! Lists of ranks with sums, which are found by their hashes, and the memory that they have.
 
 ghost use Rattle.std.specs.Prelude.{◌≡◌, ℕ, ◌+◌, ◌^◌, ◌<◌, ◌≤◌, ◌↔◌, List, [], ◌∷◌, ◌++◌, length, slice_get, Some, Contains, IsNone, IsTrue, IfSome, OnOk};
+ghost use Rattle.flat_lists.specs.Shelf.{elements_of};
 ghost use Rattle.pattern_counts.specs.Tally.{no_lists, IsTally, sum_of, Adds};
-ghost use Rattle.pattern_counts.specs.Lists.{ranks_of};
 ghost use Rattle.pattern_counts.specs.Hashes.{hash_of};
 ghost use Rattle.pattern_counts.specs.Counted.{HasRoom};
 
-use super::lists::Lists;
 use super::table::{Slot, find, free_all, make_room, place};
+use flat_lists::FlatLists;
 use mine_model::NoMemory;
 use std::alloc::Global;
 use std::marker::Model;
@@ -21,7 +21,7 @@ const MOST_SPARSE: usize = 8;
 /// Lists by numbers from 0 on, by the same numbers their sums and their hashes, and a table that finds the
 /// number of a list.
 pub(crate) struct Counts {
-    lists: Lists,
+    lists: FlatLists<u32>,
     sums: Vec<u64>,
     hashes: Vec<u32>,
     slots: Vec<Slot>,
@@ -49,7 +49,7 @@ impl Model for Counts {
       tally = record { lists = c.lists.lists; sums = c.sums.items };
       most_lists = min (min c.lists.most_lists (vec_capacity c.sums))
           (min (vec_capacity c.hashes) (min (length c.slots.items - 1) 4294967295));
-      most_ranks = c.lists.most_ranks;
+      most_ranks = c.lists.most_elements;
     } };
 
     ghost invariant = { λ c. AreCounts (record { lists = c.lists.lists; sums = c.sums.items })
@@ -62,7 +62,7 @@ impl Counts {
         ensures { result.tally ≡ no_lists }
     {
         Counts {
-            lists: Lists::new(alloc),
+            lists: FlatLists::new(alloc),
             sums: Vec::new(alloc),
             hashes: Vec::new(alloc),
             slots: Vec::new(alloc),
@@ -92,9 +92,9 @@ impl Counts {
     }
 
     pub(crate) fn ranks(&self) -> usize
-        ensures { result ≡ ranks_of self.now.tally.lists }
+        ensures { result ≡ elements_of self.now.tally.lists }
     {
-        self.lists.ranks()
+        self.lists.elements()
     }
 
     pub(crate) fn list(&self, number: usize) -> &[u32]
@@ -167,12 +167,13 @@ impl Counts {
         ensures tally { IsTally self.new.tally }
         ensures lists { self.new.tally.lists ≡ self.old.tally.lists ++ list.now ∷ [] }
         ensures count { length self.new.tally.lists ≡ length self.old.tally.lists + 1 }
-        ensures ranks { ranks_of self.new.tally.lists ≡ ranks_of self.old.tally.lists + length list.now }
+        ensures ranks { elements_of self.new.tally.lists
+            ≡ elements_of self.old.tally.lists + length list.now }
         ensures most_lists { self.old.most_lists ≤ self.new.most_lists }
         ensures most_ranks { self.old.most_ranks ≤ self.new.most_ranks }
     {
         let number = self.lists.len();
-        self.lists.push(list);
+        self.lists.push_reserved(list);
         self.sums.push_reserved(weight);
         self.hashes.push_reserved(hash);
         place(&mut self.slots, hash, number as u32);
@@ -186,7 +187,8 @@ impl Counts {
         ensures adds { Adds list.now weight self.old.tally self.new.tally }
         ensures tally { IsTally self.new.tally }
         ensures count { length self.new.tally.lists ≤ length self.old.tally.lists + 1 }
-        ensures ranks { ranks_of self.new.tally.lists ≤ ranks_of self.old.tally.lists + length list.now }
+        ensures ranks { elements_of self.new.tally.lists
+            ≤ elements_of self.old.tally.lists + length list.now }
         ensures most_lists { self.old.most_lists ≤ self.new.most_lists }
         ensures most_ranks { self.old.most_ranks ≤ self.new.most_ranks }
     {

@@ -3,7 +3,6 @@
 
 mod counts;
 mod hashes;
-mod lists;
 mod table;
 
 ghost use Rattle.std.specs.Prelude.{◌≡◌, ℕ, ◌+◌, ◌^◌, ◌<◌, ◌⊎◌, ◌↔◌, ◌∷◌, ◌++◌, [], List, length, slice_get, Some, Contains, IsTrue, IfOk, IsOk, OnOk, OnErr};

@@ -6,7 +6,7 @@ ghost use Rattle.open_addressing.specs.Searching.{Ends};
 ghost use Rattle.pattern_counts.specs.Hashes.{hash_of};
 ghost use Rattle.pattern_counts.specs.Table.{layout};
 
-use super::lists::Lists;
+use flat_lists::FlatLists;
 use mine_model::NoMemory;
 use open_addressing::{Outcome, free_slot, home, slots_for};
 use std::alloc::Global;
@@ -35,7 +35,7 @@ impl open_addressing::Slot for Slot {
 }
 
 /// The number of the list with this hash, if it is held. Most lists stand at their home.
-pub(crate) fn find(lists: &Lists, slots: &[Slot], hash: u32, list: &[u32]) -> Option<usize>
+pub(crate) fn find(lists: &FlatLists<u32>, slots: &[Slot], hash: u32, list: &[u32]) -> Option<usize>
     requires table { IsTable layout (map hash_of lists.now.lists) slots.now }
     requires hash { hash ≡ hash_of list.now }
     ensures none { IsNone result ↔ ¬ Contains lists.now.lists list.now }
@@ -54,7 +54,7 @@ pub(crate) fn find(lists: &Lists, slots: &[Slot], hash: u32, list: &[u32]) -> Op
 
 /// The same by a search from the home of the hash on.
 #[inline(never)]
-fn find_from(lists: &Lists, slots: &[Slot], hash: u32, list: &[u32], home: usize) -> Option<usize>
+fn find_from(lists: &FlatLists<u32>, slots: &[Slot], hash: u32, list: &[u32], home: usize) -> Option<usize>
     requires table { IsTable layout (map hash_of lists.now.lists) slots.now }
     requires hash { hash ≡ hash_of list.now }
     requires home { home ≡ home_of (length slots.now) hash }
@@ -74,7 +74,7 @@ fn find_from(lists: &Lists, slots: &[Slot], hash: u32, list: &[u32], home: usize
 }
 
 /// Looks for the list in the slots from `from` to before `to`, up to the first that is free.
-fn search(lists: &Lists, slots: &[Slot], hash: u32, list: &[u32], from: usize, to: usize) -> Outcome
+fn search(lists: &FlatLists<u32>, slots: &[Slot], hash: u32, list: &[u32], from: usize, to: usize) -> Outcome
     requires table { IsTable layout (map hash_of lists.now.lists) slots.now }
     requires hash { hash ≡ hash_of list.now }
     requires within { to ≤ length slots.now }
@@ -93,13 +93,20 @@ fn search(lists: &Lists, slots: &[Slot], hash: u32, list: &[u32], from: usize, t
 }
 
 /// Whether the slot, which is taken, has the number of the list with this hash.
-fn is_of(lists: &Lists, slot: Slot, hash: u32, list: &[u32]) -> bool
+fn is_of(lists: &FlatLists<u32>, slot: Slot, hash: u32, list: &[u32]) -> bool
     requires slot { IsSlot layout (map hash_of lists.now.lists) slot }
     requires taken { 0 < slot.held }
     requires hash { hash ≡ hash_of list.now }
     ensures { IsTrue result ↔ (slice_index_or lists.now.lists (slot.held - 1) [] ≡ list.now) }
 {
-    slot.hash == hash && lists.is_list(slot.held as usize - 1, list)
+    slot.hash == hash && is_list(lists, slot.held as usize - 1, list)
+}
+
+fn is_list(lists: &FlatLists<u32>, number: usize, list: &[u32]) -> bool
+    requires { number < length lists.now.lists }
+    ensures { IsTrue result ↔ (slice_index_or lists.now.lists number [] ≡ list.now) }
+{
+    lists.list(number) == list
 }
 
 /// Has free slots for so many more lists, in a new table where half of the slots would be taken.

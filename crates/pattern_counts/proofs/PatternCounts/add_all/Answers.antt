@@ -1,7 +1,7 @@
 use Rattle.std.proofs.Common.{◌≡◌, ◌+◌, ◌^◌, ◌<◌, ℕ, List, sym, subst, ◌∙◌, arith}
 use Rattle.pattern_counts.specs.Tally.{Tally, sum_of, AddsAll}
 use Rattle.pattern_counts.proofs.SumLemmas.{front, adds_none, adds_both, front_more, front_all, room_for}
-use Rattle.pattern_counts.proofs.ListsLemmas.{ranks_of-drop}
+use Rattle.flat_lists.proofs.ShelfLemmas.{elements_of-drop}
 use Rattle.pattern_counts.proofs.PatternCounts.add_all.Goals as goal
 
 pub loop-number-init : goal.loop-number-init
@@ -26,7 +26,7 @@ put-requires-clause-sum c =
 pub put-requires-clause-room : goal.put-requires-clause-room
 put-requires-clause-room c =
     let room = c.loop-number.invariant.room in
-    let more = ranks_of-drop c.other.inside.counts.tally.lists c.loop-number.number c.list-list.result.now c.list-list.ensures in
+    let more = elements_of-drop c.other.inside.counts.tally.lists c.loop-number.number c.list-list.result.now c.list-list.ensures in
     record { for_lists = omega (arith, room.for_lists); for_ranks = omega (arith, room.for_ranks, more) }
 
 pub loop-number-preserved : goal.loop-number-preserved
@@ -34,7 +34,7 @@ loop-number-preserved c =
     let other : Tally = c.other.inside.counts.tally in
     let number = c.loop-number.number in
     let room = c.loop-number.invariant.room in
-    let more = ranks_of-drop c.other.inside.counts.tally.lists number c.list-list.result.now c.list-list.ensures in
+    let more = elements_of-drop c.other.inside.counts.tally.lists number c.list-list.result.now c.list-list.ensures in
     record {
       adds = adds_both c.list-list.result.now c.sum.result c.args.self.now c.loop-number.self-inside.counts.tally c.put.new.self.tally (front number other) (front (number + 1) other)
           c.put.ensures.adds (front_more other c.sum.ensures.tally number c.sum.result c.list-list.result.now c.list-list.ensures c.sum.ensures.sum) c.loop-number.invariant.adds;

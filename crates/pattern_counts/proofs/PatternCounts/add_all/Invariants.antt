@@ -1,6 +1,6 @@
 use Rattle.std.proofs.Common.{◌-◌, drop}
 use Rattle.pattern_counts.specs.Tally.{IsTally, AddsAll}
-use Rattle.pattern_counts.specs.Lists.{ranks_of}
+use Rattle.flat_lists.specs.Shelf.{elements_of}
 use Rattle.pattern_counts.specs.Counted.{HasRoom}
 use Rattle.pattern_counts.proofs.SumLemmas.{front}
 use Rattle.pattern_counts.proofs.PatternCounts.add_all.Given as goal
@@ -9,5 +9,5 @@ abbrev pub invariant-loop-number : goal.invariant-loop-number
 invariant-loop-number l = record {
   adds : AddsAll (front l.number l.other-inside.counts.tally) l.fn.self l.self-inside.counts.tally;
   tally : IsTally l.self-inside.counts.tally;
-  room : HasRoom l.self-inside.counts (l.count - l.number) (ranks_of (drop l.number l.other-inside.counts.tally.lists));
+  room : HasRoom l.self-inside.counts (l.count - l.number) (elements_of (drop l.number l.other-inside.counts.tally.lists));
 }

@@ -6,7 +6,7 @@ use Rattle.pattern_counts.specs.Counted.{Counted}
 use Rattle.open_addressing.specs.Table.{IsTable}
 use Rattle.pattern_counts.specs.Table.{layout}
 use Rattle.pattern_counts.proofs.SumLemmas.{adds_new, tally_new}
-use Rattle.pattern_counts.proofs.ListsLemmas.{ranks_of-push}
+use Rattle.flat_lists.proofs.ShelfLemmas.{elements_of-push}
 use Rattle.pattern_counts.proofs.counts.Counts.append.Goals as goal
 use Rattle.pattern_counts.proofs.counts.Counts.append.Goals.{After-place}
 
@@ -17,15 +17,15 @@ module _ (c : After-place) where
   none : Contains c.self.inside.lists.lists c.args.list.now → ⊥
   none = subst (λ (t : Counted). Contains t.tally.lists c.args.list.now → ⊥) (sym c.self.view_is) c.requires.new
 
-  tally : IsTally (record { lists = c.push.new.self.lists; sums = c.push_reserved.new.self.items })
+  tally : IsTally (record { lists = c.push_reserved.new.self.lists; sums = c.push_reserved-2.new.self.items })
   unfolding before
-  tally = rw (c.push.ensures.lists, c.push_reserved.ensures.items) (tally_new before c.self.invariant.are c.args.list.now c.args.weight none)
+  tally = rw (c.push_reserved.ensures.lists, c.push_reserved-2.ensures.items) (tally_new before c.self.invariant.are c.args.list.now c.args.weight none)
 
-  hashed : c.push_reserved-2.new.self.items ≡ map hash_of c.push.new.self.lists
+  hashed : c.push_reserved-3.new.self.items ≡ map hash_of c.push_reserved.new.self.lists
   hashed =
-      c.push_reserved-2.ensures.items ∙ ap (λ hashes. hashes ++ c.args.hash ∷ []) c.self.invariant.hashed
+      c.push_reserved-3.ensures.items ∙ ap (λ hashes. hashes ++ c.args.hash ∷ []) c.self.invariant.hashed
       ∙ ap (λ hash. map hash_of c.self.inside.lists.lists ++ hash ∷ []) c.requires.hash
-      ∙ sym (map_push hash_of c.self.inside.lists.lists c.args.list.now) ∙ ap (map hash_of) (sym c.push.ensures.lists)
+      ∙ sym (map_push hash_of c.self.inside.lists.lists c.args.list.now) ∙ ap (map hash_of) (sym c.push_reserved.ensures.lists)
 
   count : length c.self.inside.hashes.items ≡ length c.self.inside.lists.lists
   count = ap length c.self.invariant.hashed ∙ length-map c.self.inside.lists.lists hash_of
@@ -37,12 +37,12 @@ module _ (c : After-place) where
   room : length c.self.inside.lists.lists + 1 < length c.self.inside.slots.items
   room = omega (arith, most)
 
-  few : length c.push.new.self.lists ≤ 4294967295
-  few = omega (arith, most, ap length c.push.ensures.lists, length_push c.self.inside.lists.lists c.args.list.now)
+  few : length c.push_reserved.new.self.lists ≤ 4294967295
+  few = omega (arith, most, ap length c.push_reserved.ensures.lists, length_push c.self.inside.lists.lists c.args.list.now)
 
-  table : IsTable layout c.push_reserved-2.new.self.items c.place.new.slots.items
+  table : IsTable layout c.push_reserved-3.new.self.items c.place.new.slots.items
   table =
-      rw c.push_reserved-2.ensures.items (c.place.ensures.table c.self.inside.hashes.items c.self.invariant.table (omega (arith, count, c.len-number.ensures)) (omega (arith, room, c.len-number.ensures)))
+      rw c.push_reserved-3.ensures.items (c.place.ensures.table c.self.inside.hashes.items c.self.invariant.table (omega (arith, count, c.len-number.ensures)) (omega (arith, room, c.len-number.ensures)))
 
 pub invariant_of-self : goal.invariant_of-self
 invariant_of-self c = record { are = tally c; few = few c; hashed = hashed c; table = table c }
@@ -53,9 +53,9 @@ returns-clause-tally c = tally c
 pub returns-clause-adds : goal.returns-clause-adds
 unfolding before
 returns-clause-adds c =
-    rw (← c.self.view_is, c.push.ensures.lists, c.push_reserved.ensures.items)
+    rw (← c.self.view_is, c.push_reserved.ensures.lists, c.push_reserved-2.ensures.items)
     (adds_new (before c) c.args.list.now c.args.weight c.self.invariant.are.each (none c))
 
 pub returns-clause-ranks : goal.returns-clause-ranks
 returns-clause-ranks c =
-    rw (← c.self.view_is, c.push.ensures.lists) (ranks_of-push c.self.inside.lists.lists c.args.list.now)
+    rw (← c.self.view_is, c.push_reserved.ensures.lists) (elements_of-push c.self.inside.lists.lists c.args.list.now)

@@ -19,4 +19,4 @@ returns-clause-room c =
     let more : length c.reserve.new.self.lists + c.args.lists ≤ vec_capacity c.reserve-3.new.self = omega (arith, same, ap length c.self.invariant.hashed, hashes, c.in_ok-reserve-3.ensures.ok, c.in_ok-reserve-3.ensures.len, c.self.inside.hashes.ok.0) in
     let slots : length c.reserve.new.self.lists + c.args.lists < length c.make_room.new.slots.items = omega (arith, same, ap length c.self.invariant.hashed, hashes, ap length c.as_slice.ensures.value, ap length c.in_ok-reserve-3.ensures.items, c.in_ok-make_room.ensures.room) in
     let few : length c.reserve.new.self.lists + c.args.lists ≤ 4294967295 = omega (arith, same, c.if-lists-len.false, c.len.ensures, c.self.invariant.few) in
-    record { for_lists = omega (arith, lists, sums, more, slots, few); for_ranks = c.in_ok-reserve.ensures.room_for_ranks }
+    record { for_lists = omega (arith, lists, sums, more, slots, few); for_ranks = c.in_ok-reserve.ensures.room_for_elements }
