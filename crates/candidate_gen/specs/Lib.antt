@@ -7,4 +7,3 @@ pub mod Views
 pub mod Viewed
 pub mod Steps
 pub mod Walk
-pub mod Flat

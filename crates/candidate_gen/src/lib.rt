@@ -6,7 +6,6 @@ mod advancing;
 mod listing;
 mod patterns;
 mod place;
-mod rank_lists;
 mod view;
 mod walk;
 

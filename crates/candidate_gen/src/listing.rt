@@ -1,9 +1,9 @@
 ghost use Rattle.std.specs.Prelude.{◌≡◌, ◌≤◌, ◌<◌, ◌==◌, [], length, All, IfOk, OnOk, Some, slice_get};
 ghost use Rattle.candidate_gen.specs.Candidates.{AreCandidateRanks};
 
-use super::rank_lists::RankLists;
 use super::view::View;
 use super::walk::Walk;
+use flat_lists::FlatLists;
 use mine_model::NoMemory;
 use mining_job::{Bound, Job};
 use sequence_grids::{Grids, Successors, successors_of};
@@ -17,7 +17,7 @@ pub struct CandidateList<'a> {
     grids: Grids<'a>,
     successors: Successors,
     walk: Walk,
-    listed: RankLists,
+    listed: FlatLists<u32>,
 }
 
 // Written out, so that it is let go of by a call, and not part by part wherever one is.
@@ -44,7 +44,7 @@ impl<'a> Model for CandidateList<'a> {
 
     ghost coded = { Prim.hlevel (codes, e.the_row.coded) };
 
-    ghost view = { λ c. record { problem = c.job.now; listed = c.listed } };
+    ghost view = { λ c. record { problem = c.job.now; listed = c.listed.lists } };
 
     ghost use Rattle.sequence_grids.specs.Successors.{AreSuccessorsOf};
 
@@ -65,7 +65,7 @@ impl<'a> CandidateList<'a> {
             grids: Grids::new(alloc, job, bound)?,
             successors: successors_of(alloc, job.fst())?,
             walk: Walk::new(alloc),
-            listed: RankLists::new(alloc),
+            listed: FlatLists::new(alloc),
         })
     }
 
@@ -109,6 +109,6 @@ impl<'a> CandidateList<'a> {
         requires { i < length self.now.listed }
         ensures { slice_get self.now.listed i ≡ Some result.now }
     {
-        self.listed.get(i)
+        self.listed.list(i)
     }
 }

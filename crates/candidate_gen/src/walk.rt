@@ -7,8 +7,8 @@ ghost use Rattle.candidate_gen.specs.Walk.{AreWritten, IsListed, Keeps, AreRanks
 
 use super::advancing::advance;
 use super::place::Place;
-use super::rank_lists::RankLists;
 use super::view::View;
+use flat_lists::FlatLists;
 use mine_model::NoMemory;
 use sequence_grids::Successors;
 use smallvec::SmallVec;
@@ -52,11 +52,11 @@ impl Walk {
         &mut self,
         view: &View,
         successors: &Successors,
-        listed: &mut RankLists,
+        listed: &mut FlatLists<u32>,
     ) -> Result<(), NoMemory>
         requires successors { AreSuccessorsOf view.now.problem.machine successors.now }
-        requires none { listed.old ≡ [] }
-        ensures { OnOk result (AreWritten view.now listed.new) }
+        requires none { listed.old.lists ≡ [] }
+        ensures { OnOk result (AreWritten view.now listed.new.lists) }
     {
         match successors {
             Successors::One(sets) => self.list_over(view, sets.as_slice(), listed),
@@ -70,12 +70,12 @@ impl Walk {
         &mut self,
         view: &View,
         successors: &[StateSet<W>],
-        listed: &mut RankLists,
+        listed: &mut FlatLists<u32>,
     ) -> Result<(), NoMemory>
         requires width { W ≤ 17 }
         requires successors { AreSuccessors W view.now.problem.machine successors.now }
-        requires none { listed.old ≡ [] }
-        ensures { OnOk result (AreWritten view.now listed.new) }
+        requires none { listed.old.lists ≡ [] }
+        ensures { OnOk result (AreWritten view.now listed.new.lists) }
     {
         let _length = view.length();
         self.begin(view, successors)?;
@@ -128,7 +128,7 @@ impl Walk {
         view: &View,
         successors: &[StateSet<W>],
         top: Place,
-        listed: &mut RankLists,
+        listed: &mut FlatLists<u32>,
     ) -> Result<(), NoMemory>
         requires width { W ≤ 17 }
         requires successors { AreSuccessors W view.now.problem.machine successors.now }
@@ -136,11 +136,11 @@ impl Walk {
         requires waiting { AreWaiting view.now self.old.path.items self.old.waiting.items }
         requires top { (front : List Place) × (self.old.waiting.items ≡ front ++ top ∷ []) }
         requires found { self.old.found.items ≡ [] }
-        requires listed { IsListed view.now self.old.path.items self.old.waiting.items listed.old }
+        requires listed { IsListed view.now self.old.path.items self.old.waiting.items listed.old.lists }
         ensures found { OnOk result (self.new.found.items ≡ []) }
         ensures waiting { OnOk result (AreWaiting view.now self.new.path.items self.new.waiting.items) }
         ensures listed { OnOk result
-            (IsListed view.now self.new.path.items self.new.waiting.items listed.new) }
+            (IsListed view.now self.new.path.items self.new.waiting.items listed.new.lists) }
         ensures lighter { OnOk result
             (weight (2 ^ 64) (length view.now.sequence) self.new.waiting.items
             < weight (2 ^ 64) (length view.now.sequence) self.old.waiting.items) }
@@ -167,9 +167,9 @@ impl Walk {
 }
 
 // Lists the prefix, where it is a candidate.
-fn list_prefix(path: &[u32], stops: bool, listed: &mut RankLists) -> Result<(), NoMemory>
-    ensures stops { OnOk result (stops ≡ true → listed.new ≡ listed.old ++ path.now ∷ []) }
-    ensures passes { OnOk result (stops ≡ false → listed.new ≡ listed.old) }
+fn list_prefix(path: &[u32], stops: bool, listed: &mut FlatLists<u32>) -> Result<(), NoMemory>
+    ensures stops { OnOk result (stops ≡ true → listed.new.lists ≡ listed.old.lists ++ path.now ∷ []) }
+    ensures passes { OnOk result (stops ≡ false → listed.new.lists ≡ listed.old.lists) }
 {
     if stops {
         listed.push(path)?;
@@ -203,11 +203,12 @@ fn list_ends(
     path: &mut SmallVec<u32, 16>,
     found: &mut Vec<Place>,
     ranks: &mut Vec<u32>,
-    listed: &mut RankLists,
+    listed: &mut FlatLists<u32>,
 ) -> Result<(), NoMemory>
     ensures path { OnOk result (path.new.items ≡ path.old.items) }
     ensures found { OnOk result (found.new.items ≡ []) }
-    ensures listed { OnOk result (ListsEnds path.old.items found.old.items listed.old listed.new) }
+    ensures listed { OnOk result
+        (ListsEnds path.old.items found.old.items listed.old.lists listed.new.lists) }
 {
     collect_ranks(found.as_slice(), ranks)?;
     found.clear();
@@ -231,11 +232,11 @@ fn collect_ranks(places: &[Place], ranks: &mut Vec<u32>) -> Result<(), NoMemory>
 fn list_longer(
     path: &mut SmallVec<u32, 16>,
     ranks: &[u32],
-    listed: &mut RankLists,
+    listed: &mut FlatLists<u32>,
 ) -> Result<(), NoMemory>
     ensures path { OnOk result (path.new.items ≡ path.old.items) }
     ensures listed { OnOk result
-        (listed.new ≡ listed.old ++ map (λ rank. path.old.items ++ rank ∷ []) ranks.now) }
+        (listed.new.lists ≡ listed.old.lists ++ map (λ rank. path.old.items ++ rank ∷ []) ranks.now) }
 {
     let length = path.len();
     for rank in ranks {

@@ -43,13 +43,13 @@ returns-then-only_end-clause-listed g c =
     c.in_ok-push.ensures.ok ∙ ap (λ (l : List ℕ). l ++ c.args.top.rank ∷ []) c.truncate.ensures.items in
     let text : c.as_slice.result.now ≡ grown c.args.self.now.path.items c.args.top.depth c.args.top.rank = c.as_slice.ensures ∙ path in
     let taken =
-    taken-either c.args.view.now c.args.self.now.path.items c.args.top c.args.self.now.waiting.items front c.advance.new.waiting.items c.advance.new.found.items c.in_ok-stops.stops cut c.requires.waiting c.in_ok-stops.ensures c.args.listed.now c.list_prefix.new.listed c.requires.listed
-    (λ stop. c.in_ok-list_prefix.ensures.stops stop ∙ ap (λ (l : List ℕ). c.args.listed.now ++ l ∷ []) text) c.in_ok-list_prefix.ensures.passes in
+    taken-either c.args.view.now c.args.self.now.path.items c.args.top c.args.self.now.waiting.items front c.advance.new.waiting.items c.advance.new.found.items c.in_ok-stops.stops cut c.requires.waiting c.in_ok-stops.ensures c.args.listed.now.lists c.list_prefix.new.listed.lists c.requires.listed
+    (λ stop. c.in_ok-list_prefix.ensures.stops stop ∙ ap (λ (l : List ℕ). c.args.listed.now.lists ++ l ∷ []) text) c.in_ok-list_prefix.ensures.passes in
     let ends : (place : Place) → Contains c.advance.new.found.items place → OnlyEnds c.args.view.now place = λ place inside.
     c.only_end.ensures c.if-only_end.true place (subst (λ (l : List Place). Contains l place) (sym c.as_slice-2.ensures.value) inside) in
-    let lists = subst (λ (l : List ℕ). ListsEnds l c.advance.new.found.items c.list_prefix.new.listed c.list_ends.new.listed) path c.in_ok-list_ends.ensures.listed in
-    subst (λ (l : List ℕ). IsListed c.args.view.now l c.advance.new.waiting.items c.list_ends.new.listed) (sym (c.in_ok-list_ends.ensures.path ∙ path))
-    (ended-listed c.args.view.now c.args.self.now.path.items c.args.top c.args.self.now.waiting.items front c.advance.new.waiting.items c.advance.new.found.items c.in_ok-stops.stops cut c.requires.waiting c.in_ok-stops.ensures ends c.list_prefix.new.listed c.list_ends.new.listed taken lists)
+    let lists = subst (λ (l : List ℕ). ListsEnds l c.advance.new.found.items c.list_prefix.new.listed.lists c.list_ends.new.listed.lists) path c.in_ok-list_ends.ensures.listed in
+    subst (λ (l : List ℕ). IsListed c.args.view.now l c.advance.new.waiting.items c.list_ends.new.listed.lists) (sym (c.in_ok-list_ends.ensures.path ∙ path))
+    (ended-listed c.args.view.now c.args.self.now.path.items c.args.top c.args.self.now.waiting.items front c.advance.new.waiting.items c.advance.new.found.items c.in_ok-stops.stops cut c.requires.waiting c.in_ok-stops.ensures ends c.list_prefix.new.listed.lists c.list_ends.new.listed.lists taken lists)
 
 pub returns-then-only_end-clause-lighter : goal.returns-then-only_end-clause-lighter
 returns-then-only_end-clause-lighter g c =
@@ -73,10 +73,10 @@ returns-clause-listed g c =
     c.in_ok-push.ensures.ok ∙ ap (λ (l : List ℕ). l ++ c.args.top.rank ∷ []) c.truncate.ensures.items in
     let text : c.as_slice.result.now ≡ grown c.args.self.now.path.items c.args.top.depth c.args.top.rank = c.as_slice.ensures ∙ path in
     let taken =
-    taken-either c.args.view.now c.args.self.now.path.items c.args.top c.args.self.now.waiting.items front c.advance.new.waiting.items c.advance.new.found.items c.in_ok-stops.stops cut c.requires.waiting c.in_ok-stops.ensures c.args.listed.now c.list_prefix.new.listed c.requires.listed
-    (λ stop. c.in_ok-list_prefix.ensures.stops stop ∙ ap (λ (l : List ℕ). c.args.listed.now ++ l ∷ []) text) c.in_ok-list_prefix.ensures.passes in
-    subst (λ (l : List ℕ). IsListed c.args.view.now l c.keep.new.waiting.items c.list_prefix.new.listed) (sym path)
-    (kept-listed c.args.view.now c.args.self.now.path.items c.args.top c.args.self.now.waiting.items front c.advance.new.waiting.items c.advance.new.found.items c.in_ok-stops.stops cut c.requires.waiting c.in_ok-stops.ensures c.keep.new.waiting.items c.keep.new.found.items c.list_prefix.new.listed c.in_ok-keep.ensures taken)
+    taken-either c.args.view.now c.args.self.now.path.items c.args.top c.args.self.now.waiting.items front c.advance.new.waiting.items c.advance.new.found.items c.in_ok-stops.stops cut c.requires.waiting c.in_ok-stops.ensures c.args.listed.now.lists c.list_prefix.new.listed.lists c.requires.listed
+    (λ stop. c.in_ok-list_prefix.ensures.stops stop ∙ ap (λ (l : List ℕ). c.args.listed.now.lists ++ l ∷ []) text) c.in_ok-list_prefix.ensures.passes in
+    subst (λ (l : List ℕ). IsListed c.args.view.now l c.keep.new.waiting.items c.list_prefix.new.listed.lists) (sym path)
+    (kept-listed c.args.view.now c.args.self.now.path.items c.args.top c.args.self.now.waiting.items front c.advance.new.waiting.items c.advance.new.found.items c.in_ok-stops.stops cut c.requires.waiting c.in_ok-stops.ensures c.keep.new.waiting.items c.keep.new.found.items c.list_prefix.new.listed.lists c.in_ok-keep.ensures taken)
 
 pub returns-clause-lighter : goal.returns-clause-lighter
 returns-clause-lighter g c =

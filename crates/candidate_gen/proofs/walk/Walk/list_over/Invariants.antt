@@ -6,7 +6,7 @@ use Rattle.candidate_gen.proofs.walk.Walk.list_over.Given as goal
 abbrev pub invariant-prefixes : goal.invariant-prefixes
 invariant-prefixes g l = record {
   waiting : AreWaiting l.view l.self.path.items l.self.waiting.items;
-  listed : IsListed l.view l.self.path.items l.self.waiting.items l.listed;
+  listed : IsListed l.view l.self.path.items l.self.waiting.items l.listed.lists;
   found : l.self.found.items ≡ [];
 }
 
