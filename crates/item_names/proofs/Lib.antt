@@ -2,4 +2,3 @@ pub mod Growing
 pub mod FieldLemmas
 mod JoiningLemmas
 mod KeyLemmas
-mod TextLemmas

@@ -3,31 +3,27 @@
 ghost use Rattle.std.specs.Prelude.{◌≡◌, ◌≤◌, ◌<◌, ◌↔◌, List, [], ◌∷◌, ◌++◌, length, IsTrue, OnOk, OnErr};
 ghost use Rattle.mine_model.specs.Limits.{most_items};
 ghost use Rattle.mine_model.specs.Names.{name_of};
-ghost use Rattle.mine_model.specs.Ancestry.{start_of};
 
+use flat_lists::FlatLists;
 use mine_model::{Item, NoMemory};
 use std::alloc::Global;
 use std::marker::Model;
 
-/// Names by their numbers. All bytes stand in one vector, and a second one has where each name ends.
+/// Names by their numbers.
 #[derive(Debug, Drop)]
 pub(crate) struct Texts {
-    bytes: Vec<u8>,
-    ends: Vec<usize>,
+    texts: FlatLists<u8>,
 }
 
 impl Model for Texts {
     ghost use Rattle.std.specs.Prelude.{List, ℕ, ◌≤◌, length};
     ghost use Rattle.mine_model.specs.Limits.{most_items};
-    ghost use Rattle.mine_model.specs.Ancestry.{AreCut};
-    ghost use Rattle.mine_model.specs.Lists.{lists_in};
 
     ghost Value = { List (List ℕ) };
 
-    ghost view = { λ t. lists_in t.ends.items t.bytes.items };
+    ghost view = { λ t. t.texts.lists };
 
-    ghost invariant = { λ t. (length t.ends.items ≤ most_items)
-        × AreCut t.ends.items (length t.bytes.items) };
+    ghost invariant = { λ t. length t.texts.lists ≤ most_items };
 }
 
 impl Texts {
@@ -36,8 +32,7 @@ impl Texts {
         ensures { result ≡ [] }
     {
         Texts {
-            bytes: Vec::new(alloc),
-            ends: Vec::new(alloc),
+            texts: FlatLists::new(alloc),
         }
     }
 
@@ -45,17 +40,14 @@ impl Texts {
         ensures count { result ≡ length self.now }
         ensures most { result ≤ most_items }
     {
-        self.ends.len() as u32
+        self.texts.len() as u32
     }
 
     pub(crate) fn text(&self, item: Item) -> &[u8]
         requires { item.0 < length self.now }
         ensures { result.now ≡ name_of self.now item }
     {
-        let number = item.0 as usize;
-        let start = start_at(self.ends.as_slice(), number);
-        let end = self.ends[number];
-        &self.bytes[start..end]
+        self.texts.list(item.0 as usize)
     }
 
     pub(crate) fn is_text(&self, item: Item, name: &[u8]) -> bool
@@ -70,21 +62,7 @@ impl Texts {
         ensures ok { OnOk result (self.new ≡ self.old ++ name.now ∷ []) }
         ensures err { OnErr result (self.new ≡ self.old) }
     {
-        self.ends.reserve(1)?;
-        self.bytes.extend_from_slice(name)?;
-        let end = self.bytes.len();
-        self.ends.push(end).unwrap();
+        self.texts.push(name)?;
         Ok(())
-    }
-}
-
-/// Where the name with this number begins.
-fn start_at(ends: &[usize], number: usize) -> usize
-    requires { number < length ends.now }
-    ensures { result ≡ start_of ends.now number }
-{
-    match number.checked_sub(1) {
-        Some(before) => ends[before],
-        None => 0,
     }
 }
