@@ -1,8 +1,6 @@
--- The edges of a transducer, those of each state behind those of the one before.
-use Rattle.std.specs.Prelude.{◌≡◌, ℕ, ◌+◌, ◌<◌, ◌≤◌, ◌⊎◌, ◌↔◌, false, List, ◌++◌, map, length, slice_index, Contains}
-use Rattle.std.specs.List.{range_with_len}
+-- The edges of a transducer, state by state.
+use Rattle.std.specs.Prelude.{◌≡◌, ℕ, ◌+◌, ◌<◌, ◌≤◌, ◌⊎◌, ◌↔◌, false, List, [], map, length, slice_index, slice_index_or, All, Contains}
 use Rattle.state_bits.specs.Members.{Has}
-use Rattle.mine_model.specs.Ancestry.{list_at, AreCut}
 use Rattle.mine_model.specs.declared.item.Item.{Item}
 use Rattle.mine_model.specs.Expression.{Tree, unfolded_leaves}
 use Rattle.fst_compile.specs.Shape.{unfold_tree}
@@ -12,33 +10,21 @@ use Rattle.fst_compile.specs.declared.edge.Edge.{Edge}
 use Rattle.fst_compile.specs.declared.edge.Label.{Label}
 use Rattle.fst_compile.specs.Transducer.{Enters, target, RisesByTarget}
 
--- the edges of each state
-abbrev pub rows_of : List ℕ → List Edge → List (List Edge)
-rows_of ends edges = map (list_at ends edges) (range_with_len 0 (length ends))
-
 -- edges of a state, which carry these labels
 pub record IsRow (labels : List Label) (edges : List Edge) : Type 0 where
   pub rising : RisesByTarget edges
   pub labelled : (edge : Edge) → Contains edges edge → Enters labels edge
 
--- edges behind others, which lead to the members of a set
-pub record IsRowPushed (labels : List Label) (row : ℕ) (before after : List Edge) : Type 0 where
-  pub added : List Edge
-  pub after_is : after ≡ before ++ added
-  pub row_is : IsRow labels added
-  pub targets : (k : ℕ) → Contains (map target added) k ↔ Has row k
+-- the edges lead to the members of this set
+abbrev pub LeadTo : ℕ → List Edge → Type 0
+LeadTo row edges = (k : ℕ) → Contains (map target edges) k ↔ Has row k
 
--- the edges of the states up to the last end
-pub record AreRows (labels : List Label) (ends : List ℕ) (edges : List Edge) : Type 0 where
-  pub cut : AreCut ends (length edges)
-  pub rows : (state : ℕ) → state < length ends → IsRow labels (list_at ends edges state)
-
--- the rows of the first so many states, whose edges lead to the members of these sets
-pub record AreRowsOf (labels : List Label) (rows ends : List ℕ) (edges : List Edge) (index : ℕ) : Type 0 where
-  pub count : length ends ≡ index
-  pub are : AreRows labels ends edges
-  pub exact : (state : ℕ) → state < index → (k : ℕ)
-      → Contains (map target (list_at ends edges state)) k ↔ Has (slice_index rows state) k
+-- the edges of the first so many states, which lead to the members of these sets
+pub record AreRowsOf (labels : List Label) (rows : List ℕ) (edges : List (List Edge))
+    (index : ℕ) : Type 0 where
+  pub count : length edges ≡ index
+  pub are : All (IsRow labels) edges
+  pub exact : (state : ℕ) → state < index → LeadTo (slice_index rows state) (slice_index_or edges state [])
 
 -- the edges between all states of the tree, and its final states
 pub record IsWhole (tree : Tree Item) (rows : List ℕ) (finals : ℕ) : Type 0 where

@@ -1,22 +1,21 @@
 ghost use Rattle.std.specs.Prelude.{◌≡◌, ℕ, ◌+◌, ◌-◌, ◌<◌, ◌≤◌, ◌↔◌, length, vec_len, IfOk, IsTrue, Contains, slice_index_or};
 ghost use Rattle.state_bits.specs.Members.{Has};
-ghost use Rattle.mine_model.specs.Ancestry.{start_of};
 ghost use Rattle.mine_model.specs.Numbered.{tree_of};
 
 use super::edge::{Edge, Label, State};
 use super::rowing::edges_of_rows;
 use super::rows::States;
+use flat_lists::FlatLists;
 use mine_model::{Expr, Leaf, NoMemory};
 use std::alloc::Global;
 use std::marker::Model;
 
-/// A compiled expression. Its edges stand in one vector, by the state that they leave and, for one state, by
-/// the rising state that they lead to; at most one leads from a state to another.
+/// A compiled expression. Its edges are listed by the state that they leave and, for one state, by the rising
+/// state that they lead to; at most one leads from a state to another.
 pub struct Fst {
     expression: Expr,
     labels: Vec<Label>,
-    ends: Vec<usize>,
-    edges: Vec<Edge>,
+    edges: FlatLists<Edge>,
     finals: States,
 }
 
@@ -26,7 +25,6 @@ impl Drop for Fst {
         let Fst {
             expression: _,
             labels: _,
-            ends: _,
             edges: _,
             finals: _,
         } = self;
@@ -43,19 +41,19 @@ impl Model for Fst {
 
     ghost coded = { Prim.hlevel (codes, e.the_row.coded) };
 
-    ghost use Rattle.std.specs.Prelude.{◌≡◌, ◌+◌, ◌≤◌, length, ℕ};
+    ghost use Rattle.std.specs.Prelude.{◌≡◌, ◌+◌, ◌≤◌, length, ℕ, All};
     ghost use Rattle.state_bits.specs.Members.{Has};
-    ghost use Rattle.fst_compile.specs.Machines.{rows_of, AreRows};
+    ghost use Rattle.fst_compile.specs.Machines.{IsRow};
 
     ghost view = { λ a. record {
       expression = a.expression;
       labels = a.labels.items;
-      edges = rows_of a.ends.items a.edges.items;
+      edges = a.edges.lists;
       finals = a.finals;
     } };
 
-    ghost invariant = { λ a. AreRows a.labels.items a.ends.items a.edges.items
-        × (length a.ends.items ≡ length a.labels.items + 1) × (length a.labels.items ≤ 1024)
+    ghost invariant = { λ a. All (IsRow a.labels.items) a.edges.lists
+        × (length a.edges.lists ≡ length a.labels.items + 1) × (length a.labels.items ≤ 1024)
         × ((state : ℕ) → Has a.finals state → state ≤ length a.labels.items) };
 }
 
@@ -75,7 +73,7 @@ impl Fst {
         ensures few { result ≤ 1025 }
         ensures finals { (state : ℕ) → Has self.now.finals state → state < result }
     {
-        self.ends.len() as u32
+        self.edges.len() as u32
     }
 
     /// The edges that leave state q. Takes no memory.
@@ -85,10 +83,7 @@ impl Fst {
         ensures rising { RisesByTarget result.now }
         ensures labelled { (edge : _) → Contains result.now edge → Enters self.now.labels edge }
     {
-        let number = q.0 as usize;
-        let start = start_at(self.ends.as_slice(), number);
-        let end = self.ends[number];
-        &self.edges[start..end]
+        self.edges.list(q.0 as usize)
     }
 
     /// Whether a path may end in state q. Takes no memory.
@@ -141,24 +136,12 @@ impl Fst {
         ensures labelled { IfOk result (λ m. (state : ℕ) (edge : _)
             → Contains (edges_from m state) edge → Enters m.labels edge) }
     {
-        let (ends, edges) = edges_of_rows(alloc, labels.as_slice(), rows)?;
+        let edges = edges_of_rows(alloc, labels.as_slice(), rows)?;
         Ok(Fst {
             expression,
             labels,
-            ends,
             edges,
             finals,
         })
-    }
-}
-
-// Where the edges of this state begin.
-fn start_at(ends: &[usize], state: usize) -> usize
-    requires { state ≤ length ends.now }
-    ensures { result ≡ start_of ends.now state }
-{
-    match state.checked_sub(1) {
-        Some(before) => ends[before],
-        None => 0,
     }
 }

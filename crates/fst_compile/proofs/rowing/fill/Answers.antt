@@ -1,11 +1,11 @@
 use Rattle.std.proofs.Common.{arith, refl}
-use Rattle.fst_compile.proofs.MachineLemmas.{IsPushedSoFar-none, IsPushedSoFar-more, next_member, enters_at}
-use Rattle.fst_compile.proofs.rowing.push_row.Goals as goal
+use Rattle.fst_compile.proofs.MachineLemmas.{IsFilledSoFar-none, IsFilledSoFar-more, IsRow-filled, LeadTo-filled, next_member, enters_at}
+use Rattle.fst_compile.proofs.rowing.fill.Goals as goal
 
 pub loop-state-init : goal.loop-state-init
 loop-state-init c =
-    rw c.into_iter-state-iterator.ensures.into_iter_gives
-    (IsPushedSoFar-none c.args.labels.now c.args.row.now c.args.edges.now.items c.iter-state-items.result c.iter-state-items.ensures.rising c.iter-state-items.ensures.members)
+    rw (c.into_iter-state-iterator.ensures.into_iter_gives, c.clear.ensures.items)
+    (IsFilledSoFar-none c.args.labels.now c.args.row.now c.iter-state-items.result c.iter-state-items.ensures.rising c.iter-state-items.ensures.members)
 
 pub overflow_sub-label : goal.overflow_sub-label
 overflow_sub-label c =
@@ -22,5 +22,11 @@ loop-state-preserved c =
     let member = next_member c.in-Some.state c.next.new.self c.loop-state.invariant c.in-Some.ensures.steps in
     let (some, inside) = c.requires c.in-Some.state member in
     rw c.in_ok-push.ensures.items
-    (IsPushedSoFar-more c.args.labels.now c.args.row.now c.args.edges.now.items c.loop-state.edges.items c.loop-state.yielded c.loop-state.state-iterator c.next.new.self
+    (IsFilledSoFar-more c.args.labels.now c.args.row.now c.loop-state.edges.items c.loop-state.yielded c.loop-state.state-iterator c.next.new.self
     c.in-Some.state _ c.loop-state.invariant c.in-Some.ensures.steps refl (enters_at c.args.labels.now c.in-Some.state _ some inside))
+
+pub returns-clause-row : goal.returns-clause-row
+returns-clause-row c = ?
+
+pub returns-clause-targets : goal.returns-clause-targets
+returns-clause-targets c = ?
