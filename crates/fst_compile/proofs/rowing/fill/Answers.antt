@@ -26,7 +26,9 @@ loop-state-preserved c =
     c.in-Some.state _ c.loop-state.invariant c.in-Some.ensures.steps refl (enters_at c.args.labels.now c.in-Some.state _ some inside))
 
 pub returns-clause-row : goal.returns-clause-row
-returns-clause-row c = ?
+returns-clause-row c =
+    IsRow-filled c.args.labels.now c.args.row.now c.loop-state.edges.items c.loop-state.yielded c.loop-state.state-iterator c.loop-state.invariant c.in-None.ensures.steps.0
 
 pub returns-clause-targets : goal.returns-clause-targets
-returns-clause-targets c = ?
+returns-clause-targets c =
+    LeadTo-filled c.args.labels.now c.args.row.now c.loop-state.edges.items c.loop-state.yielded c.loop-state.state-iterator c.loop-state.invariant c.in-None.ensures.steps.0
