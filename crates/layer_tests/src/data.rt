@@ -56,9 +56,11 @@ pub(crate) const RUNNING: [(u64, &[Item]); 5] = [
 pub(crate) fn hierarchy(alloc: Global) -> Result<Hierarchy, NoMemory>
     ensures { IfOk result (λ h. h.items ≡ 11) }
 {
-    let ends = vec![in alloc; 1, 3, 5, 6, 7, 8, 9, 10, 12, 14, 18]?;
-    let lists = vec![in alloc; A, A, A1, A, A2, B, C, D, E, R, R, P, R, Q, R, P, Q, X]?;
-    Ok(Hierarchy::new(ends, lists))
+    let ends = Vec::from_slice(alloc, &[1, 3, 5, 6, 7, 8, 9, 10, 12, 14, 18])?;
+    let lists = [
+        A, A, A1, A, A2, B, C, D, E, R, R, P, R, Q, R, P, Q, X,
+    ];
+    Ok(Hierarchy::new(ends, Vec::from_slice(alloc, &lists)?))
 }
 
 /// The names of the items.
@@ -319,9 +321,21 @@ pub(crate) fn text_of_rows(alloc: Global, rows: &[Row]) -> Result<String, NoMemo
     Ok(text)
 }
 
+fn has_row(rows: &[Row], support: u64, items: &[Item]) -> bool {
+    for row in rows {
+        if row.support == support && row.pattern.items() == items {
+            return true;
+        }
+    }
+    false
+}
+
 /// Whether the rows are these, in any order.
 pub(crate) fn are_rows(rows: &[Row], want: Lines) -> bool {
+    for (support, items) in want {
+        if !has_row(rows, *support, items) {
+            return false;
+        }
+    }
     rows.len() == want.len()
-        && want.iter().all(|(support, items)| rows.iter().any(|row| row.support == *support
-            && row.pattern.items() == *items))
 }

@@ -1,72 +1,75 @@
 //! Files and sinks that fail, at each of their calls in turn.
 
-use super::runs::{ANSWER, Faults, HIERARCHY, NO_FAULTS, SEQUENCES, leaves_through};
-use mine_model::OpenGate;
+use super::runs::{
+    ANSWER, Faults, HIERARCHY, Held, Left, NO_FAULTS, RUNNING, SEQUENCES, leaves_with,
+};
+use mine_model::NoMemory;
 use std::alloc::Global;
 use std::sync::Wait;
-use std::test::Fail;
 use std::thread::Threads;
 
 const WORDS: &str = "--support 2 --hierarchy h .*(A)[(.^)|.]*(b).* f";
 
-/// Whether the running example leaves this with these faults.
-fn ends<R: Threads + Wait + Sync>(
-    rt: &R,
-    alloc: Global,
-    faults: Faults,
-    status: u8,
-    out: &str,
-    err: &str,
-) -> Result<bool, Fail> {
-    leaves_through(
-        rt,
-        alloc,
-        WORDS,
-        HIERARCHY.as_bytes(),
-        SEQUENCES.as_bytes(),
-        faults,
-        &OpenGate,
-        status,
-        out.as_bytes(),
-        err.as_bytes(),
-    )
+/// What is left where this call of the files fails. Five calls are those of the hierarchy, and fifteen those of the
+/// sequences: each file is opened once, and not read behind its end.
+fn left_by_read(call: u64) -> Left<'static> {
+    let (status, out, err) = match call {
+        1..=5 => (5, "", "desq: hierarchy: read fault\n"),
+        6..=20 => (5, "", "desq: sequences: read fault\n"),
+        _ => (0, ANSWER, ""),
+    };
+    Left { status, out, err }
 }
 
-// Five calls are those of the hierarchy, and fifteen those of the sequences: each file is opened once, and
-// not read behind its end.
-#[test]
-fn a_read_that_fails_names_its_file(rt: HostRuntime) -> Result<(), Fail> {
+/// The first call of the files that leaves something else where it fails.
+fn first_wrong_read<R: Threads + Wait + Sync>(
+    rt: &R,
+    alloc: Global,
+) -> Result<Option<u64>, NoMemory> {
     for call in 1..=21u64 {
         let faults = Faults {
             files: call,
             cut: 4,
             ..NO_FAULTS
         };
-        let (status, out, err) = match call {
-            1..=5 => (5, "", "desq: hierarchy: read fault\n"),
-            6..=20 => (5, "", "desq: sequences: read fault\n"),
-            _ => (0, ANSWER, ""),
-        };
-        assert!(rt; ends(&rt, rt.alloc(), faults, status, out, err)?, "{call}");
+        if !leaves_with(rt, alloc, WORDS, RUNNING, faults, left_by_read(call))? {
+            return Ok(Some(call));
+        }
     }
-    Ok(())
+    Ok(None)
 }
 
 #[test]
-fn a_write_that_fails_leaves_the_first_bytes(rt: HostRuntime) -> Result<(), Fail> {
+fn a_read_that_fails_names_its_file(rt: HostRuntime) {
+    assert_eq!(rt; first_wrong_read(&rt, rt.alloc()), Ok(None));
+}
+
+/// The number of the first byte that leaves something else where its write fails.
+fn first_wrong_write<R: Threads + Wait + Sync>(
+    rt: &R,
+    alloc: Global,
+) -> Result<Option<usize>, NoMemory> {
     for (before, _) in ANSWER.as_bytes().iter().enumerate() {
         let faults = Faults {
             out: before as u64 + 1,
             cut: 1,
             ..NO_FAULTS
         };
-        let out = ANSWER.get(..before).unwrap_or(ANSWER);
-        assert!(rt;
-            ends(&rt, rt.alloc(), faults, 6, out, "desq: write fault\n")?,
-            "{before}"
-        );
+        let left = Left {
+            status: 6,
+            out: ANSWER.get(..before).unwrap_or(ANSWER),
+            err: "desq: write fault\n",
+        };
+        if !leaves_with(rt, alloc, WORDS, RUNNING, faults, left)? {
+            return Ok(Some(before));
+        }
     }
-    Ok(())
+    Ok(None)
+}
+
+#[test]
+fn a_write_that_fails_leaves_the_first_bytes(rt: HostRuntime) {
+    assert_eq!(rt; first_wrong_write(&rt, rt.alloc()), Ok(None));
 }
 
 /// Words, the hierarchy and the sequences, which calls of the files, of out and of err fail, how many bytes a
@@ -171,22 +174,29 @@ const FAILING: &[Failing] = &[
     ),
 ];
 
-#[test]
-fn faults_are_told_in_their_order(rt: HostRuntime) -> Result<(), Fail> {
-    for (words, hierarchy, sequences, faults, status, out, err) in FAILING {
-        let is_right = leaves_through(
-            &rt,
-            rt.alloc(),
-            words,
-            hierarchy.as_bytes(),
-            sequences.as_bytes(),
-            *faults,
-            &OpenGate,
-            *status,
-            out.as_bytes(),
-            err.as_bytes(),
-        )?;
-        assert!(rt; is_right, "{words}");
+/// The number of the first case that leaves something else.
+fn first_wrong<R: Threads + Wait + Sync>(rt: &R, alloc: Global) -> Result<Option<usize>, NoMemory> {
+    for (number, (words, hierarchy, sequences, faults, status, out, err)) in
+        FAILING.iter().enumerate()
+    {
+        let held = Held {
+            hierarchy,
+            sequences,
+            proof: "",
+        };
+        let left = Left {
+            status: *status,
+            out,
+            err,
+        };
+        if !leaves_with(rt, alloc, words, held, *faults, left)? {
+            return Ok(Some(number));
+        }
     }
-    Ok(())
+    Ok(None)
+}
+
+#[test]
+fn faults_are_told_in_their_order(rt: HostRuntime) {
+    assert_eq!(rt; first_wrong(&rt, rt.alloc()), Ok(None));
 }
