@@ -17,7 +17,7 @@ use super::node::Node;
 use super::state::State;
 use mine_model::NoMemory;
 use mining_job::{Job, PartSeed};
-use sequence_grids::{Alphabet, whole_alphabet};
+use sequence_grids::{Alphabet, empty_alphabet, meet_items_of, whole_alphabet};
 use snapshot_project::{Part, Snapshots, begin_whole, begin_whole_alone};
 use std::alloc::Global;
 use std::sync::Arc;
@@ -35,33 +35,49 @@ pub fn roots<'a>(
         (map (λ (seed : Seed). pivot_of seed.pivot) seeds.items) (map label_at nodes.items)) }
 {
     let support = job.support();
+    let alphabet = Arc::new(alloc, alphabet_of_seeds(alloc, job, seeds.as_slice())?)?;
     let mut nodes = Vec::new(alloc);
-    let mut known = None;
     'seeds: for seed in seeds {
         if weight(job, seed.sequences.as_slice()) >= support {
-            let alphabet = shared_alphabet(alloc, job, &mut known)?;
-            nodes.push(root(alloc, job, seed, alphabet)?)?;
+            nodes.push(root(alloc, job, seed, alphabet.clone()?)?)?;
         }
     }
     Ok(nodes)
 }
 
-// The alphabet of the job, which is made where it is not yet known.
-fn shared_alphabet(
-    alloc: Global,
-    job: &Job,
-    known: &mut Option<Arc<Alphabet>>,
-) -> Result<Arc<Alphabet>, NoMemory>
-    requires known { IfSome known.old (λ all. IsWholeAlphabet job.now (arc_value all)) }
-    ensures known { IfSome known.new (λ all. IsWholeAlphabet job.now (arc_value all)) }
-    ensures alphabet { IfOk result (λ all. IsWholeAlphabet job.now (arc_value all)) }
+// What items may do under the bound of all ranks: those that occur in sequences of seeds that weigh at least
+// the support, or all that occur where these are as many as all sequences.
+fn alphabet_of_seeds(alloc: Global, job: &Job, seeds: &[PartSeed]) -> Result<Alphabet, NoMemory>
+    requires complete { All (IsComplete job.now) seeds.now }
+    ensures { IfOk result (IsWholeAlphabet job.now) }
 {
-    if let Some(all) = known.as_ref() {
-        return Ok(all.clone()?);
+    let support = job.support();
+    if heavy_sequences(job, seeds) >= u64::from(job.db().sequences()) {
+        return whole_alphabet(alloc, job);
     }
-    let all = Arc::new(alloc, whole_alphabet(alloc, job)?)?;
-    *known = Some(all.clone()?);
+    let mut all = empty_alphabet(alloc, job)?;
+    'seeds: for seed in seeds {
+        let sequences = seed.sequences.as_slice();
+        if weight(job, sequences) >= support {
+            meet_items_of(alloc, job, &mut all, sequences)?;
+        }
+    }
     Ok(all)
+}
+
+// How many sequences those of these seeds have together that weigh at least the support.
+fn heavy_sequences(job: &Job, seeds: &[PartSeed]) -> u64
+    requires { All (IsComplete job.now) seeds.now }
+{
+    let support = job.support();
+    let mut count: u64 = 0;
+    'seeds: for seed in seeds {
+        let sequences = seed.sequences.as_slice();
+        if weight(job, sequences) >= support {
+            count = count.saturating_add(sequences.len() as u64);
+        }
+    }
+    count
 }
 
 /// The root of the search without pivots, where the sequences that have a pattern of frequent items weigh at

@@ -222,6 +222,14 @@ AreFilled-all problem bound table kinds places from items position so_far none p
 
 -- ---- the kinds of the items of one more sequence
 
+-- an alphabet of which no sequence is claimed
+pub IsAlphabetTo-none : (problem : Problem) (bound : Bound) (table : TableValue) (kinds : Kinds) → IsTableOf problem table → AreKinds problem bound table.classes kinds → IsAlphabetTo problem bound table kinds 0
+IsAlphabetTo-none problem bound table kinds table_is kinds_are = record {
+  table_is = table_is;
+  kinds_are = kinds_are;
+  met = λ i below. absurd (omega (arith, below));
+}
+
 pub IsAlphabetTo-more : (problem : Problem) (bound : Bound) (table table' : TableValue) (kinds kinds' : Kinds) (count : ℕ) → IsAlphabetTo problem bound table kinds count
     → IsTableOf problem table' → AreKinds problem bound table'.classes kinds' → ((t : Item) → IsMet kinds t → IsMet kinds' t) → AreMet kinds' (items_of problem count)
     → IsAlphabetTo problem bound table' kinds' (count + 1)

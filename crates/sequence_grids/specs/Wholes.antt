@@ -5,15 +5,15 @@ use Rattle.mining_job.specs.declared.bound.Bound.{Bound}
 use Rattle.mining_job.specs.Problems.{Problem}
 use Rattle.sequence_grids.specs.declared.alphabet.Alphabet.{Alphabet}
 use Rattle.sequence_grids.specs.Grids.{WritesRank}
-use Rattle.sequence_grids.specs.Places.{IsAlphabet}
+use Rattle.sequence_grids.specs.Places.{IsAlphabetTo}
 
 -- the bound that allows all ranks and needs none
 abbrev pub whole_bound : Problem → Bound
 whole_bound problem = record { top = length problem.ranking.order; need = None }
 
--- the kinds of the items of the problem under this bound
+-- the kinds of some items of the problem, all that were met, under this bound
 abbrev pub IsWholeAlphabet : Problem → Alphabet → Type 0
-IsWholeAlphabet problem all = IsAlphabet problem (whole_bound problem) all.tables all.kinds
+IsWholeAlphabet problem all = IsAlphabetTo problem (whole_bound problem) all.tables all.kinds 0
 
 -- the ranks are those that edges into the state may write at t, and they rise
 pub record AreOutputs (problem : Problem) (bound : Bound) (t : Item) (k : ℕ) (ranks : List ℕ)

@@ -1,11 +1,12 @@
 //! The kinds of at least all items that occur.
 
 ghost use Rattle.std.specs.Prelude.{◌≡◌, ◌≤◌, ◌<◌, length, All, IfOk, IfSome, OnOk};
+ghost use Rattle.std.specs.List.{AllByRecursion};
 ghost use Rattle.mine_model.specs.declared.item.Item.{Item};
 ghost use Rattle.sequence_grids.specs.Tables.{Grows};
 ghost use Rattle.sequence_grids.specs.Kinds.{AreKinds, KindsGrow, IsMet, AreMet};
 ghost use Rattle.sequence_grids.specs.Places.{IsTableOf, IsAlphabetTo, IsAlphabet};
-ghost use Rattle.sequence_grids.specs.Wholes.{IsWholeAlphabet};
+ghost use Rattle.sequence_grids.specs.Wholes.{whole_bound, IsWholeAlphabet};
 
 use super::cuts::meet;
 use super::kinds::{Kinds, Scratch};
@@ -39,8 +40,50 @@ pub fn alphabet_of(alloc: Global, job: &Job, bound: Bound) -> Result<Alphabet, N
 pub fn whole_alphabet(alloc: Global, job: &Job) -> Result<Alphabet, NoMemory>
     ensures { IfOk result (IsWholeAlphabet job.now) }
 {
+    alphabet_of(alloc, job, whole_bound_of(job))
+}
+
+/// The kinds of no item yet, under the bound of all ranks.
+pub fn empty_alphabet(alloc: Global, job: &Job) -> Result<Alphabet, NoMemory>
+    ensures { IfOk result (IsWholeAlphabet job.now) }
+{
+    no_kinds(alloc, job, whole_bound_of(job))
+}
+
+/// Finds the kinds of the items of these sequences as well, under the bound of all ranks.
+pub fn meet_items_of(
+    alloc: Global,
+    job: &Job,
+    all: &mut Alphabet,
+    sequences: &[u32],
+) -> Result<(), NoMemory>
+    requires within { AllByRecursion (λ i. i < length job.now.sequences) sequences.now }
+    requires alphabet { IsWholeAlphabet job.now all.old }
+    ensures alphabet { IsWholeAlphabet job.now all.new }
+{
+    let bound = whole_bound_of(job);
+    let mut scratch = Scratch::new(alloc);
+    for number in sequences {
+        let items = job.db().sequence(*number);
+        meet_all(
+            job,
+            bound,
+            &mut all.tables,
+            &mut all.kinds,
+            &mut scratch,
+            None,
+            items,
+        )?;
+    }
+    Ok(())
+}
+
+// The bound of all ranks.
+fn whole_bound_of(job: &Job) -> Bound
+    ensures { result ≡ whole_bound job.now }
+{
     let top = job.ranks().count();
-    alphabet_of(alloc, job, Bound { top, need: None })
+    Bound { top, need: None }
 }
 
 // From how many places for each item on it takes less to find the kinds of all items than to look at each

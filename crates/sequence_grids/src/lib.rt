@@ -16,7 +16,7 @@ mod successors;
 mod table;
 mod tables;
 
-pub use alphabet::{Alphabet, alphabet_of, whole_alphabet};
+pub use alphabet::{Alphabet, alphabet_of, empty_alphabet, meet_items_of, whole_alphabet};
 pub use columns::Columns;
 pub use grid::Grid;
 pub use grid_parts::GridParts;

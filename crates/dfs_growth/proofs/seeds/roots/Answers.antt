@@ -26,7 +26,6 @@ seeds-preserved-in_ok-push c =
     record {
       seen = rw append_assoc (ap (λ (xs : List PartSeed). c.seeds.yielded ++ xs) (sym steps.0) ∙ is.seen);
       count = omega (arith, steps.1, is.count, ap length steps.0);
-      known = c.shared_alphabet.ensures.known;
       problem = rw c.in_ok-push.ensures.items (All-push (λ (node : Prefix). node.problem ≡ job) c.seeds.nodes.items c.in_ok-root.field-0 is.problem (ap (λ (p : Prefix). p.problem) node));
       roots = rw c.in_ok-push.ensures.items (roots-push job c.seeds.yielded c.seeds.nodes.items seed c.in_ok-root.field-0 complete enough node is.roots);
     }
@@ -43,7 +42,6 @@ seeds-preserved c =
     record {
       seen = rw append_assoc (ap (λ (xs : List PartSeed). c.seeds.yielded ++ xs) (sym steps.0) ∙ is.seen);
       count = omega (arith, steps.1, is.count, ap length steps.0);
-      known = is.known;
       problem = is.problem;
       roots = roots-pass job c.seeds.yielded c.seeds.nodes.items seed complete few is.roots;
     }
