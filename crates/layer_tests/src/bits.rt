@@ -4,8 +4,8 @@ ghost use Rattle.std.specs.Prelude.{◌<◌, ◌≤◌};
 use state_bits::StateSet;
 use std::alloc::{AllocError, Global};
 
-/// Whether the members of a set of the states, added from the last on, are these. States that have no place are
-/// left out.
+/// Whether the members of a set of the states, added from the last on, are these. States that have no place
+/// are left out.
 fn are_members<const W: usize>(
     alloc: Global,
     states: &[u32],

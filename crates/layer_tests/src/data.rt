@@ -57,10 +57,9 @@ pub(crate) fn hierarchy(alloc: Global) -> Result<Hierarchy, NoMemory>
     ensures { IfOk result (λ h. h.items ≡ 11) }
 {
     let ends = Vec::from_slice(alloc, &[1, 3, 5, 6, 7, 8, 9, 10, 12, 14, 18])?;
-    let lists = [
-        A, A, A1, A, A2, B, C, D, E, R, R, P, R, Q, R, P, Q, X,
-    ];
-    Ok(Hierarchy::new(ends, Vec::from_slice(alloc, &lists)?))
+    let lists = [A, A, A1, A, A2, B, C, D, E, R, R, P, R, Q, R, P, Q, X];
+    let lists = Vec::from_slice(alloc, &lists)?;
+    Ok(Hierarchy::new(ends, lists))
 }
 
 /// The names of the items.

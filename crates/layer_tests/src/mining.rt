@@ -15,8 +15,8 @@ enum Engine {
     Cand,
 }
 
-/// What is mined, how often its lines stand, the support, how many candidates and how many sets are counted, and
-/// the rows.
+/// What is mined, how often its lines stand, the support, how many candidates and how many sets are counted,
+/// and the rows.
 #[derive(Clone, Copy)]
 struct Case {
     shape: Shape,
@@ -179,14 +179,20 @@ fn first_wrong<R: Threads + Wait + Sync>(
 #[test]
 fn candidates_find_the_frequent_patterns(rt: HostRuntime) {
     for workers in [1, 2, 4, 64] {
-        assert_eq!(rt; first_wrong(&rt, rt.alloc(), Engine::Count, workers), Ok(None));
+        assert_eq!(rt;
+            first_wrong(&rt, rt.alloc(), Engine::Count, workers),
+            Ok(None)
+        );
     }
 }
 
 #[test]
 fn sets_find_the_frequent_patterns(rt: HostRuntime) {
     for workers in [1, 2, 4, 64] {
-        assert_eq!(rt; first_wrong(&rt, rt.alloc(), Engine::Cand, workers), Ok(None));
+        assert_eq!(rt;
+            first_wrong(&rt, rt.alloc(), Engine::Cand, workers),
+            Ok(None)
+        );
     }
 }
 

@@ -27,8 +27,11 @@ fn snapshot(numbers: Numbers) -> PlainSnapshot {
 fn is_behind(before: Place, place: Place) -> bool
     ensures { IsTrue result → IsBehind before place }
 {
-    before.sequence < place.sequence
-        || before.sequence == place.sequence && before.position <= place.position
+    if before.sequence == place.sequence {
+        before.position <= place.position
+    } else {
+        before.sequence < place.sequence
+    }
 }
 
 /// The bytes of the snapshots. One that is not behind the one before it is left out.

@@ -85,17 +85,15 @@ fn parts_by<T: Threads + Sync>(rt: &T, alloc: Global, threads: u32) -> Result<St
 #[test]
 fn threads_find_the_same_parts(rt: HostRuntime) {
     for threads in [1, 2, 5, 64] {
-        assert_eq!(rt; parts_by(&rt, rt.alloc(), threads).as_deref(), Ok(" 3: 0 1 4"));
+        assert_eq!(rt;
+            parts_by(&rt, rt.alloc(), threads).as_deref(),
+            Ok(" 3: 0 1 4")
+        );
     }
 }
 
 /// Whether this is the merge of the two lists.
-fn is_merged(
-    alloc: Global,
-    first: &[u32],
-    second: &[u32],
-    want: &[u32],
-) -> Result<bool, NoMemory>
+fn is_merged(alloc: Global, first: &[u32], second: &[u32], want: &[u32]) -> Result<bool, NoMemory>
     requires first { AllPairs (λ low high. low < high) first.now }
     requires second { AllPairs (λ low high. low < high) second.now }
     requires some { first.now ≢ [] }

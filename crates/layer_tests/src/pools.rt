@@ -56,8 +56,8 @@ fn steal(seats: &mut Pool, by: usize, from: u32) -> Option<u32>
     Some(seats[by].steal(from)?.label)
 }
 
-/// Seat 0 puts the labels 1, 2 and so on, each other seat up to `thieves` steals from it once, and then seat 0
-/// takes so many times. Adds what the steals and the takes answer, and tells whether each label was put.
+/// Seat 0 puts the labels 1, 2 and so on, each other seat up to `thieves` steals from it once, and then seat
+/// 0 takes so many times. Adds what the steals and the takes answer, and tells whether each label was put.
 fn act(
     seats: &mut Pool,
     answers: &mut Vec<Option<u32>>,

@@ -93,7 +93,7 @@ fn is_text(sink: &MemSink, want: &str) -> bool {
     sink.bytes() == want.as_bytes()
 }
 
-/// Whether a sink has this of the proof of the job's answer that fails at these calls, and whether that is whole.
+/// Whether a sink that fails at these calls has this of the proof of the job's answer, which is whole or not.
 fn is_written(
     alloc: Global,
     job: &Job,

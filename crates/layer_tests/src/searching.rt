@@ -59,9 +59,9 @@ fn simulated(
     text_of_rows(alloc, found.rows.as_slice())
 }
 
-/// Whether the search is split, its workers, its seed, and its rows. The orders were worked out by the rules of
-/// the machine. The only part has the pivot a1, and its tree is that of all ranks but for the labels' first
-/// numbers.
+/// Whether the search is split, its workers, its seed, and its rows. The orders were worked out by the rules
+/// of the machine. The only part has the pivot a1, and its tree is that of all ranks but for the labels'
+/// first numbers.
 const SIMULATED: [(bool, u32, u64, &str); 5] = [
     (false, 1, 7, "2 a1 a1 b,2 a1 A b,3 a1 b,"),
     (false, 3, 0, "2 a1 A b,3 a1 b,2 a1 a1 b,"),

@@ -1,6 +1,6 @@
 //! A list of amounts under a lock.
-ghost use Rattle.std.specs.Prelude.{◌≡◌, ℕ, ◌<◌, List, [], ◌∷◌, length, map, All, IfOk, vec_len};
-ghost use Rattle.turn_lock.specs.Passes.{IsPassOf, AreAllPasses};
+ghost use Rattle.std.specs.Prelude.{◌≡◌, ℕ, ◌<◌, ◌≤◌, List, [], ◌∷◌, length, map, All, IfOk, vec_len};
+ghost use Rattle.turn_lock.specs.Passes.{pass_count, IsPassOf, AreAllPasses};
 
 use mine_model::NoMemory;
 use std::alloc::Global;
@@ -86,7 +86,7 @@ fn change_all(
     passes: &mut [Pass<Amounts>],
 ) -> Result<bool, NoMemory>
     requires all { AreAllPasses lock.now passes.old }
-    requires two { length passes.old ≡ 2 }
+    requires two { pass_count lock.now ≡ 2 }
     ensures all { AreAllPasses lock.now passes.new }
 {
     change_at(rt, lock, passes, 0, &mut Add(5))?;
@@ -96,7 +96,9 @@ fn change_all(
     Ok(is_refused)
 }
 
-fn no_amounts(alloc: Global) -> Amounts {
+fn no_amounts(alloc: Global) -> Amounts
+    ensures { result ≡ [] }
+{
     Amounts {
         added: Vec::new(alloc),
     }
@@ -220,7 +222,7 @@ fn all_count_up(amounts: &[(u32, u64)], passes: u32, count: u64) -> bool {
             return false;
         }
     }
-    amounts.len() as u64 == u64::from(passes) * count
+    amounts.len() as u64 == u64::from(passes).saturating_mul(count)
 }
 
 /// Whether so many threads count up, each in its order.
@@ -231,7 +233,7 @@ fn threads_count_up<R: Threads + Wait + Clock + Sync>(
     count: u64,
     rest: Duration,
 ) -> Result<bool, NoMemory>
-    requires { count ≤ 1000000 }
+    requires { 1 ≤ passes }
 {
     let (lock, all) = TurnLock::new(alloc, no_amounts(alloc), passes)?;
     let all = count_in_threads(rt, alloc, &lock, all, count, rest)?;

@@ -49,7 +49,8 @@ fn put(alloc: Global) -> Result<String, NoMemory> {
 
 #[test]
 fn puts_a_rule_as_an_expression(rt: HostRuntime) {
-    let wanted = "Cat(Cat(Cat(Rep { inner: Leaf(Any), least: 0, most: None }, Cap(Leaf(AnyClimb))), \
+    let wanted =
+        "Cat(Cat(Cat(Rep { inner: Leaf(Any), least: 0, most: None }, Cap(Leaf(AnyClimb))), \
          Rep { inner: Cat(Rep { inner: Leaf(Any), least: 0, most: Some(7) }, Cap(Leaf(AnyClimb))), \
          least: 1, most: Some(3) }), Rep { inner: Leaf(Any), least: 0, most: None })";
     assert_eq!(rt; put(rt.alloc()).as_deref(), Ok(wanted));

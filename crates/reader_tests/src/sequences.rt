@@ -52,8 +52,8 @@ fn hold(found: &Result<Db, SequenceFault>, lines: Lines) -> bool {
     }
 }
 
-/// Whether a file with these bytes has these sequences, and gives so many names in all to those that begin with
-/// `top`.
+/// Whether a file with this text has these sequences, and there are so many names with `top`, which is the
+/// first.
 fn reads_as<R: Threads + Sync>(
     rt: &R,
     alloc: Global,

@@ -1,8 +1,6 @@
 //! Each engine with one worker and with several, simulated or not, and the counted work that it tells.
 
-use super::runs::{
-    ANSWER, Case, HIERARCHY, Left, SEQUENCES, first_wrong_by, leaves, of_sequences,
-};
+use super::runs::{ANSWER, Case, HIERARCHY, Left, SEQUENCES, first_wrong_by, leaves, of_sequences};
 use mine_model::NoMemory;
 use std::alloc::Global;
 use std::sync::Wait;
@@ -55,7 +53,10 @@ const SEARCHES: &[&str] = &[
 
 #[test]
 fn any_workers_and_any_order_of_steps_give_the_same_answer(rt: HostRuntime) {
-    assert_eq!(rt; first_wrong_by(&rt, rt.alloc(), SEARCHES, RUNNING), Ok(None));
+    assert_eq!(rt;
+        first_wrong_by(&rt, rt.alloc(), SEARCHES, RUNNING),
+        Ok(None)
+    );
 }
 
 // A prefix that is no pattern of its own; two edges that write at one place; places that many silent paths
@@ -128,10 +129,7 @@ const GROWN: &[Case] = &[
     ),
 ];
 
-const GROWTHS: &[&str] = &[
-    "--stats",
-    "--stats --engine=dfs --simulate=3",
-];
+const GROWTHS: &[&str] = &["--stats", "--stats --engine=dfs --simulate=3"];
 
 #[test]
 fn finds_what_prefixes_grow_into(rt: HostRuntime) {

@@ -72,7 +72,15 @@ fn is_shared<R: Threads + Wait + Sync>(
         out,
         err: "",
     };
-    let is_left = leaves_through(rt, alloc, words, of_sequences(lines), NO_FAULTS, &gate, left);
+    let is_left = leaves_through(
+        rt,
+        alloc,
+        words,
+        of_sequences(lines),
+        NO_FAULTS,
+        &gate,
+        left,
+    );
     let is_passed = gate.passes.load(Ordering::SeqCst) == passes
         && gate.given_up.load(Ordering::SeqCst) == 0;
     Ok(is_left? && is_passed)

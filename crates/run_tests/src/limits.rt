@@ -27,7 +27,14 @@ fn writes_all<R: Threads + Wait + Sync>(
         out: answer.as_str(),
         err: "",
     };
-    leaves_with(rt, alloc, words.as_str(), of_sequences(line), one_write, left)
+    leaves_with(
+        rt,
+        alloc,
+        words.as_str(),
+        of_sequences(line),
+        one_write,
+        left,
+    )
 }
 
 /// Whether `(a){count}` writes the first so many items of the line.
@@ -278,7 +285,13 @@ fn first_wrong_chain<R: Threads + Wait + Sync>(
             out,
             err,
         };
-        if !leaves(rt, alloc, "--support 1 --hierarchy h (i8191^=) f", held, left)? {
+        if !leaves(
+            rt,
+            alloc,
+            "--support 1 --hierarchy h (i8191^=) f",
+            held,
+            left,
+        )? {
             return Ok(Some(*last));
         }
     }

@@ -10,8 +10,8 @@ use std::thread::Threads;
 
 const WORDS: &str = "--support 2 --hierarchy h .*(A)[(.^)|.]*(b).* f";
 
-/// What is left where this call of the files fails. Five calls are those of the hierarchy, and fifteen those of the
-/// sequences: each file is opened once, and not read behind its end.
+/// What is left where this call of the files fails. Five calls are those of the hierarchy, and fifteen those
+/// of the sequences: each file is opened once, and not read behind its end.
 fn left_by_read(call: u64) -> Left<'static> {
     let (status, out, err) = match call {
         1..=5 => (5, "", "desq: hierarchy: read fault\n"),
@@ -176,8 +176,9 @@ const FAILING: &[Failing] = &[
 
 /// The number of the first case that leaves something else.
 fn first_wrong<R: Threads + Wait + Sync>(rt: &R, alloc: Global) -> Result<Option<usize>, NoMemory> {
-    for (number, (words, hierarchy, sequences, faults, status, out, err)) in
-        FAILING.iter().enumerate()
+    for (number, (words, hierarchy, sequences, faults, status, out, err)) in FAILING
+        .iter()
+        .enumerate()
     {
         let held = Held {
             hierarchy,

@@ -175,8 +175,8 @@ fn each_engine_writes_the_proof(rt: HostRuntime) {
     assert_eq!(rt; first_without_proof(&rt, rt.alloc()), Ok(None));
 }
 
-/// What is left where this call of the files fails. Three calls read the sequences, and three the proof: it is
-/// opened once, and not read behind its end.
+/// What is left where this call of the files fails. Three calls read the sequences, and three the proof: it
+/// is opened once, and not read behind its end.
 fn left_by_read(call: u64) -> Left<'static> {
     let (status, out, err) = match call {
         3 => (5, "", "desq: sequences: read fault\n"),
@@ -196,7 +196,14 @@ fn first_wrong_read<R: Threads + Wait + Sync>(
             files: call,
             ..NO_FAULTS
         };
-        if !leaves_with(rt, alloc, CHECKS, held(MINED, PROOF), faults, left_by_read(call))? {
+        if !leaves_with(
+            rt,
+            alloc,
+            CHECKS,
+            held(MINED, PROOF),
+            faults,
+            left_by_read(call),
+        )? {
             return Ok(Some(call));
         }
     }
@@ -208,8 +215,8 @@ fn a_read_that_fails_is_told(rt: HostRuntime) {
     assert_eq!(rt; first_wrong_read(&rt, rt.alloc()), Ok(None));
 }
 
-/// The number of the first byte of the proof that leaves something else where its write fails: each leaves those
-/// before it.
+/// The number of the first byte of the proof that leaves something else where its write fails: each leaves
+/// those before it.
 fn first_wrong_write<R: Threads + Wait + Sync>(
     rt: &R,
     alloc: Global,
