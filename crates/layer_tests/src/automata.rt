@@ -34,18 +34,18 @@ const THREE: &str = " 0 1 3 1 0 3 1 2 2 3 3 3 1 0 0 1 1 2";
 const NONE: &str = " 0 0";
 
 /// The number of the first sequence with another automaton.
-fn wrong_of(alloc: Global, job: &Job) -> Result<Option<u32>, NoMemory> {
+fn wrong_of(alloc: Global, job: &Job) -> Result<Option<usize>, NoMemory> {
     for (sequence, want) in [ALONE, THREE, NONE, NONE, THREE].iter().enumerate() {
         let mut text = String::new(alloc);
         add_automaton(&mut text, alloc, job, sequence as u32, 3)?;
         if text.as_str() != *want {
-            return Ok(Some(sequence as u32));
+            return Ok(Some(sequence));
         }
     }
     Ok(None)
 }
 
-fn first_wrong<T: Threads + Sync>(rt: &T, alloc: Global) -> Result<Option<u32>, NoMemory> {
+fn first_wrong<T: Threads + Sync>(rt: &T, alloc: Global) -> Result<Option<usize>, NoMemory> {
     let job = job(rt, alloc, Shape::Climbing, &RUNNING, 1, 2)?;
     wrong_of(alloc, &job)
 }

@@ -1,8 +1,9 @@
 //! Sets of states.
 ghost use Rattle.std.specs.Prelude.{◌<◌, ◌≤◌};
 
+use mine_model::NoMemory;
 use state_bits::StateSet;
-use std::alloc::{AllocError, Global};
+use std::alloc::Global;
 
 /// Whether the members of a set of the states, added from the last on, are these. States that have no place
 /// are left out.
@@ -10,7 +11,7 @@ fn are_members<const W: usize>(
     alloc: Global,
     states: &[u32],
     want: &[u32],
-) -> Result<bool, AllocError>
+) -> Result<bool, NoMemory>
     requires { W ≤ 17 }
 {
     let mut set = StateSet::<W>::new();
@@ -23,7 +24,7 @@ fn are_members<const W: usize>(
     Ok(members.as_slice() == want)
 }
 
-fn keeps_borders(alloc: Global) -> Result<bool, AllocError> {
+fn keeps_borders(alloc: Global) -> Result<bool, NoMemory> {
     let all = [0, 63, 64, 65, 127, 128, 255, 256, 1_023, 1_024, 1_087];
     Ok(
         are_members::<1>(alloc, &all, &all[..2])?

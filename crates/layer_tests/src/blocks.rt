@@ -26,31 +26,48 @@ fn pairs_of(alloc: Global, job: &Job) -> Result<(u64, u64), NoMemory> {
     pairs_with(&mut counts, 1)
 }
 
-/// The same on the job of the expression and these lines, each so many times.
-fn pairs_in<T: Threads + Sync>(
+/// Whether these are the pairs on the job of the expression and these lines, each so many times.
+fn are_pairs<T: Threads + Sync>(
     rt: &T,
     alloc: Global,
     shape: Shape,
     lines: Lines,
     times: u32,
     support: u64,
-) -> Result<(u64, u64), NoMemory>
+    want: (u64, u64),
+) -> Result<bool, NoMemory>
     requires { 1 ≤ support }
 {
     let job = job(rt, alloc, shape, lines, times, support)?;
-    pairs_of(alloc, &job)
+    Ok(pairs_of(alloc, &job)? == want)
 }
 
 // Sixty of each of the running sequences: the last 44 of the fifth are in the second block.
 #[test]
 fn counts_the_candidates_of_a_block(rt: HostRuntime) {
-    let pairs = pairs_in(&rt, rt.alloc(), Shape::Climbing, &RUNNING, 60, 61);
-    assert_eq!(rt; pairs, Ok((648, 132)));
+    let are_counted = are_pairs(
+        &rt,
+        rt.alloc(),
+        Shape::Climbing,
+        &RUNNING,
+        60,
+        61,
+        (648, 132),
+    );
+    assert_eq!(rt; are_counted, Ok(true));
 }
 
 #[test]
 fn counts_the_last_block_to_its_end(rt: HostRuntime) {
     let lines: Lines = &[(1_000_000_000, &[C])];
-    let pairs = pairs_in(&rt, rt.alloc(), Shape::Subsequence, lines, 300, 1);
-    assert_eq!(rt; pairs, Ok((256, 44)));
+    let are_counted = are_pairs(
+        &rt,
+        rt.alloc(),
+        Shape::Subsequence,
+        lines,
+        300,
+        1,
+        (256, 44),
+    );
+    assert_eq!(rt; are_counted, Ok(true));
 }

@@ -104,9 +104,11 @@ fn is_merged(alloc: Global, first: &[u32], second: &[u32], want: &[u32]) -> Resu
     Ok(numbers.as_slice() == want)
 }
 
+fn are_merged(alloc: Global) -> Result<bool, NoMemory> {
+    Ok(is_merged(alloc, &[2, 5], &[3, 4], &[3, 4, 5])? && is_merged(alloc, &[0], &[0, 7], &[0, 7])?)
+}
+
 #[test]
 fn merges_pivots(rt: HostRuntime) {
-    let apart = is_merged(rt.alloc(), &[2, 5], &[3, 4], &[3, 4, 5]);
-    let shared = is_merged(rt.alloc(), &[0], &[0, 7], &[0, 7]);
-    assert_eq!(rt; (apart, shared), (Ok(true), Ok(true)));
+    assert_eq!(rt; are_merged(rt.alloc()), Ok(true));
 }

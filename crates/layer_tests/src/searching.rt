@@ -28,18 +28,26 @@ fn is_found<R: Threads + Wait + Sync>(
     Ok(found.work == WORK && are_rows(found.rows.as_slice(), ROWS))
 }
 
-/// The first way to search, with so many workers, that finds something else.
-fn first_wrong<R: Threads + Wait + Sync>(
+/// Whether the search is split, and its workers.
+const SEARCHES: [(bool, u32); 4] = [(false, 1), (false, 4), (true, 1), (true, 4)];
+
+/// The number of the first search that finds something else.
+fn wrong_of<R: Threads + Wait + Sync>(
     rt: &R,
     alloc: Global,
-) -> Result<Option<(bool, u32)>, NoMemory> {
-    let job = job(rt, alloc, Shape::Climbing, &RUNNING, 1, 2)?;
-    for (split, workers) in [(false, 1), (false, 4), (true, 1), (true, 4)] {
-        if !is_found(rt, alloc, &job, split, workers)? {
-            return Ok(Some((split, workers)));
+    job: &Job,
+) -> Result<Option<usize>, NoMemory> {
+    for (number, (split, workers)) in SEARCHES.iter().enumerate() {
+        if !is_found(rt, alloc, job, *split, *workers)? {
+            return Ok(Some(number));
         }
     }
     Ok(None)
+}
+
+fn first_wrong<R: Threads + Wait + Sync>(rt: &R, alloc: Global) -> Result<Option<usize>, NoMemory> {
+    let job = job(rt, alloc, Shape::Climbing, &RUNNING, 1, 2)?;
+    wrong_of(rt, alloc, &job)
 }
 
 #[test]

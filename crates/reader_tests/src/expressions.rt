@@ -2,7 +2,7 @@
 
 ghost use Rattle.std.specs.Prelude.{[], ◌∷◌};
 
-use mine_model::Item;
+use mine_model::{Item, NoMemory};
 use patex_parser::{FindName, NameUse, PatexFault, parse, resolve};
 use std::alloc::{AllocError, Global};
 
@@ -60,7 +60,7 @@ fn read_as(alloc: Global, text: &str) -> Result<String, AllocError> {
 }
 
 // The first text that reads otherwise.
-fn first_misread(alloc: Global) -> Result<Option<&'static str>, AllocError> {
+fn first_misread(alloc: Global) -> Result<Option<&'static str>, NoMemory> {
     for (text, wanted) in READINGS {
         if read_as(alloc, text)?.as_str() != *wanted {
             return Ok(Some(*text));
@@ -94,15 +94,17 @@ fn are_uses(found: &[NameUse], wanted: &[(u32, &str)]) -> bool {
 }
 
 // Whether the names of the text are these.
-fn has_uses(alloc: Global, text: &str, wanted: &[(u32, &str)]) -> Result<bool, PatexFault> {
-    let parsed = parse(alloc, text.as_bytes())?;
-    Ok(are_uses(parsed.uses.as_slice(), wanted))
+fn has_uses(alloc: Global, text: &str, wanted: &[(u32, &str)]) -> bool {
+    match parse(alloc, text.as_bytes()) {
+        Ok(parsed) => are_uses(parsed.uses.as_slice(), wanted),
+        Err(_) => false,
+    }
 }
 
 #[test]
 fn keeps_the_uses_of_names(rt: HostRuntime) {
     let text = "(é) 'b''c'* ! ''='''' a-b@c/d:e#f%g&h_9";
-    assert_eq!(rt; has_uses(rt.alloc(), text, USES), Ok(true));
+    assert!(rt; has_uses(rt.alloc(), text, USES));
 }
 
 // A text's front, how often it stands, its middle, its back, how often it stands, and the refusal.
@@ -195,14 +197,14 @@ fn repeated(
 }
 
 // Whether the text is refused so.
-fn is_refused(alloc: Global, limit: Limit) -> Result<bool, AllocError> {
+fn is_refused(alloc: Global, limit: Limit) -> Result<bool, NoMemory> {
     let (front, times, middle, back, back_times, fault) = limit;
     let text = repeated(alloc, front, times, middle, back, back_times)?;
     Ok(parse(alloc, text.as_bytes()).err() == fault)
 }
 
 // The number of the first text that is refused otherwise.
-fn first_beyond(alloc: Global) -> Result<Option<usize>, AllocError> {
+fn first_beyond(alloc: Global) -> Result<Option<usize>, NoMemory> {
     for (number, limit) in LIMITS.iter().enumerate() {
         if !is_refused(alloc, *limit)? {
             return Ok(Some(number));
@@ -255,7 +257,7 @@ fn found_as(alloc: Global, text: &str) -> Result<String, AllocError> {
 }
 
 // The first text whose names are found to be others.
-fn first_misfound(alloc: Global) -> Result<Option<&'static str>, AllocError> {
+fn first_misfound(alloc: Global) -> Result<Option<&'static str>, NoMemory> {
     for (text, wanted) in FOUND {
         if found_as(alloc, text)?.as_str() != *wanted {
             return Ok(Some(*text));

@@ -139,12 +139,12 @@ const CHAINS: &[(u32, &str, Option<Fault>)] = &[
     ),
 ];
 
-/// The last item of the first chain that is refused otherwise.
-fn first_other_chain(alloc: Global) -> Result<Option<u32>, NoMemory> {
-    for (last, more, fault) in CHAINS {
+/// The number of the first chain that is refused otherwise.
+fn first_other_chain(alloc: Global) -> Result<Option<usize>, NoMemory> {
+    for (number, (last, more, fault)) in CHAINS.iter().enumerate() {
         let text = chain(alloc, *last, more)?;
         if refusal_of(alloc, text.as_bytes(), 4_096)? != *fault {
-            return Ok(Some(*last));
+            return Ok(Some(number));
         }
     }
     Ok(None)

@@ -3,6 +3,7 @@
 ghost use Rattle.std.specs.Prelude.{◌<◌};
 
 use super::one_file::one_file;
+use mine_model::NoMemory;
 use std::alloc::{AllocError, Global};
 use text_ports::TextFault::BadByte;
 use text_ports::{LineVisitor, Span, TextFault, read_lines};
@@ -85,7 +86,7 @@ fn is_shown(
     cut: usize,
     outcome: Outcome,
     text: &str,
-) -> Result<bool, AllocError>
+) -> Result<bool, NoMemory>
     requires { 0 < cut }
 {
     let (found, shown) = shown_of(alloc, bytes, cut, &[])?;
@@ -93,7 +94,7 @@ fn is_shown(
 }
 
 /// The number of the first file of which something else is shown.
-fn first_misread(alloc: Global, cut: usize) -> Result<Option<usize>, AllocError>
+fn first_misread(alloc: Global, cut: usize) -> Result<Option<usize>, NoMemory>
     requires { 0 < cut }
 {
     for (number, (bytes, outcome, text)) in LINES.iter().enumerate() {
@@ -112,7 +113,7 @@ fn lines_and_fields_or_the_first_bad_byte(rt: HostRuntime) {
 }
 
 /// Whether a file of 16,385 bytes is read where this call fails.
-fn is_read(alloc: Global, fail: u64) -> Result<bool, AllocError> {
+fn is_read(alloc: Global, fail: u64) -> Result<bool, NoMemory> {
     let (outcome, _) = shown_of(alloc, &[b' '; 16_385], 65_536, &[fail])?;
     Ok(outcome.is_ok())
 }

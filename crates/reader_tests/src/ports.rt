@@ -58,17 +58,17 @@ const IN_MEMORY: &[Call] = &[
     (None, Ok(0)),
 ];
 
-/// The number of the first call that answers something else, and what the reads leave in a buffer.
-fn read_in_memory(alloc: Global) -> Result<(Option<usize>, [u8; 4]), AllocError> {
+/// Whether each call answers that, and what the reads leave in a buffer is right.
+fn is_read_in_memory(alloc: Global) -> Result<bool, NoMemory> {
     let mut files = two_of_a_name(alloc)?;
     let mut buffer = [0; 4];
     let other = first_other(&mut files, IN_MEMORY, &mut buffer);
-    Ok((other, buffer))
+    Ok(other == None && buffer == [b'c', b'b', 0, 0])
 }
 
 #[test]
 fn files_in_memory_fail_where_they_are_told_to(rt: HostRuntime) {
-    assert_eq!(rt; read_in_memory(rt.alloc()), Ok((None, *b"cb\0\0")));
+    assert_eq!(rt; is_read_in_memory(rt.alloc()), Ok(true));
 }
 
 const CALLS: &[(&str, Result<usize, Failed>, &str)] = &[
@@ -123,7 +123,7 @@ const SURE: &[Call] = &[
     (None, Ok(0)),
 ];
 
-fn read_surely(alloc: Global) -> Result<Option<usize>, AllocError> {
+fn read_surely(alloc: Global) -> Result<Option<usize>, NoMemory> {
     let file = named(alloc, "f", "x")?;
     let mut files = SureFiles::new(vec![in alloc; file]?, 1);
     Ok(first_other(&mut files, SURE, &mut [0; 2]))
@@ -218,5 +218,5 @@ fn first_other_stream() -> Option<usize> {
 fn an_interrupted_call_is_made_again(rt: HostRuntime) {
     let out = StdSink::out(&rt).write(b"\n");
     let err = StdSink::err(&rt).write(b"\n");
-    assert_eq!(rt; (first_other_stream(), out, err), (None, Ok(1), Ok(1)));
+    assert!(rt; first_other_stream() == None && out == Ok(1) && err == Ok(1));
 }

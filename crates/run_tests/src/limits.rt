@@ -268,12 +268,12 @@ const CHAINS: &[(u32, u8, &str, &str)] = &[
     ),
 ];
 
-/// The last item of the first chain of which something else is left.
+/// The number of the first chain of which something else is left.
 fn first_wrong_chain<R: Threads + Wait + Sync>(
     rt: &R,
     alloc: Global,
-) -> Result<Option<u32>, NoMemory> {
-    for (last, status, out, err) in CHAINS {
+) -> Result<Option<usize>, NoMemory> {
+    for (number, (last, status, out, err)) in CHAINS.iter().enumerate() {
         let links = chain(alloc, *last)?;
         let held = Held {
             hierarchy: links.as_str(),
@@ -292,7 +292,7 @@ fn first_wrong_chain<R: Threads + Wait + Sync>(
             held,
             left,
         )? {
-            return Ok(Some(*last));
+            return Ok(Some(number));
         }
     }
     Ok(None)

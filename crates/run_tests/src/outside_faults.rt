@@ -1,7 +1,8 @@
 //! Files and sinks that fail, at each of their calls in turn.
 
 use super::runs::{
-    ANSWER, Faults, HIERARCHY, Held, Left, NO_FAULTS, RUNNING, SEQUENCES, leaves_with,
+    ANSWER, FailedCalls, Faults, HIERARCHY, Held, Left, RUNNING, SEQUENCES, first_wrong_read,
+    first_wrong_write, leaves_with,
 };
 use mine_model::NoMemory;
 use std::alloc::Global;
@@ -10,66 +11,48 @@ use std::thread::Threads;
 
 const WORDS: &str = "--support 2 --hierarchy h .*(A)[(.^)|.]*(b).* f";
 
-/// What is left where this call of the files fails. Five calls are those of the hierarchy, and fifteen those
-/// of the sequences: each file is opened once, and not read behind its end.
-fn left_by_read(call: u64) -> Left<'static> {
-    let (status, out, err) = match call {
-        1..=5 => (5, "", "desq: hierarchy: read fault\n"),
-        6..=20 => (5, "", "desq: sequences: read fault\n"),
-        _ => (0, ANSWER, ""),
-    };
-    Left { status, out, err }
-}
-
-/// The first call of the files that leaves something else where it fails.
-fn first_wrong_read<R: Threads + Wait + Sync>(
-    rt: &R,
-    alloc: Global,
-) -> Result<Option<u64>, NoMemory> {
-    for call in 1..=21u64 {
-        let faults = Faults {
-            files: call,
-            cut: 4,
-            ..NO_FAULTS
-        };
-        if !leaves_with(rt, alloc, WORDS, RUNNING, faults, left_by_read(call))? {
-            return Ok(Some(call));
-        }
-    }
-    Ok(None)
-}
+// Five calls are those of the hierarchy, and fifteen those of the sequences: each file is opened once, and not
+// read behind its end.
+const READS: &[FailedCalls] = &[
+    (
+        1,
+        5,
+        Left {
+            status: 5,
+            out: "",
+            err: "desq: hierarchy: read fault\n",
+        },
+    ),
+    (
+        6,
+        20,
+        Left {
+            status: 5,
+            out: "",
+            err: "desq: sequences: read fault\n",
+        },
+    ),
+    (
+        21,
+        21,
+        Left {
+            status: 0,
+            out: ANSWER,
+            err: "",
+        },
+    ),
+];
 
 #[test]
 fn a_read_that_fails_names_its_file(rt: HostRuntime) {
-    assert_eq!(rt; first_wrong_read(&rt, rt.alloc()), Ok(None));
-}
-
-/// The number of the first byte that leaves something else where its write fails.
-fn first_wrong_write<R: Threads + Wait + Sync>(
-    rt: &R,
-    alloc: Global,
-) -> Result<Option<usize>, NoMemory> {
-    for (before, _) in ANSWER.as_bytes().iter().enumerate() {
-        let faults = Faults {
-            out: before as u64 + 1,
-            cut: 1,
-            ..NO_FAULTS
-        };
-        let left = Left {
-            status: 6,
-            out: ANSWER.get(..before).unwrap_or(ANSWER),
-            err: "desq: write fault\n",
-        };
-        if !leaves_with(rt, alloc, WORDS, RUNNING, faults, left)? {
-            return Ok(Some(before));
-        }
-    }
-    Ok(None)
+    let wrong = first_wrong_read(&rt, rt.alloc(), WORDS, RUNNING, 4, READS);
+    assert_eq!(rt; wrong, Ok(None));
 }
 
 #[test]
 fn a_write_that_fails_leaves_the_first_bytes(rt: HostRuntime) {
-    assert_eq!(rt; first_wrong_write(&rt, rt.alloc()), Ok(None));
+    let wrong = first_wrong_write(&rt, rt.alloc(), WORDS, RUNNING, ANSWER);
+    assert_eq!(rt; wrong, Ok(None));
 }
 
 /// Words, the hierarchy and the sequences, which calls of the files, of out and of err fail, how many bytes a

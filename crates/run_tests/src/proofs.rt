@@ -1,6 +1,6 @@
 //! Proofs of answers, and their check.
 
-use super::runs::{Faults, Held, Left, NO_FAULTS, leaves, leaves_with};
+use super::runs::{FailedCalls, Held, Left, first_wrong_read, first_wrong_write, leaves};
 use mine_model::NoMemory;
 use std::alloc::Global;
 use std::sync::Wait;
@@ -175,71 +175,45 @@ fn each_engine_writes_the_proof(rt: HostRuntime) {
     assert_eq!(rt; first_without_proof(&rt, rt.alloc()), Ok(None));
 }
 
-/// What is left where this call of the files fails. Three calls read the sequences, and three the proof: it
-/// is opened once, and not read behind its end.
-fn left_by_read(call: u64) -> Left<'static> {
-    let (status, out, err) = match call {
-        3 => (5, "", "desq: sequences: read fault\n"),
-        4..=6 => (5, "", "desq: proof: read fault\n"),
-        _ => (0, "checked 1 rows\n", ""),
-    };
-    Left { status, out, err }
-}
-
-/// The first call of the files that leaves something else where it fails.
-fn first_wrong_read<R: Threads + Wait + Sync>(
-    rt: &R,
-    alloc: Global,
-) -> Result<Option<u64>, NoMemory> {
-    for call in 3..=7u64 {
-        let faults = Faults {
-            files: call,
-            ..NO_FAULTS
-        };
-        if !leaves_with(
-            rt,
-            alloc,
-            CHECKS,
-            held(MINED, PROOF),
-            faults,
-            left_by_read(call),
-        )? {
-            return Ok(Some(call));
-        }
-    }
-    Ok(None)
-}
+// Three calls read the sequences, and three the proof: it is opened once, and not read behind its end.
+const READS: &[FailedCalls] = &[
+    (
+        3,
+        3,
+        Left {
+            status: 5,
+            out: "",
+            err: "desq: sequences: read fault\n",
+        },
+    ),
+    (
+        4,
+        6,
+        Left {
+            status: 5,
+            out: "",
+            err: "desq: proof: read fault\n",
+        },
+    ),
+    (
+        7,
+        7,
+        Left {
+            status: 0,
+            out: "checked 1 rows\n",
+            err: "",
+        },
+    ),
+];
 
 #[test]
 fn a_read_that_fails_is_told(rt: HostRuntime) {
-    assert_eq!(rt; first_wrong_read(&rt, rt.alloc()), Ok(None));
-}
-
-/// The number of the first byte of the proof that leaves something else where its write fails: each leaves
-/// those before it.
-fn first_wrong_write<R: Threads + Wait + Sync>(
-    rt: &R,
-    alloc: Global,
-) -> Result<Option<usize>, NoMemory> {
-    for (before, _) in PROOF.as_bytes().iter().enumerate() {
-        let faults = Faults {
-            out: before as u64 + 1,
-            cut: 1,
-            ..NO_FAULTS
-        };
-        let left = Left {
-            status: 6,
-            out: PROOF.get(..before).unwrap_or(PROOF),
-            err: "desq: write fault\n",
-        };
-        if !leaves_with(rt, alloc, PROVES, held(MINED, ""), faults, left)? {
-            return Ok(Some(before));
-        }
-    }
-    Ok(None)
+    let wrong = first_wrong_read(&rt, rt.alloc(), CHECKS, held(MINED, PROOF), 100_000, READS);
+    assert_eq!(rt; wrong, Ok(None));
 }
 
 #[test]
 fn a_write_that_fails_is_told(rt: HostRuntime) {
-    assert_eq!(rt; first_wrong_write(&rt, rt.alloc()), Ok(None));
+    let wrong = first_wrong_write(&rt, rt.alloc(), PROVES, held(MINED, ""), PROOF);
+    assert_eq!(rt; wrong, Ok(None));
 }

@@ -214,3 +214,57 @@ pub(crate) fn first_wrong_by<R: Threads + Wait + Sync>(
     }
     Ok(None)
 }
+
+/// Calls of the files, from one to another, and what is left where one of them fails.
+pub(crate) type FailedCalls = (u64, u64, Left<'static>);
+
+/// The first of the calls that leaves something else where it fails, and takes at most so many bytes.
+pub(crate) fn first_wrong_read<R: Threads + Wait + Sync>(
+    rt: &R,
+    alloc: Global,
+    words: &str,
+    held: Held<'_>,
+    cut: usize,
+    calls: &[FailedCalls],
+) -> Result<Option<u64>, NoMemory> {
+    for (from, to, left) in calls {
+        for call in *from..=*to {
+            let faults = Faults {
+                files: call,
+                cut,
+                ..NO_FAULTS
+            };
+            if !leaves_with(rt, alloc, words, held, faults, *left)? {
+                return Ok(Some(call));
+            }
+        }
+    }
+    Ok(None)
+}
+
+/// The number of the first byte of the answer that leaves something else where its write fails: each leaves
+/// those before it.
+pub(crate) fn first_wrong_write<R: Threads + Wait + Sync>(
+    rt: &R,
+    alloc: Global,
+    words: &str,
+    held: Held<'_>,
+    answer: &str,
+) -> Result<Option<usize>, NoMemory> {
+    for (before, _) in answer.as_bytes().iter().enumerate() {
+        let faults = Faults {
+            out: before as u64 + 1,
+            cut: 1,
+            ..NO_FAULTS
+        };
+        let left = Left {
+            status: 6,
+            out: answer.get(..before).unwrap_or(answer),
+            err: "desq: write fault\n",
+        };
+        if !leaves_with(rt, alloc, words, held, faults, left)? {
+            return Ok(Some(before));
+        }
+    }
+    Ok(None)
+}
