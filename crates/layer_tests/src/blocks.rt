@@ -33,12 +33,12 @@ fn are_pairs<T: Threads + Sync>(
     shape: Shape,
     lines: Lines,
     times: u32,
-    support: u64,
+    threshold: u64,
     want: (u64, u64),
 ) -> Result<bool, NoMemory>
-    requires { 1 ≤ support }
+    requires { 1 ≤ threshold }
 {
-    let job = job(rt, alloc, shape, lines, times, support)?;
+    let job = job(rt, alloc, shape, lines, times, threshold)?;
     Ok(pairs_of(alloc, &job)? == want)
 }
 

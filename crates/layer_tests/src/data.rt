@@ -56,9 +56,8 @@ pub(crate) const RUNNING: [(u64, &[Item]); 5] = [
 pub(crate) fn hierarchy(alloc: Global) -> Result<Hierarchy, NoMemory>
     ensures { IfOk result (λ h. h.items ≡ 11) }
 {
-    let ends = Vec::from_slice(alloc, &[1, 3, 5, 6, 7, 8, 9, 10, 12, 14, 18])?;
-    let lists = [A, A, A1, A, A2, B, C, D, E, R, R, P, R, Q, R, P, Q, X];
-    let lists = Vec::from_slice(alloc, &lists)?;
+    let ends = vec![in alloc; 1, 3, 5, 6, 7, 8, 9, 10, 12, 14, 18]?;
+    let lists = vec![in alloc; A, A, A1, A, A2, B, C, D, E, R, R, P, R, Q, R, P, Q, X]?;
     Ok(Hierarchy::new(ends, lists))
 }
 

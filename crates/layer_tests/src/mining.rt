@@ -15,14 +15,14 @@ enum Engine {
     Cand,
 }
 
-/// What is mined, how often its lines stand, the support, how many candidates and how many sets are counted,
+/// What is mined, how often its lines stand, the threshold, how many candidates and how many sets are counted,
 /// and the rows.
 #[derive(Clone, Copy)]
 struct Case {
     shape: Shape,
     lines: Lines<'static>,
     times: u32,
-    support: u64,
+    threshold: u64,
     candidates: u64,
     sets: u64,
     rows: Lines<'static>,
@@ -40,7 +40,7 @@ const MANY: Case = Case {
     shape: Shape::Climbing,
     lines: &RUNNING,
     times: 300,
-    support: 601,
+    threshold: 601,
     candidates: 2_400,
     sets: 2,
     rows: &[(900, &[A1, B])],
@@ -53,7 +53,7 @@ const TWO: Case = Case {
     shape: Shape::Subsequence,
     lines: &ONE_ITEM_EACH,
     times: 1,
-    support: 1,
+    threshold: 1,
     candidates: 2,
     sets: 2,
     rows: &ONE_ITEM_EACH,
@@ -65,7 +65,7 @@ const FOUND: [Case; 6] = [
         shape: Shape::Climbing,
         lines: &RUNNING,
         times: 1,
-        support: 2,
+        threshold: 2,
         candidates: 13,
         sets: 2,
         rows: &[(3, &[A1, B]), (2, &[A1, A, B]), (2, &[A1, A1, B])],
@@ -74,7 +74,7 @@ const FOUND: [Case; 6] = [
         shape: Shape::Climbing,
         lines: &RUNNING,
         times: 1,
-        support: 6,
+        threshold: 6,
         candidates: 0,
         sets: 0,
         rows: &[],
@@ -85,7 +85,7 @@ const FOUND: [Case; 6] = [
         shape: Shape::Subsequence,
         lines: &SHARED,
         times: 1,
-        support: 8,
+        threshold: 8,
         candidates: 18,
         sets: 6,
         rows: &[
@@ -102,7 +102,7 @@ const FOUND: [Case; 6] = [
         shape: Shape::Subsequence,
         lines: &[],
         times: 1,
-        support: 1,
+        threshold: 1,
         candidates: 0,
         sets: 0,
         rows: &[],
@@ -155,7 +155,7 @@ fn is_found<R: Threads + Wait + Sync, G: Gate>(
         case.shape,
         case.lines,
         case.times,
-        case.support.max(1),
+        case.threshold.max(1),
     )?;
     let found = mined(rt, alloc, engine, &job, workers.clamp(1, 64), gate)?;
     Ok(found.work == work_of(engine, case) && are_rows(found.rows.as_slice(), case.rows))
