@@ -5,8 +5,6 @@ mod laws;
 mod numbers;
 mod pushing;
 mod reading;
-#[cfg(test)]
-mod rows;
 mod snapshot;
 
 pub use laws::{

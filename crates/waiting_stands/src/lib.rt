@@ -3,8 +3,6 @@
 #![tactic(auto)]
 
 mod packing;
-#[cfg(test)]
-mod rows;
 mod searching;
 mod unpacking;
 

@@ -6,7 +6,7 @@ use Rattle.packed_snapshots.specs.declared.snapshot.PlainSnapshot.{PlainSnapshot
 use Rattle.packed_snapshots.specs.Packed.{IsPacked}
 use Rattle.place_walk.specs.declared.stand.Stand.{Stand}
 use Rattle.waiting_stands.specs.Layouts.{IsStandOf, HasStand, AreStandsOf, HasSeen}
-use Rattle.waiting_stands.proofs.rows.packs_positions_of_sequences.Goals as goal
+use Rattle.layer_tests.proofs.packing.are_packed.Goals as goal
 
 abbrev numbers : List ℕ
 numbers = 2 ∷ 3 ∷ 300 ∷ []
@@ -86,4 +86,4 @@ pack-requires-clause-stands g c =
 pub unpack-requires-clause-packed : goal.unpack-requires-clause-packed
 unpack-requires-clause-packed g c =
     let same : placed ≡ c.of.result = sym (c.of.ensures ∙ (λ i. c.stand.ensures i ∷ c.stand-2.ensures i ∷ c.stand-3.ensures i ∷ c.stand-4.ensures i ∷ c.stand-5.ensures i ∷ [])) in
-    (row, subst (IsPacked row) (sym c.as_slice-3.ensures.value) (c.in_ok-bytes.ensures row (subst (AreStandsOf numbers begins row) same row-laid) row-seen), row-has)
+    (row, subst (IsPacked row) (sym c.as_slice.ensures.value) (c.in_ok-bytes.ensures row (subst (AreStandsOf numbers begins row) same row-laid) row-seen), row-has)
