@@ -19,10 +19,10 @@ use Rattle.count_shards.specs.declared.shards.Shards.{Shards}
 use Rattle.count_shards.specs.Blocks.{home_count, sequences_in, block_count, SumsBy}
 use Rattle.count_shards.specs.Shard.{entry_of}
 use Rattle.count_shards.specs.Shards.{Lock, ShardPass, PassLists, ArePassesOf, AreShardsOf, AreAllLists, AreNewLists, column, AddedEachOnce}
-use Rattle.count_engine.specs.declared.hands.Hand.{Hand}
-use Rattle.count_engine.specs.declared.hands.Done.{Done}
+use Rattle.count_engine.specs.declared.starts.Start.{Start}
+use Rattle.count_engine.specs.declared.starts.Done.{Done}
 use Rattle.count_engine.specs.Shares.{share_of, HasBlockPairs}
-use Rattle.count_engine.specs.Hands.{IsHandOf, AreHandsOf, IsDone, AreListsOf, pairs_told}
+use Rattle.count_engine.specs.Starts.{IsStartOf, AreStartsOf, IsDone, AreListsOf, pairs_told}
 use Rattle.count_shards.proofs.BlockSums.{sums_more, sums_reordered, sums_laid}
 use Rattle.count_engine.proofs.ShareLemmas.{all_shares_of, shares_are_all, share_with, sums-flat}
 
@@ -32,16 +32,16 @@ AreDone problem shards workers from results =
     (k : ℕ) (done : Done) → slice_get results k ≡ Some (Ok done) → IsDone problem shards workers (from + k) done
 
 -- what each worker is given
-pub given_hand : (shards : Shards) (workers : ℕ) (lists : PassLists) (hands : List Hand) → AreHandsOf lists hands → length lists ≡ workers → AreAllLists shards lists → AreNewLists lists
-    → (k : ℕ) (hand : Hand) → slice_get hands k ≡ Some hand → IsHandOf shards workers hand
-given_hand shards workers lists hands are few all new k hand at =
-    let (place, there) = are.each k hand at in
-    let below : k < length lists = slice_get_within lists k hand.passes there in
-    let same : get_or lists k hand.passes ≡ hand.passes = get_or_from_slice_get lists k hand.passes hand.passes there in
+pub given_start : (shards : Shards) (workers : ℕ) (lists : PassLists) (starts : List Start) → AreStartsOf lists starts → length lists ≡ workers → AreAllLists shards lists → AreNewLists lists
+    → (k : ℕ) (start : Start) → slice_get starts k ≡ Some start → IsStartOf shards workers start
+given_start shards workers lists starts are few all new k start at =
+    let (place, there) = are.each k start at in
+    let below : k < length lists = slice_get_within lists k start.passes there in
+    let same : get_or lists k start.passes ≡ start.passes = get_or_from_slice_get lists k start.passes start.passes there in
     record {
       worker = omega (arith, place, below, few);
-      passes = subst (λ (l : Vec ShardPass Global). ArePassesOf shards l.items) same (all.each k hand.passes below);
-      fresh = λ j d within. (new k hand.passes there j d within).1;
+      passes = subst (λ (l : Vec ShardPass Global). ArePassesOf shards l.items) same (all.each k start.passes below);
+      fresh = λ j d within. (new k start.passes there j d within).1;
     }
 
 module _ (problem : Problem) (shards : Shards) (workers : ℕ) where
@@ -102,16 +102,16 @@ module _ (problem : Problem) (shards : Shards) (workers : ℕ) where
     }
 
   -- what each worker gave back, by its number
-  pub all_done : (lists : PassLists) (hands : List Hand) (results : List (Result Done NoMemory)) → length results ≡ length hands → AreHandsOf lists hands
-      → ((k : ℕ) (d : Result Done NoMemory) → k < length hands
-      → (hand : Hand) × (get_or hands k hand ≡ hand) × IfOk (get_or results k d) (IsDone problem shards workers hand.worker))
+  pub all_done : (lists : PassLists) (starts : List Start) (results : List (Result Done NoMemory)) → length results ≡ length starts → AreStartsOf lists starts
+      → ((k : ℕ) (d : Result Done NoMemory) → k < length starts
+      → (start : Start) × (get_or starts k start ≡ start) × IfOk (get_or results k d) (IsDone problem shards workers start.worker))
       → AreDone problem shards workers 0 results
-  all_done lists hands results many handed each k done at =
-      let within : k < length hands = omega (arith, many, slice_get_within results k (Ok done) at) in
-      let (hand, is, does) = each k (Ok done) within in
-      let own : IsDone problem shards workers hand.worker done = subst (λ r. IfOk r (IsDone problem shards workers hand.worker)) (get_or_from_slice_get results k (Ok done) (Ok done) at) does in
-      let there : slice_get hands k ≡ Some hand = slice_get-get_or hands k hand within ∙ ap (λ (h : Hand). Some h) is in
-      subst (λ w. IsDone problem shards workers w done) ((handed.each k hand there).0 ∙ omega arith) own
+  all_done lists starts results many handed each k done at =
+      let within : k < length starts = omega (arith, many, slice_get_within results k (Ok done) at) in
+      let (start, is, does) = each k (Ok done) within in
+      let own : IsDone problem shards workers start.worker done = subst (λ r. IfOk r (IsDone problem shards workers start.worker)) (get_or_from_slice_get results k (Ok done) (Ok done) at) does in
+      let there : slice_get starts k ≡ Some start = slice_get-get_or starts k start within ∙ ap (λ (h : Start). Some h) is in
+      subst (λ w. IsDone problem shards workers w done) ((handed.each k start there).0 ∙ omega arith) own
 
   -- ---- pairs
 

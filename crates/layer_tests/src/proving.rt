@@ -5,7 +5,7 @@ use super::judging::{PAIRS, are_named, file_names, judged};
 use mine_model::{Item, NoMemory, Row};
 use mining_job::Job;
 use pattern_proof::{ProofWriter, path};
-use search_engine::simulate;
+use search_engine::{Division, simulate};
 use std::alloc::Global;
 use std::fmt::Write;
 use std::test::Fail;
@@ -71,7 +71,7 @@ fn sequences_without_a_pattern_have_no_path(rt: HostRuntime) -> Result<(), Fail>
 /// What a sink has of the proof of the job's answer that fails at these calls, and whether it is whole.
 fn written(alloc: Global, job: &Job, fails: Vec<u64>) -> Result<(String, bool), NoMemory> {
     let names = file_names(alloc)?;
-    let mined = simulate(alloc, job, false, 1, 7)?;
+    let mined = simulate(alloc, job, Division::Whole, 1, 7)?;
     if !are_named(mined.rows.as_slice(), &names) {
         return Err(NoMemory);
     }

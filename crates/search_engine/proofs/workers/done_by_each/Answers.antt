@@ -4,8 +4,8 @@ use Rattle.search_engine.proofs.workers.done_by_each.Goals as goal
 
 pub returns : goal.returns
 returns g c =
-    let hands = c.args.hands.items in
+    let workers = c.args.workers.items in
     let results = c.in_ok-results.results.items in
-    let many : length results ≡ length hands = omega (arith, c.in_ok-results.ensures.len, c.in_ok-results.results.ok.0, c.args.hands.ok.0) in
-    all-tried (g.S.Grow.kids_of c.args.search.now) c.args.board.now hands results many
+    let many : length results ≡ length workers = omega (arith, c.in_ok-results.ensures.len, c.in_ok-results.results.ok.0, c.args.workers.ok.0) in
+    all-tried (g.S.Grow.kids_of c.args.crew.now.search.now) c.args.crew.now.board.now workers results many
     (λ k d within. let gives = (c.in_ok-results.ensures.each k d within).1 in (gives.job, gives.job_is gives.job, gives.call.met))

@@ -1,5 +1,5 @@
 use Rattle.std.proofs.Common.{◌++◌, length, append_assoc, ap, sym, ◌∙◌, arith}
-use Rattle.search_engine.proofs.HandLemmas.{back-more}
+use Rattle.search_engine.proofs.CrewLemmas.{back-more}
 use Rattle.search_engine.proofs.workers.gathered.Goals as goal
 
 pub results-preserved : goal.results-preserved

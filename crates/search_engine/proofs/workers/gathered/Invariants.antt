@@ -1,6 +1,6 @@
 use Rattle.std.proofs.Common.{◌≡◌, ◌++◌, length}
 use Rattle.std.specs.Vec.Iter.{into_iter_items, into_iter_len}
-use Rattle.search_engine.specs.Hands.{AreGivenBack}
+use Rattle.search_engine.specs.Crews.{AreGivenBack}
 use Rattle.search_engine.proofs.workers.gathered.Given as goal
 
 abbrev pub invariant-results : goal.invariant-results

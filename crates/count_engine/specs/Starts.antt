@@ -9,15 +9,15 @@ use Rattle.turn_lock.specs.Passes.{made}
 use Rattle.count_shards.specs.declared.shards.Shards.{Shards}
 use Rattle.count_shards.specs.Blocks.{block_count}
 use Rattle.count_shards.specs.Shards.{ShardPass, PassLists, ArePassesOf}
-use Rattle.count_engine.specs.declared.hands.Hand.{Hand}
-use Rattle.count_engine.specs.declared.hands.Done.{Done}
+use Rattle.count_engine.specs.declared.starts.Start.{Start}
+use Rattle.count_engine.specs.declared.starts.Done.{Done}
 use Rattle.count_engine.specs.Shares.{share_of, made_by, HasBlockPairs}
 
 -- a worker of so many begins with one pass of each shard, and they made nothing
-pub record IsHandOf (shards : Shards) (workers : ℕ) (hand : Hand) : Type 0 where
-  pub worker : hand.worker < workers
-  pub passes : ArePassesOf shards hand.passes.items
-  pub fresh : All (λ pass. made pass ≡ []) hand.passes.items
+pub record IsStartOf (shards : Shards) (workers : ℕ) (start : Start) : Type 0 where
+  pub worker : start.worker < workers
+  pub passes : ArePassesOf shards start.passes.items
+  pub fresh : All (λ pass. made pass ≡ []) start.passes.items
 
 -- the worker gives its passes back, which added the blocks of its share in order, and the pairs of its share
 pub record IsDone (problem : Problem) (shards : Shards) (workers worker : ℕ) (done : Done) : Type 0 where
@@ -25,11 +25,11 @@ pub record IsDone (problem : Problem) (shards : Shards) (workers worker : ℕ) (
   pub made : All (λ pass. made pass ≡ made_by problem worker workers) done.passes.items
   pub pairs : IsTold (HasBlockPairs problem (share_of worker workers (block_count problem))) done.pairs
 
--- each hand has its place as the number of its worker, and the list of passes at that place
-pub record AreHandsOf (lists : PassLists) (hands : List Hand) : Type 0 where
-  pub all : length hands ≡ length lists
-  pub each : (k : ℕ) (hand : Hand) → slice_get hands k ≡ Some hand
-      → (hand.worker ≡ k) × (slice_get lists k ≡ Some hand.passes)
+-- each start has its place as the number of its worker, and the list of passes at that place
+pub record AreStartsOf (lists : PassLists) (starts : List Start) : Type 0 where
+  pub all : length starts ≡ length lists
+  pub each : (k : ℕ) (start : Start) → slice_get starts k ≡ Some start
+      → (start.worker ≡ k) × (slice_get lists k ≡ Some start.passes)
 
 -- each list of passes was given back, at its place
 pub record AreListsOf (results : List (Result Done NoMemory)) (lists : PassLists) : Type 0 where

@@ -7,22 +7,22 @@ use Rattle.mine_model.specs.declared.memory.NoMemory.{NoMemory}
 use Rattle.mine_model.proofs.ElementLemmas.{get-left, get_snoc, get_last}
 use Rattle.mine_model.specs.Counted.{told_of}
 use Rattle.count_shards.specs.Shards.{ShardPass, PassLists}
-use Rattle.count_engine.specs.declared.hands.Hand.{Hand}
-use Rattle.count_engine.specs.declared.hands.Done.{Done}
-use Rattle.count_engine.specs.Hands.{AreHandsOf, AreListsOf, pairs_told}
+use Rattle.count_engine.specs.declared.starts.Start.{Start}
+use Rattle.count_engine.specs.declared.starts.Done.{Done}
+use Rattle.count_engine.specs.Starts.{AreStartsOf, AreListsOf, pairs_told}
 
-pub hands_more : (lists : PassLists) (hands : List Hand) (passes : Vec ShardPass Global) (worker : ℕ) → AreHandsOf lists hands → worker ≡ length hands
-    → AreHandsOf (lists ++ passes ∷ []) (hands ++ (record { worker = worker; passes = passes }) ∷ [])
-hands_more lists hands passes worker are last =
-    let new : Hand = record { worker = worker; passes = passes } in
+pub starts_more : (lists : PassLists) (starts : List Start) (passes : Vec ShardPass Global) (worker : ℕ) → AreStartsOf lists starts → worker ≡ length starts
+    → AreStartsOf (lists ++ passes ∷ []) (starts ++ (record { worker = worker; passes = passes }) ∷ [])
+starts_more lists starts passes worker are last =
+    let new : Start = record { worker = worker; passes = passes } in
     record {
-      all = omega (arith, are.all, length-append hands (new ∷ []), length-append lists (passes ∷ []));
-      each = λ k hand at. elim (get_snoc hands new k hand at) [
-        | inl old ↦ let was = are.each k hand old in (was.0, get-left lists (passes ∷ []) k hand.passes was.1)
+      all = omega (arith, are.all, length-append starts (new ∷ []), length-append lists (passes ∷ []));
+      each = λ k start at. elim (get_snoc starts new k start at) [
+        | inl old ↦ let was = are.each k start old in (was.0, get-left lists (passes ∷ []) k start.passes was.1)
         | inr end ↦
             let place : k ≡ length lists = end.0 ∙ are.all in (
-              sym (ap (λ (h : Hand). h.worker) end.1) ∙ last ∙ sym end.0,
-              ap (slice_get (lists ++ passes ∷ [])) place ∙ get_last lists passes ∙ ap (λ (h : Hand). Some h.passes) end.1,
+              sym (ap (λ (h : Start). h.worker) end.1) ∙ last ∙ sym end.0,
+              ap (slice_get (lists ++ passes ∷ [])) place ∙ get_last lists passes ∙ ap (λ (h : Start). Some h.passes) end.1,
             )
       ];
     }

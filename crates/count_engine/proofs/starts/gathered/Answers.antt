@@ -1,6 +1,6 @@
 use Rattle.std.proofs.Common.{◌++◌, length, append_assoc, ap, sym, ◌∙◌, arith}
-use Rattle.count_engine.proofs.HandLemmas.{lists_more, told_more}
-use Rattle.count_engine.proofs.hands.gathered.Goals as goal
+use Rattle.count_engine.proofs.StartLemmas.{lists_more, told_more}
+use Rattle.count_engine.proofs.starts.gathered.Goals as goal
 
 pub results-preserved : goal.results-preserved
 results-preserved c =

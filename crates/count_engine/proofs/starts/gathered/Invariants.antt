@@ -1,8 +1,8 @@
 use Rattle.std.proofs.Common.{◌≡◌, ◌++◌, length, sum_by}
 use Rattle.std.specs.Vec.Iter.{into_iter_items, into_iter_len}
 use Rattle.mine_model.specs.Counted.{told_of}
-use Rattle.count_engine.specs.Hands.{AreListsOf, pairs_told}
-use Rattle.count_engine.proofs.hands.gathered.Given as goal
+use Rattle.count_engine.specs.Starts.{AreListsOf, pairs_told}
+use Rattle.count_engine.proofs.starts.gathered.Given as goal
 
 abbrev pub invariant-results : goal.invariant-results
 invariant-results l = record {

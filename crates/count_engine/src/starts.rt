@@ -2,7 +2,7 @@
 
 ghost use Rattle.std.specs.Prelude.{◌≡◌, ℕ, ◌<◌, ◌^◌, length, slice_get, Some, Ok, IfOk, sum_by};
 ghost use Rattle.mine_model.specs.Counted.{told_of};
-ghost use Rattle.count_engine.specs.Hands.{AreHandsOf, AreListsOf, pairs_told};
+ghost use Rattle.count_engine.specs.Starts.{AreStartsOf, AreListsOf, pairs_told};
 
 use count_shards::Shard;
 use mine_model::NoMemory;
@@ -11,7 +11,7 @@ use turn_lock::Pass;
 
 /// What a worker begins with: its number and its passes.
 #[derive(Drop)]
-pub(crate) struct Hand {
+pub(crate) struct Start {
     pub(crate) worker: u32,
     pub(crate) passes: Vec<Pass<Shard>>,
 }
@@ -24,16 +24,16 @@ pub(crate) struct Done {
 }
 
 /// The passes of each worker, with its number.
-pub(crate) fn hands_of(alloc: Global, lists: Vec<Vec<Pass<Shard>>>) -> Result<Vec<Hand>, NoMemory>
+pub(crate) fn starts_of(alloc: Global, lists: Vec<Vec<Pass<Shard>>>) -> Result<Vec<Start>, NoMemory>
     requires few { length lists.items < 2 ^ 32 }
-    ensures { IfOk result (λ hands. AreHandsOf lists.items hands.items) }
+    ensures { IfOk result (λ starts. AreStartsOf lists.items starts.items) }
 {
-    let mut hands = Vec::with_capacity(alloc, lists.len())?;
+    let mut starts = Vec::with_capacity(alloc, lists.len())?;
     'lists: for passes in lists {
-        let worker = hands.len() as u32;
-        hands.push(Hand { worker, passes })?;
+        let worker = starts.len() as u32;
+        starts.push(Start { worker, passes })?;
     }
-    Ok(hands)
+    Ok(starts)
 }
 
 /// The passes of all workers, in their order, and all pairs, unless one wanted memory.
