@@ -1,11 +1,10 @@
 -- What workers are given and what they give back, one worker more, and how the seats are opened.
-use Rattle.std.proofs.Common.{◌≡◌, ℕ, zero, suc, ◌+◌, ◌≤◌, Option, Some, List, [], ◌∷◌, ◌++◌, length, map, flat_map, sum_by, All, slice_get, slice_index_or, Result, Ok, refl, sym, ap, subst, ◌∙◌, arith}
+use Rattle.std.proofs.Common.{◌≡◌, ℕ, zero, suc, ◌+◌, ◌≤◌, Option, Some, List, [], ◌∷◌, ◌++◌, length, map, flat_map, sum_by, All, slice_get, slice_index_or, refl, sym, ap, subst, ◌∙◌, arith}
 use Rattle.std.specs.List.{insert, remove}
 use Rattle.std.proofs.lemmas.List.{map-append}
 use Rattle.std.proofs.lemmas.List.Elements.{All-cons, All-head, All-tail}
 use Rattle.std.proofs.lemmas.List.Sums.{sum_by-append}
 use Rattle.std.proofs.lemmas.Option.{same_Some}
-use Rattle.mine_model.specs.declared.memory.NoMemory.{NoMemory}
 use Rattle.mine_model.specs.Labels.{SameLabels}
 use Rattle.node_pool.specs.Deques.{Deque}
 use Rattle.node_pool.specs.Pool.{seat_ground, given, got, SameSeat, IsSeatAt, IsWholePool, IsFresh}
@@ -13,7 +12,7 @@ use Rattle.node_pool.specs.declared.seat.Seat.{Seat}
 use Rattle.search_engine.specs.declared.worker.Worker.{Worker}
 use Rattle.search_engine.specs.Seats.{AreTasksOf}
 use Rattle.search_engine.specs.Workers.{BoardPass}
-use Rattle.search_engine.specs.Crews.{AreWorkersOf, AreGivenBack, AreOpened}
+use Rattle.search_engine.specs.Crews.{AreWorkersOf, AreOpened}
 
 module _ {T G : Type 0} where
   pub workers-more : (seats : List (Seat T G)) (passes : List BoardPass) (workers : List (Worker T G)) (worker : Worker T G) → AreWorkersOf seats passes workers
@@ -21,14 +20,6 @@ module _ {T G : Type 0} where
   workers-more seats passes workers worker are = record {
     seats_are = map-append (λ (h : Worker T G). h.seat) workers (worker ∷ []) ∙ ap (λ (l : List (Seat T G)). l ++ worker.seat ∷ []) are.seats_are;
     passes_are = map-append (λ (h : Worker T G). h.pass) workers (worker ∷ []) ∙ ap (λ (l : List BoardPass). l ++ worker.pass ∷ []) are.passes_are;
-  }
-
-  pub back-more : (results : List (Result (Worker T G) NoMemory)) (seats : List (Seat T G)) (passes : List BoardPass) (worker : Worker T G) → AreGivenBack results seats passes
-      → AreGivenBack (results ++ Ok worker ∷ []) (seats ++ worker.seat ∷ []) (passes ++ worker.pass ∷ [])
-  back-more results seats passes worker back = record {
-    workers = back.workers ++ worker ∷ [];
-    all = ap (λ (l : List (Result (Worker T G) NoMemory)). l ++ Ok worker ∷ []) back.all ∙ sym (map-append Ok back.workers (worker ∷ []));
-    are = workers-more seats passes back.workers worker back.are;
   }
 
 -- how the seats are opened

@@ -1,11 +1,10 @@
 -- The runs of all workers add up.
 use Rattle.std.proofs.Common.{◌≡◌, ℕ, zero, suc, ◌+◌, ◌<◌, List, [], ◌∷◌, ◌++◌, length, refl, sym, ap, subst, ◌∙◌, arith, sum_by, flat_map, map, All, Option, Some, slice_get, slice_index_or, get_or, Result, Ok, IfOk, length-append, ◌≤◌}
 use Rattle.std.specs.List.{AllByRecursion, remove}
-use Rattle.std.proofs.lemmas.List.{map-append}
+use Rattle.std.proofs.lemmas.List.{length-map, map-append}
 use Rattle.std.proofs.lemmas.List.Elements.{All-nil, All-cons, All-head, All-tail, All-push, All-weaker}
 use Rattle.std.proofs.lemmas.List.Sums.{sum_by-append}
 use Rattle.std.proofs.lemmas.Option.{same_Some}
-use Rattle.mine_model.specs.declared.memory.NoMemory.{NoMemory}
 use Rattle.search_tree.specs.Cover.{Covers, Shift, IsEven, all_made, all_given, all_got}
 use Rattle.mine_model.specs.Labels.{SameLabels}
 use Rattle.search_tree.proofs.CoverLemmas.{kids_weight, flat-weight}
@@ -18,10 +17,12 @@ use Rattle.node_pool.proofs.Steps.{sum_by_map}
 use Rattle.turn_lock.specs.History.{Made}
 use Rattle.turn_lock.specs.Passes.{IsPassOf, AreAllPasses, made}
 use Rattle.result_board.specs.Board.{labels_of}
+use Rattle.worker_threads.specs.Doing.{AreDone}
+use Rattle.worker_threads.proofs.DoingLemmas.{done-long as each-long}
 use Rattle.search_engine.specs.declared.worker.Worker.{Worker}
 use Rattle.search_engine.specs.Workers.{BoardPass, BoardLock}
 use Rattle.search_engine.specs.Shifts.{PostedFrom}
-use Rattle.search_engine.specs.Crews.{AreWorkersOf, AreGivenBack, IsEquipped, IsDone, AreTried, AreDone, AreManned, AreRuns, AreOpened}
+use Rattle.search_engine.specs.Crews.{AreWorkersOf, IsEquipped, IsDone, AreManned, AreRuns, AreOpened}
 
 module _ {T G : Type 0} where
   abbrev seats_in : List (Worker T G) → List (Seat T G)
@@ -54,7 +55,7 @@ front-sums first rest more others all same weight one is = omega (
 )
 
 module _ {T G : Type 0} (kids : List ℕ → List (List ℕ)) (board : BoardLock) where
-  pub runs-add : (workers dones : List (Worker T G)) → AreDone kids board workers dones
+  pub runs-add : (workers dones : List (Worker T G)) → AreDone (IsDone kids board) workers dones
       → Adds kids (seats_in workers) (seats_in dones) (passes_in workers) (passes_in dones)
   runs-add [] [] are = record {
     shifts = [];
@@ -80,7 +81,7 @@ module _ {T G : Type 0} (kids : List ℕ → List (List ℕ)) (board : BoardLock
       }
 
   -- the seats are still those of the pool
-  seats-stay : (pool : List Deque) (known_ground : Option G) (workers dones : List (Worker T G)) → AreDone kids board workers dones → (from : ℕ)
+  seats-stay : (pool : List Deque) (known_ground : Option G) (workers dones : List (Worker T G)) → AreDone (IsDone kids board) workers dones → (from : ℕ)
       → ((k : ℕ) (s : Seat T G) → slice_get (seats_in workers) k ≡ Some s → IsSeatAt known_ground pool (from + k) s)
       → (k : ℕ) (s : Seat T G) → slice_get (seats_in dones) k ≡ Some s → IsSeatAt known_ground pool (from + k) s
   seats-stay pool known_ground [] [] are from each k s at = each k s at
@@ -94,13 +95,12 @@ module _ {T G : Type 0} (kids : List ℕ → List (List ℕ)) (board : BoardLock
       subst (λ n. IsSeatAt known_ground pool n s) (omega arith)
       (seats-stay pool known_ground workers dones are.1 (suc from) (λ j t there. subst (λ n. IsSeatAt known_ground pool n t) (omega arith) (each (suc j) t there)) k s at)
 
-  workers-long : (workers dones : List (Worker T G)) → AreDone kids board workers dones → length (seats_in dones) ≡ length (seats_in workers)
-  workers-long [] [] are = refl
-  workers-long [] (done ∷ dones) are = absurd are
-  workers-long (worker ∷ workers) [] are = absurd are
-  workers-long (worker ∷ workers) (done ∷ dones) are = ap suc (workers-long workers dones are.1)
+  workers-long : (workers dones : List (Worker T G)) → AreDone (IsDone kids board) workers dones → length (seats_in dones) ≡ length (seats_in workers)
+  workers-long workers dones are =
+      let seat_of : Worker T G → Seat T G = λ worker. worker.seat in
+      length-map dones seat_of ∙ each-long (IsDone kids board) workers dones are ∙ sym (length-map workers seat_of)
 
-  pub pool-stays : (workers dones : List (Worker T G)) → AreDone kids board workers dones → IsWholePool (seats_in workers) → IsWholePool (seats_in dones)
+  pub pool-stays : (workers dones : List (Worker T G)) → AreDone (IsDone kids board) workers dones → IsWholePool (seats_in workers) → IsWholePool (seats_in dones)
   pool-stays workers dones are whole =
       let (pool, known_ground, long, each) = whole in (
         pool,
@@ -110,32 +110,11 @@ module _ {T G : Type 0} (kids : List ℕ → List (List ℕ)) (board : BoardLock
             (seats-stay pool known_ground workers dones are 0 (λ j t there. subst (λ n. IsSeatAt known_ground pool n t) (omega arith) (each j t there)) k s at),
       )
 
-  pub passes-stay : (workers dones : List (Worker T G)) → AreDone kids board workers dones → All (IsPassOf board) (passes_in dones)
+  pub passes-stay : (workers dones : List (Worker T G)) → AreDone (IsDone kids board) workers dones → All (IsPassOf board) (passes_in dones)
   passes-stay [] [] are = All-nil (IsPassOf board)
   passes-stay [] (done ∷ dones) are = absurd are
   passes-stay (worker ∷ workers) [] are = absurd are
   passes-stay (worker ∷ workers) (done ∷ dones) are = All-cons (IsPassOf board) done.pass (passes_in dones) are.0.pass_is (passes-stay workers dones are.1)
-
-  -- each job was tried
-  pub all-tried : (workers : List (Worker T G)) (results : List (Result (Worker T G) NoMemory)) → length results ≡ length workers
-      → ((k : ℕ) (d : Result (Worker T G) NoMemory) → k < length workers
-      → (worker : Worker T G) × (get_or workers k worker ≡ worker) × IfOk (get_or results k d) (IsDone kids board worker))
-      → AreTried kids board workers results
-  all-tried [] [] many each = tt
-  all-tried [] (result ∷ results) many each = absurd (omega (arith, many))
-  all-tried (worker ∷ workers) [] many each = absurd (omega (arith, many))
-  all-tried (worker ∷ workers) (result ∷ results) many each =
-      let (job, is, does) = each 0 result (omega arith) in (
-        subst (λ (h : Worker T G). IfOk result (IsDone kids board h)) (sym is) does,
-        all-tried workers results (omega (arith, many)) (λ k d within. each (suc k) d (omega (arith, within))),
-      )
-
-  -- those that all gave something back did their work
-  pub all-done : (workers dones : List (Worker T G)) → AreTried kids board workers (map Ok dones) → AreDone kids board workers dones
-  all-done [] [] tried = tt
-  all-done [] (done ∷ dones) tried = absurd tried
-  all-done (worker ∷ workers) [] tried = absurd tried
-  all-done (worker ∷ workers) (done ∷ dones) tried = (tried.0, all-done workers dones tried.1)
 
 module _ {T G : Type 0} (home : G) (board : BoardLock) where
   -- seats and passes of workers
@@ -226,37 +205,16 @@ module _ {T G : Type 0} (home : G) (board : BoardLock) where
       (subst (λ (l : List (Seat T G)). AreManned home board l (passes_in workers)) (sym are.seats_are)
       (subst (λ (l : List BoardPass). AreManned home board seats l) (sym are.passes_are) manned))
 
-  -- all but the first
-  pub first-manned : (workers : List (Worker T G)) (first : Worker T G) → 1 ≤ length workers → first ≡ slice_index_or workers 0 first → All (IsEquipped home board) workers
-      → IsEquipped home board first × All (IsEquipped home board) (remove workers 0) × (first ∷ remove workers 0 ≡ workers)
-  first-manned [] first some is all = absurd (omega (arith, some))
-  first-manned (worker ∷ workers) first some is all = (
-    subst (IsEquipped home board) (sym is) (All-head (IsEquipped home board) worker workers all),
-    All-tail (IsEquipped home board) worker workers all,
-    (λ i. is i ∷ workers),
-  )
-
 module _ {T G : Type 0} (kids : List ℕ → List (List ℕ)) (board : BoardLock) where
-  pub runs-made : (seats later : List (Seat T G)) (passes after : List BoardPass) (workers : List (Worker T G)) (results : List (Result (Worker T G) NoMemory))
-      → AreWorkersOf seats passes workers → AreTried kids board workers results → AreGivenBack results later after → AreRuns kids board seats later passes after
-  runs-made seats later passes after workers results are tried back = record {
+  pub runs-made : (seats later : List (Seat T G)) (passes after : List BoardPass) (workers dones : List (Worker T G))
+      → AreWorkersOf seats passes workers → AreDone (IsDone kids board) workers dones → AreWorkersOf later after dones → AreRuns kids board seats later passes after
+  runs-made seats later passes after workers dones are done back = record {
     before = workers;
-    behind = back.workers;
+    behind = dones;
     given_are = are;
-    back_are = back.are;
-    done = all-done kids board workers back.workers (subst (AreTried kids board workers) back.all tried);
+    back_are = back;
+    done = done;
   }
-
-  -- no worker at all
-  pub runs-none : (seats : List (Seat T G)) (passes : List BoardPass) (workers : List (Worker T G)) → AreWorkersOf seats passes workers → length workers ≡ 0 → AreRuns kids board seats [] passes []
-  runs-none seats passes [] are none = record {
-    before = [];
-    behind = [];
-    given_are = are;
-    back_are = record { seats_are = refl; passes_are = refl };
-    done = tt;
-  }
-  runs-none seats passes (worker ∷ workers) are none = absurd (omega (arith, none))
 
   -- by their seats and passes
   pub runs-adds : (seats later : List (Seat T G)) (passes after : List BoardPass) → AreRuns kids board seats later passes after → Adds kids seats later passes after
@@ -281,7 +239,7 @@ module _ {T G : Type 0} (kids : List ℕ → List (List ℕ)) (board : BoardLock
   pub runs-passes : (seats later : List (Seat T G)) (passes after : List BoardPass) → AreRuns kids board seats later passes after → All (IsPassOf board) after
   runs-passes seats later passes after runs = subst (All (IsPassOf board)) runs.back_are.passes_are (passes-stay kids board runs.before runs.behind runs.done)
 
-  done-homes : (home : G) (workers dones : List (Worker T G)) → AreDone kids board workers dones → All (λ seat. seat_ground seat ≡ Some home) (seats_in workers)
+  done-homes : (home : G) (workers dones : List (Worker T G)) → AreDone (IsDone kids board) workers dones → All (λ seat. seat_ground seat ≡ Some home) (seats_in workers)
       → All (λ seat. seat_ground seat ≡ Some home) (seats_in dones)
   done-homes home [] [] are all = all
   done-homes home [] (done ∷ dones) are all = absurd are
@@ -297,11 +255,10 @@ module _ {T G : Type 0} (kids : List ℕ → List (List ℕ)) (board : BoardLock
   runs-homes home seats later passes after runs all = subst (All (λ (s : Seat T G). seat_ground s ≡ Some home)) runs.back_are.seats_are
       (done-homes home runs.before runs.behind runs.done (subst (All (λ (s : Seat T G). seat_ground s ≡ Some home)) (sym runs.given_are.seats_are) all))
 
-  done-long : (workers dones : List (Worker T G)) → AreDone kids board workers dones → length (passes_in dones) ≡ length (passes_in workers)
-  done-long [] [] are = refl
-  done-long [] (done ∷ dones) are = absurd are
-  done-long (worker ∷ workers) [] are = absurd are
-  done-long (worker ∷ workers) (done ∷ dones) are = ap suc (done-long workers dones are.1)
+  done-long : (workers dones : List (Worker T G)) → AreDone (IsDone kids board) workers dones → length (passes_in dones) ≡ length (passes_in workers)
+  done-long workers dones are =
+      let pass_of : Worker T G → BoardPass = λ worker. worker.pass in
+      length-map dones pass_of ∙ each-long (IsDone kids board) workers dones are ∙ sym (length-map workers pass_of)
 
   pub runs-long : (seats later : List (Seat T G)) (passes after : List BoardPass) → AreRuns kids board seats later passes after
       → (length after ≡ length passes) × (length later ≡ length seats)

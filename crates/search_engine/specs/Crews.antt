@@ -1,12 +1,12 @@
 -- What each worker is given, and what it gives back.
-use Rattle.std.specs.Prelude.{◌≡◌, ℕ, Some, List, [], ◌∷◌, ◌++◌, map, All, Result, Ok, IfOk}
+use Rattle.std.specs.Prelude.{◌≡◌, ℕ, Some, List, [], ◌∷◌, ◌++◌, map, All}
 use Rattle.std.specs.List.{flat_map}
-use Rattle.mine_model.specs.declared.memory.NoMemory.{NoMemory}
 use Rattle.mine_model.specs.Labels.{SameLabels}
 use Rattle.mining_job.specs.Problems.{Problem}
 use Rattle.node_pool.specs.Pool.{seat_ground, given, got, SameSeat, IsWholePool}
 use Rattle.node_pool.specs.declared.seat.Seat.{Seat}
 use Rattle.turn_lock.specs.Passes.{IsPassOf, AreAllPasses, number, made, opened_with}
+use Rattle.worker_threads.specs.Doing.{AreDone}
 use Rattle.search_engine.specs.declared.worker.Worker.{Worker}
 use Rattle.search_engine.specs.Seats.{AreTasksOf}
 use Rattle.search_engine.specs.Workers.{BoardPass, BoardLock, IsRun, IsManned}
@@ -17,13 +17,6 @@ module _ {T G : Type 0} where
       : Type 0 where
     pub seats_are : map (λ (worker : Worker T G). worker.seat) workers ≡ seats
     pub passes_are : map (λ (worker : Worker T G). worker.pass) workers ≡ passes
-
-  -- all workers came back, with these seats and passes
-  pub record AreGivenBack (results : List (Result (Worker T G) NoMemory)) (seats : List (Seat T G))
-      (passes : List BoardPass) : Type 0 where
-    pub workers : List (Worker T G)
-    pub all : results ≡ map Ok workers
-    pub are : AreWorkersOf seats passes workers
 
   -- the worker has a seat for such tasks, and a pass of this board
   abbrev pub IsEquipped : G → BoardLock → Worker T G → Type 0
@@ -44,25 +37,13 @@ module _ {T G : Type 0} (kids : List ℕ → List (List ℕ)) (board : BoardLock
     pub number_is : number done.pass ≡ number worker.pass
     pub run : IsRun kids worker.seat done.seat worker.pass done.pass
 
-  -- each worker did, in order, unless it wanted memory
-  abbrev pub AreTried : List (Worker T G) → List (Result (Worker T G) NoMemory) → Type 0
-  AreTried [] [] = Unit {0}
-  AreTried (worker ∷ workers) (result ∷ results) = IfOk result (IsDone worker) × AreTried workers results
-  AreTried _ _ = ⊥
-
-  -- each worker did, in order
-  abbrev pub AreDone : List (Worker T G) → List (Worker T G) → Type 0
-  AreDone [] [] = Unit {0}
-  AreDone (worker ∷ workers) (done ∷ others) = IsDone worker done × AreDone workers others
-  AreDone _ _ = ⊥
-
   -- workers ran with these seats and passes, and came back with those
   pub record AreRuns (seats later : List (Seat T G)) (passes after : List BoardPass) : Type 0 where
     pub before : List (Worker T G)
     pub behind : List (Worker T G)
     pub given_are : AreWorkersOf seats passes before
     pub back_are : AreWorkersOf later after behind
-    pub done : AreDone before behind
+    pub done : AreDone IsDone before behind
 
 -- the seats of a pool of such tasks, into which roots were put, and the roots that were not
 pub record AreOpened {T G : Type 0} (label_of : T → List ℕ) (ground_of : T → G) (home : G)

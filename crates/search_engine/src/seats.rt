@@ -33,8 +33,8 @@ pub(crate) fn put_all<T: Task>(
     Ok(())
 }
 
-/// The next task of the worker: of its overflow, of its own deque, or of another's, waited for while some are not
-/// done yet. None where all are.
+/// The next task of the worker: of its overflow, of its own deque, or of another's, waited for while some are
+/// not done yet. None where all are.
 pub(crate) fn next_task<T: Task, R: Wait>(
     rt: &R,
     seat: &mut Seat<T>,

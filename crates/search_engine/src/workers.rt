@@ -1,5 +1,5 @@
 //! Several workers, each in a thread of its own.
-ghost use Rattle.std.specs.Prelude.{◌≡◌, ℕ, ◌≤◌, List, [], ◌∷◌, ◌++◌, All, map, length, IfOk, OnOk, vec_len};
+ghost use Rattle.std.specs.Prelude.{◌≡◌, ℕ, ◌≤◌, List, [], ◌++◌, map, length, IfOk, OnOk, vec_len};
 ghost use Rattle.search_tree.specs.Cover.{Covers};
 ghost use Rattle.mine_model.specs.Limits.{most_workers};
 ghost use Rattle.turn_lock.specs.Passes.{IsPassOf, number, made};
@@ -7,8 +7,8 @@ ghost use Rattle.result_board.specs.Board.{labels_of, HasRow};
 ghost use Rattle.search_engine.specs.Seats.{AreTasksOf};
 ghost use Rattle.search_engine.specs.Workers.{AreTasks, IsBoardOf};
 ghost use Rattle.search_engine.specs.Shifts.{PostedFrom};
-ghost use Rattle.search_engine.specs.Crews.{AreWorkersOf, AreGivenBack, IsEquipped, AreManned, IsDone};
-ghost use Rattle.search_engine.specs.Crews.{AreTried, AreRuns, AreOpened, AreLocked};
+ghost use Rattle.search_engine.specs.Crews.{AreWorkersOf, IsEquipped, AreManned, IsDone, AreRuns};
+ghost use Rattle.search_engine.specs.Crews.{AreOpened, AreLocked};
 
 use super::crew::Crew;
 use super::seats::put_all;
@@ -22,9 +22,9 @@ use result_board::Board;
 use search_tree::Grow;
 use std::alloc::Global;
 use std::sync::Wait;
-use std::thread;
 use std::thread::Threads;
 use turn_lock::{Pass, TurnLock};
+use worker_threads::done_by_each;
 
 // One worker's whole run, after which it is given back.
 fn done_by<T: Task<Ground = Job>, S: Grow<Node = T>, R: Wait, G: Gate>(
@@ -61,95 +61,26 @@ fn workers_of<T: Task>(
     Ok(workers)
 }
 
-// What all workers gave back, in their order, unless one wanted memory.
-fn gathered<T: Task>(
+// The seats and the passes of these workers.
+fn apart<T: Task>(
     alloc: Global,
-    results: Vec<Result<Worker<T>, NoMemory>>,
+    workers: Vec<Worker<T>>,
 ) -> Result<(Vec<Seat<T>>, Vec<Pass<Board>>), NoMemory>
-    ensures { IfOk result (λ back. AreGivenBack results.items back.0.items back.1.items) }
+    ensures { IfOk result (λ back. AreWorkersOf back.0.items back.1.items workers.items) }
 {
-    let mut seats = Vec::with_capacity(alloc, results.len())?;
-    let mut passes = Vec::with_capacity(alloc, results.len())?;
-    'results: for result in results {
-        let Worker { seat, pass } = result?;
+    let mut seats = Vec::with_capacity(alloc, workers.len())?;
+    let mut passes = Vec::with_capacity(alloc, workers.len())?;
+    'workers: for worker in workers {
+        let Worker { seat, pass } = worker;
         seats.push(seat)?;
         passes.push(pass)?;
     }
     Ok((seats, passes))
 }
 
-// Lets each of these workers run, in a thread of its own where one can be made.
-fn done_by_each<T: Task<Ground = Job>, S: Grow<Node = T> + Sync, R: Threads + Wait + Sync, G: Gate>(
-    crew: &Crew<S, R, G>,
-    workers: Vec<Worker<T>>,
-) -> Result<Vec<Result<Worker<T>, NoMemory>>, NoMemory>
-where
-    S::Room: Send,
-    requires tasks { AreTasks (S.label_of crew.now.search.now) T.label_of (S.IsOwn crew.now.search.now)
-        T.ground_of crew.now.job.now }
-    requires board { IsBoardOf (S.row_of crew.now.search.now) crew.now.board.now }
-    requires equipped { All (IsEquipped crew.now.job.now crew.now.board.now) workers.items }
-    ensures { IfOk result (λ results.
-        AreTried (S.kids_of crew.now.search.now) crew.now.board.now workers.items results.items) }
-{
-    let results = thread::map_vec(
-        crew.rt,
-        workers,
-        &|worker: Worker<T>| -> Result<Worker<T>, NoMemory>
-            requires tasks { AreTasks (S.label_of crew.now.search.now) T.label_of
-                (S.IsOwn crew.now.search.now) T.ground_of crew.now.job.now }
-            requires board { IsBoardOf (S.row_of crew.now.search.now) crew.now.board.now }
-            requires equipped { IsEquipped crew.now.job.now crew.now.board.now worker }
-            ensures { IfOk result
-                (IsDone (S.kids_of crew.entry.now.search.now) crew.entry.now.board.now worker) }
-        { done_by::<T, S, R, G>(crew, worker) },
-    )?;
-    Ok(results)
-}
-
-// Lets all workers run, the first of them, whose deque has the roots, in this thread. So it runs at once even
-// where no other thread can be made, and the others, which wait until all nodes are posted, never wait for
-// one that has not begun.
-fn done_by_all<T: Task<Ground = Job>, S: Grow<Node = T> + Sync, R: Threads + Wait + Sync, G: Gate>(
-    crew: &Crew<S, R, G>,
-    first: Worker<T>,
-    others: Vec<Worker<T>>,
-) -> Result<Vec<Result<Worker<T>, NoMemory>>, NoMemory>
-where
-    S::Room: Send,
-    requires tasks { AreTasks (S.label_of crew.now.search.now) T.label_of (S.IsOwn crew.now.search.now)
-        T.ground_of crew.now.job.now }
-    requires board { IsBoardOf (S.row_of crew.now.search.now) crew.now.board.now }
-    requires first { IsEquipped crew.now.job.now crew.now.board.now first }
-    requires others { All (IsEquipped crew.now.job.now crew.now.board.now) others.items }
-    ensures { IfOk result (λ results.
-        AreTried (S.kids_of crew.now.search.now) crew.now.board.now (first ∷ others.items) results.items) }
-{
-    let (results, own) = thread::join(
-        crew.rt,
-        || -> Result<Vec<Result<Worker<T>, NoMemory>>, NoMemory>
-            requires tasks { AreTasks (S.label_of crew.now.search.now) T.label_of
-                (S.IsOwn crew.now.search.now) T.ground_of crew.now.job.now }
-            requires board { IsBoardOf (S.row_of crew.now.search.now) crew.now.board.now }
-            requires others { All (IsEquipped crew.now.job.now crew.now.board.now) others.items }
-            ensures { IfOk result (λ results. AreTried (S.kids_of crew.entry.now.search.now)
-                crew.entry.now.board.now others.items results.items) }
-        { done_by_each::<T, S, R, G>(crew, others) },
-        || -> Result<Worker<T>, NoMemory>
-            requires tasks { AreTasks (S.label_of crew.now.search.now) T.label_of
-                (S.IsOwn crew.now.search.now) T.ground_of crew.now.job.now }
-            requires board { IsBoardOf (S.row_of crew.now.search.now) crew.now.board.now }
-            requires first { IsEquipped crew.now.job.now crew.now.board.now first }
-            ensures { IfOk result
-                (IsDone (S.kids_of crew.entry.now.search.now) crew.entry.now.board.now first) }
-        { done_by::<T, S, R, G>(crew, first) },
-    );
-    let mut results = results?;
-    results.insert(0, own)?;
-    Ok(results)
-}
-
-// Lets a worker run for each seat, with one of the passes.
+// Lets a worker run for each seat, with one of the passes. The first, whose deque has the roots, runs in this
+// thread. So it runs at once even where no other thread can be made, and the others, which wait until all
+// nodes are posted, never wait for one that has not begun.
 fn worked<T: Task<Ground = Job>, S: Grow<Node = T> + Sync, R: Threads + Wait + Sync, G: Gate>(
     crew: &Crew<S, R, G>,
     seats: Vec<Seat<T>>,
@@ -165,13 +96,21 @@ where
     ensures { IfOk result (λ back. AreRuns (S.kids_of crew.now.search.now) crew.now.board.now
         seats.items back.0.items passes.items back.1.items) }
 {
-    let mut workers = workers_of(crew.alloc, seats, passes)?;
-    if workers.is_empty() {
-        return Ok((Vec::new(crew.alloc), Vec::new(crew.alloc)));
-    }
-    let first = workers.remove(0);
-    let results = done_by_all::<T, S, R, G>(crew, first, workers)?;
-    let back = gathered(crew.alloc, results)?;
+    let workers = workers_of(crew.alloc, seats, passes)?;
+    let done = done_by_each(
+        crew.rt,
+        crew.alloc,
+        workers,
+        &|worker: Worker<T>| -> Result<Worker<T>, NoMemory>
+            requires tasks { AreTasks (S.label_of crew.now.search.now) T.label_of
+                (S.IsOwn crew.now.search.now) T.ground_of crew.now.job.now }
+            requires board { IsBoardOf (S.row_of crew.now.search.now) crew.now.board.now }
+            requires equipped { IsEquipped crew.now.job.now crew.now.board.now worker }
+            ensures { IfOk result
+                (IsDone (S.kids_of crew.entry.now.search.now) crew.entry.now.board.now worker) }
+        { done_by::<T, S, R, G>(crew, worker) },
+    )?;
+    let back = apart(crew.alloc, done)?;
     Ok(back)
 }
 
