@@ -1,9 +1,8 @@
 -- What workers are given and what they give back, one worker more.
-use Rattle.std.proofs.Common.{◌≡◌, ℕ, ◌+◌, inl, inr, List, [], ◌∷◌, ◌++◌, length, sum_by, Some, Result, Ok, slice_get, sym, ap, ◌∙◌, arith, length-append}
+use Rattle.std.proofs.Common.{◌≡◌, ℕ, ◌+◌, inl, inr, List, [], ◌∷◌, ◌++◌, length, sum_by, Some, slice_get, sym, ap, ◌∙◌, arith, length-append}
 use Rattle.std.specs.declared.alloc.Global.{Global}
 use Rattle.std.specs.declared.vec.Vec.{Vec}
 use Rattle.std.proofs.lemmas.List.Sums.{sum_by_push}
-use Rattle.mine_model.specs.declared.memory.NoMemory.{NoMemory}
 use Rattle.mine_model.proofs.ElementLemmas.{get-left, get_snoc, get_last}
 use Rattle.mine_model.specs.Counted.{told_of}
 use Rattle.count_shards.specs.Shards.{ShardPass, PassLists}
@@ -27,16 +26,16 @@ starts_more lists starts passes worker are last =
       ];
     }
 
-pub lists_more : (results : List (Result Done NoMemory)) (lists : PassLists) (done : Done) → AreListsOf results lists
-    → AreListsOf (results ++ Ok done ∷ []) (lists ++ done.passes ∷ [])
-lists_more results lists done are = record {
-  all = omega (arith, are.all, length-append results (Ok done ∷ []), length-append lists (done.passes ∷ []));
+pub lists_more : (dones : List Done) (lists : PassLists) (done : Done) → AreListsOf dones lists
+    → AreListsOf (dones ++ done ∷ []) (lists ++ done.passes ∷ [])
+lists_more dones lists done are = record {
+  all = omega (arith, are.all, length-append dones (done ∷ []), length-append lists (done.passes ∷ []));
   each = λ k list at. elim (get_snoc lists done.passes k list at) [
-    | inl old ↦ let was = are.each k list old in (was.0, get-left results (Ok done ∷ []) k (Ok was.0) was.1, was.2)
-    | inr end ↦ (done, ap (slice_get (results ++ Ok done ∷ [])) (end.0 ∙ are.all) ∙ get_last results (Ok done), end.1)
+    | inl old ↦ let was = are.each k list old in (was.0, get-left dones (done ∷ []) k was.0 was.1, was.2)
+    | inr end ↦ (done, ap (slice_get (dones ++ done ∷ [])) (end.0 ∙ are.all) ∙ get_last dones done, end.1)
   ];
 }
 
-pub told_more : (results : List (Result Done NoMemory)) (done : Done) (pairs : ℕ) → pairs ≡ told_of (sum_by pairs_told results)
-    → told_of (pairs + done.pairs) ≡ told_of (sum_by pairs_told (results ++ Ok done ∷ []))
-told_more results done pairs is = omega (arith, is, sum_by_push pairs_told results (Ok done))
+pub told_more : (dones : List Done) (done : Done) (pairs : ℕ) → pairs ≡ told_of (sum_by pairs_told dones)
+    → told_of (pairs + done.pairs) ≡ told_of (sum_by pairs_told (dones ++ done ∷ []))
+told_more dones done pairs is = omega (arith, is, sum_by_push pairs_told dones done)

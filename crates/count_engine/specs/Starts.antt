@@ -1,8 +1,7 @@
 -- What each worker is given and what it gives back.
-use Rattle.std.specs.Prelude.{◌≡◌, ℕ, ◌<◌, List, [], length, slice_get, Some, Result, Ok, Err, All}
+use Rattle.std.specs.Prelude.{◌≡◌, ℕ, ◌<◌, List, [], length, slice_get, Some, All}
 use Rattle.std.specs.declared.alloc.Global.{Global}
 use Rattle.std.specs.declared.vec.Vec.{Vec}
-use Rattle.mine_model.specs.declared.memory.NoMemory.{NoMemory}
 use Rattle.mine_model.specs.Counted.{IsTold}
 use Rattle.mining_job.specs.Problems.{Problem}
 use Rattle.turn_lock.specs.Passes.{made}
@@ -32,11 +31,10 @@ pub record AreStartsOf (lists : PassLists) (starts : List Start) : Type 0 where
       → (start.worker ≡ k) × (slice_get lists k ≡ Some start.passes)
 
 -- each list of passes was given back, at its place
-pub record AreListsOf (results : List (Result Done NoMemory)) (lists : PassLists) : Type 0 where
-  pub all : length lists ≡ length results
+pub record AreListsOf (dones : List Done) (lists : PassLists) : Type 0 where
+  pub all : length lists ≡ length dones
   pub each : (k : ℕ) (list : Vec ShardPass Global) → slice_get lists k ≡ Some list
-      → (done : Done) × (slice_get results k ≡ Some (Ok done)) × (done.passes ≡ list)
+      → (done : Done) × (slice_get dones k ≡ Some done) × (done.passes ≡ list)
 
-abbrev pub pairs_told : Result Done NoMemory → ℕ
-pairs_told (Ok done) = done.pairs
-pairs_told (Err refused) = 0
+abbrev pub pairs_told : Done → ℕ
+pairs_told done = done.pairs

@@ -15,9 +15,9 @@ use mine_model::{Gate, Mined, NoMemory, Work};
 use mining_job::Job;
 use std::alloc::Global;
 use std::sync::Wait;
-use std::thread;
 use std::thread::Threads;
 use turn_lock::Pass;
+use worker_threads::done_by_each;
 
 /// One worker's whole run, with what it was given.
 fn done_by<R: Wait, G: Gate>(
@@ -70,8 +70,9 @@ fn done_by_all<R: Threads + Wait + Sync, G: Gate>(
     ensures pairs { IfOk result (λ r. IsTold (HasPairs (data_of job.now) job.now.sequences) r.1) }
 {
     let starts = starts_of(alloc, lists)?;
-    let results = thread::map_vec(
+    let dones = done_by_each(
         rt,
+        alloc,
         starts,
         &|start: Start| -> Result<Done, NoMemory>
             requires shards { AreShardsOf job.now shards.now }
@@ -79,7 +80,7 @@ fn done_by_all<R: Threads + Wait + Sync, G: Gate>(
             ensures { IfOk result (IsDone job.entry.now shards.entry.now workers start.worker) }
         { done_by(rt, alloc, job, shards, start, workers, gate) },
     )?;
-    let (lists, pairs) = gathered(alloc, results)?;
+    let (lists, pairs) = gathered(alloc, dones)?;
     Ok((lists, pairs))
 }
 

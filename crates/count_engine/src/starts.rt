@@ -36,21 +36,21 @@ pub(crate) fn starts_of(alloc: Global, lists: Vec<Vec<Pass<Shard>>>) -> Result<V
     Ok(starts)
 }
 
-/// The passes of all workers, in their order, and all pairs, unless one wanted memory.
+/// The passes of all workers, in their order, and all pairs.
 pub(crate) fn gathered(
     alloc: Global,
-    results: Vec<Result<Done, NoMemory>>,
+    dones: Vec<Done>,
 ) -> Result<(Vec<Vec<Pass<Shard>>>, u64), NoMemory>
-    ensures lists { IfOk result (λ r. AreListsOf results.items r.0.items) }
-    ensures pairs { IfOk result (λ r. r.1 ≡ told_of (sum_by pairs_told results.items)) }
+    ensures lists { IfOk result (λ r. AreListsOf dones.items r.0.items) }
+    ensures pairs { IfOk result (λ r. r.1 ≡ told_of (sum_by pairs_told dones.items)) }
 {
-    let mut lists = Vec::with_capacity(alloc, results.len())?;
+    let mut lists = Vec::with_capacity(alloc, dones.len())?;
     let mut pairs: u64 = 0;
-    'results: for result in results {
+    'dones: for done in dones {
         let Done {
             passes,
             pairs: more,
-        } = result?;
+        } = done;
         lists.push(passes)?;
         pairs = pairs.saturating_add(more);
     }

@@ -4,10 +4,10 @@ use Rattle.mine_model.specs.Counted.{told_of}
 use Rattle.count_engine.specs.Starts.{AreListsOf, pairs_told}
 use Rattle.count_engine.proofs.starts.gathered.Given as goal
 
-abbrev pub invariant-results : goal.invariant-results
-invariant-results l = record {
-  seen : l.yielded ++ into_iter_items l.result-iterator ≡ l.fn.results.items;
-  count : into_iter_len l.result-iterator ≡ length (into_iter_items l.result-iterator);
+abbrev pub invariant-dones : goal.invariant-dones
+invariant-dones l = record {
+  seen : l.yielded ++ into_iter_items l.done-iterator ≡ l.fn.dones.items;
+  count : into_iter_len l.done-iterator ≡ length (into_iter_items l.done-iterator);
   lists : AreListsOf l.yielded l.lists.items;
   pairs : l.pairs ≡ told_of (sum_by pairs_told l.yielded);
 }
