@@ -37,7 +37,7 @@ pub fn mine<R: Threads + Sync, G: Gate>(
     ensures work { IfOk result (λ mined.
         IsAutomatonWork (data_of job.now) job.now.ranking.order mined.work) }
 {
-    // The contract of `items` says that no link leads out of the items, so neither does a pattern.
+    // For the proof alone: no link leads out of the items, so neither does a pattern.
     let _items = job.hierarchy().items();
     let seeds = split(rt, alloc, job, workers)?;
     let results = tried(rt, alloc, job, seeds.as_slice(), workers, gate)?;

@@ -183,7 +183,7 @@ fn load_all(
 {
     let sequences = seed.sequences.as_slice();
     let db = job.db();
-    // For the proof alone: no weights add up to 2^64.
+    // For the proof alone: no weights add up to 2^64, and the registry is one.
     let _sequences = db.sequences();
     let _states = room.registry.len();
     for index in 0..sequences.len() {

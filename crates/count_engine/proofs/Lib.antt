@@ -1,4 +1,4 @@
 mod ShareLemmas
 mod MadeLemmas
 mod WorkLemmas
-mod HandLemmas
+mod StartLemmas

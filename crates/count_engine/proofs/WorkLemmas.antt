@@ -1,5 +1,5 @@
 -- What all workers together gave back.
-use Rattle.std.proofs.Common.{◌≡◌, ℕ, suc, ◌+◌, ◌%◌, ◌<◌, ◌≤◌, List, [], ◌∷◌, ◌++◌, map, length, Option, Some, Result, Ok, Err, IfOk, slice_get, get_or, refl, sym, subst, ap, ◌∙◌, arith, All, sum_by}
+use Rattle.std.proofs.Common.{◌≡◌, ℕ, suc, ◌+◌, ◌%◌, ◌<◌, ◌≤◌, List, [], ◌∷◌, ◌++◌, map, length, Option, Some, slice_get, get_or, refl, sym, subst, ap, ◌∙◌, arith, All, sum_by}
 use Rattle.std.specs.List.{flat_map, range_with_len, cons_option}
 use Rattle.std.specs.declared.alloc.Global.{Global}
 use Rattle.std.specs.declared.vec.Vec.{Vec}
@@ -8,7 +8,6 @@ use Rattle.std.proofs.lemmas.List.Sums.{sum_by-append, sum_by-cons}
 use Rattle.std.proofs.lemmas.List.Elements.{All-contains}
 use Rattle.std.proofs.lemmas.Option.{slice_get-get_or, slice_get_within, get_or_from_slice_get}
 use Rattle.mine_model.specs.declared.item.Item.{Item}
-use Rattle.mine_model.specs.declared.memory.NoMemory.{NoMemory}
 use Rattle.mine_model.specs.Answer.{Data}
 use Rattle.mine_model.specs.Counted.{HasPairs, told_of, IsTold}
 use Rattle.mine_model.specs.Support.{Sequence}
@@ -19,29 +18,31 @@ use Rattle.count_shards.specs.declared.shards.Shards.{Shards}
 use Rattle.count_shards.specs.Blocks.{home_count, sequences_in, block_count, SumsBy}
 use Rattle.count_shards.specs.Shard.{entry_of}
 use Rattle.count_shards.specs.Shards.{Lock, ShardPass, PassLists, ArePassesOf, AreShardsOf, AreAllLists, AreNewLists, column, AddedEachOnce}
-use Rattle.count_engine.specs.declared.hands.Hand.{Hand}
-use Rattle.count_engine.specs.declared.hands.Done.{Done}
+use Rattle.worker_threads.specs.Doing.{AreDone as AreEachDone}
+use Rattle.worker_threads.proofs.DoingLemmas.{done-at}
+use Rattle.count_engine.specs.declared.starts.Start.{Start}
+use Rattle.count_engine.specs.declared.starts.Done.{Done}
 use Rattle.count_engine.specs.Shares.{share_of, HasBlockPairs}
-use Rattle.count_engine.specs.Hands.{IsHandOf, AreHandsOf, IsDone, AreListsOf, pairs_told}
+use Rattle.count_engine.specs.Starts.{IsStartOf, AreStartsOf, IsDone, AreListsOf, pairs_told}
 use Rattle.count_shards.proofs.BlockSums.{sums_more, sums_reordered, sums_laid}
 use Rattle.count_engine.proofs.ShareLemmas.{all_shares_of, shares_are_all, share_with, sums-flat}
 
 -- what was given back at each place is what the worker of that number did, from this number on
-abbrev pub AreDone : Problem → Shards → ℕ → ℕ → List (Result Done NoMemory) → Type 0
-AreDone problem shards workers from results =
-    (k : ℕ) (done : Done) → slice_get results k ≡ Some (Ok done) → IsDone problem shards workers (from + k) done
+abbrev pub AreDone : Problem → Shards → ℕ → ℕ → List Done → Type 0
+AreDone problem shards workers from dones =
+    (k : ℕ) (done : Done) → slice_get dones k ≡ Some done → IsDone problem shards workers (from + k) done
 
 -- what each worker is given
-pub given_hand : (shards : Shards) (workers : ℕ) (lists : PassLists) (hands : List Hand) → AreHandsOf lists hands → length lists ≡ workers → AreAllLists shards lists → AreNewLists lists
-    → (k : ℕ) (hand : Hand) → slice_get hands k ≡ Some hand → IsHandOf shards workers hand
-given_hand shards workers lists hands are few all new k hand at =
-    let (place, there) = are.each k hand at in
-    let below : k < length lists = slice_get_within lists k hand.passes there in
-    let same : get_or lists k hand.passes ≡ hand.passes = get_or_from_slice_get lists k hand.passes hand.passes there in
+pub given_start : (shards : Shards) (workers : ℕ) (lists : PassLists) (starts : List Start) → AreStartsOf lists starts → length lists ≡ workers → AreAllLists shards lists → AreNewLists lists
+    → (k : ℕ) (start : Start) → slice_get starts k ≡ Some start → IsStartOf shards workers start
+given_start shards workers lists starts are few all new k start at =
+    let (place, there) = are.each k start at in
+    let below : k < length lists = slice_get_within lists k start.passes there in
+    let same : get_or lists k start.passes ≡ start.passes = get_or_from_slice_get lists k start.passes start.passes there in
     record {
       worker = omega (arith, place, below, few);
-      passes = subst (λ (l : Vec ShardPass Global). ArePassesOf shards l.items) same (all.each k hand.passes below);
-      fresh = λ j d within. (new k hand.passes there j d within).1;
+      passes = subst (λ (l : Vec ShardPass Global). ArePassesOf shards l.items) same (all.each k start.passes below);
+      fresh = λ j d within. (new k start.passes there j d within).1;
     }
 
 module _ (problem : Problem) (shards : Shards) (workers : ℕ) where
@@ -78,7 +79,7 @@ module _ (problem : Problem) (shards : Shards) (workers : ℕ) where
   plain k = omega arith
 
   -- the lists that were given back
-  module _ (results : List (Result Done NoMemory)) (lists : PassLists) (given : AreListsOf results lists) (done : AreDone problem shards workers 0 results) where
+  module _ (dones : List Done) (lists : PassLists) (given : AreListsOf dones lists) (done : AreDone problem shards workers 0 dones) where
     done_at : (k : ℕ) (list : Vec ShardPass Global) → slice_get lists k ≡ Some list
         → ArePassesOf shards list.items × All (λ pass. made pass ≡ map entry_of (share_of k workers (block_count problem))) list.items
     done_at k list at =
@@ -88,48 +89,41 @@ module _ (problem : Problem) (shards : Shards) (workers : ℕ) where
           subst (λ (l : Vec ShardPass Global). All (λ pass. made pass ≡ map entry_of (share_of k workers (block_count problem))) l.items) same is.made,
         )
 
-    pub each_once : AreShardsOf problem shards → 1 ≤ workers → length results ≡ workers → AddedEachOnce problem lists
+    pub each_once : AreShardsOf problem shards → 1 ≤ workers → length dones ≡ workers → AddedEachOnce problem lists
     each_once are some all = λ home within weight.
         ap (sum_by weight) (column_made home 0 lists within (λ k list at. let both = done_at k list at in (both.0.all ∙ are.all, subst (λ w. All (λ pass. made pass ≡ map entry_of (share_of w workers (block_count problem))) list.items) (sym (plain k)) both.1)))
         ∙ ap (λ (n : ℕ). sum_by weight (flat_map (λ w. map entry_of (share_of w workers (block_count problem))) (range_with_len 0 n))) (given.all ∙ all)
         ∙ entries_flat (range_with_len 0 workers) weight
         ∙ shares_are_all workers (block_count problem) some weight
 
-    pub all_lists : (before : PassLists) → AreAllLists shards before → length before ≡ workers → length results ≡ workers → AreAllLists shards lists
+    pub all_lists : (before : PassLists) → AreAllLists shards before → length before ≡ workers → length dones ≡ workers → AreAllLists shards lists
     all_lists before are few all = record {
       each = λ k d below. (done_at k (get_or lists k d) (slice_get-get_or lists k d below)).0;
       all = subst (λ (n : ℕ). All (λ (lock : Lock). pass_count lock ≡ n) shards.locks.items) (few ∙ sym (given.all ∙ all)) are.all;
     }
 
   -- what each worker gave back, by its number
-  pub all_done : (lists : PassLists) (hands : List Hand) (results : List (Result Done NoMemory)) → length results ≡ length hands → AreHandsOf lists hands
-      → ((k : ℕ) (d : Result Done NoMemory) → k < length hands
-      → (hand : Hand) × (get_or hands k hand ≡ hand) × IfOk (get_or results k d) (IsDone problem shards workers hand.worker))
-      → AreDone problem shards workers 0 results
-  all_done lists hands results many handed each k done at =
-      let within : k < length hands = omega (arith, many, slice_get_within results k (Ok done) at) in
-      let (hand, is, does) = each k (Ok done) within in
-      let own : IsDone problem shards workers hand.worker done = subst (λ r. IfOk r (IsDone problem shards workers hand.worker)) (get_or_from_slice_get results k (Ok done) (Ok done) at) does in
-      let there : slice_get hands k ≡ Some hand = slice_get-get_or hands k hand within ∙ ap (λ (h : Hand). Some h) is in
-      subst (λ w. IsDone problem shards workers w done) ((handed.each k hand there).0 ∙ omega arith) own
+  pub all_done : (lists : PassLists) (starts : List Start) (dones : List Done) → AreStartsOf lists starts
+      → AreEachDone (λ (start : Start). IsDone problem shards workers start.worker) starts dones → AreDone problem shards workers 0 dones
+  all_done lists starts dones are each k done at =
+      let (start, there, own) = done-at (λ (start : Start). IsDone problem shards workers start.worker) starts dones each k done at in
+      subst (λ w. IsDone problem shards workers w done) ((are.each k start there).0 ∙ omega arith) own
 
   -- ---- pairs
 
   -- what is told of the pairs of all shares
-  told_shares : (from : ℕ) (results : List (Result Done NoMemory)) (lists : PassLists) → AreListsOf results lists → AreDone problem shards workers from results
-      → (n : ℕ) × SumsBy (λ w m. HasBlockPairs problem (share_of w workers (block_count problem)) m) (range_with_len from (length results)) n
-      × (told_of (sum_by pairs_told results) ≡ told_of n)
+  told_shares : (from : ℕ) (dones : List Done) (lists : PassLists) → AreListsOf dones lists → AreDone problem shards workers from dones
+      → (n : ℕ) × SumsBy (λ w m. HasBlockPairs problem (share_of w workers (block_count problem)) m) (range_with_len from (length dones)) n
+      × (told_of (sum_by pairs_told dones) ≡ told_of n)
   told_shares from [] lists given done = (0, refl, refl)
-  told_shares from (Err e ∷ results) [] given done = absurd (omega (arith, given.all))
-  told_shares from (Err e ∷ results) (list ∷ lists) given done = let (d, got, same) = given.each 0 list refl in absurd (cc)
-  told_shares from (Ok d ∷ results) [] given done = absurd (omega (arith, given.all))
-  told_shares from (Ok d ∷ results) (list ∷ lists) given done =
+  told_shares from (d ∷ dones) [] given done = absurd (omega (arith, given.all))
+  told_shares from (d ∷ dones) (list ∷ lists) given done =
       let first : IsDone problem shards workers from d = subst (λ w. IsDone problem shards workers w d) (first_is from) (done 0 d refl) in
-      let later : AreDone problem shards workers (from + 1) results = λ k e got. subst (λ w. IsDone problem shards workers w e) (next_is from k) (done (suc k) e got) in
-      let rest = told_shares (from + 1) results lists (record { all = omega (arith, given.all); each = λ k l at. given.each (suc k) l at }) later in
+      let later : AreDone problem shards workers (from + 1) dones = λ k e got. subst (λ w. IsDone problem shards workers w e) (next_is from k) (done (suc k) e got) in
+      let rest = told_shares (from + 1) dones lists (record { all = omega (arith, given.all); each = λ k l at. given.each (suc k) l at }) later in
       let m : ℕ = first.pairs.0 in
       let n : ℕ = rest.0 in
-      (m + n, (m, n, first.pairs.1, rest.1, refl), ap told_of (sum_by-cons pairs_told (Ok d) results) ∙ told_sum d.pairs m (sum_by pairs_told results) n first.pairs.2 rest.2)
+      (m + n, (m, n, first.pairs.1, rest.1, refl), ap told_of (sum_by-cons pairs_told d dones) ∙ told_sum d.pairs m (sum_by pairs_told dones) n first.pairs.2 rest.2)
     where
       first_is : (from : ℕ) → from + 0 ≡ from
       first_is from = omega arith
@@ -146,11 +140,11 @@ module _ (problem : Problem) (shards : Shards) (workers : ℕ) where
       (first, rest + m, omega (arith, is), here, pairs-append d xs ys rest m later more)
 
   -- all pairs are told
-  pub told_all : (results : List (Result Done NoMemory)) (lists : PassLists) → AreListsOf results lists → AreDone problem shards workers 0 results
-      → 1 ≤ workers → length results ≡ workers
-      → (n : ℕ) × HasPairs (data_of problem) problem.sequences n × (told_of (sum_by pairs_told results) ≡ told_of n)
-  told_all results lists given done some all =
-      let told = told_shares 0 results lists given done in
+  pub told_all : (dones : List Done) (lists : PassLists) → AreListsOf dones lists → AreDone problem shards workers 0 dones
+      → 1 ≤ workers → length dones ≡ workers
+      → (n : ℕ) × HasPairs (data_of problem) problem.sequences n × (told_of (sum_by pairs_told dones) ≡ told_of n)
+  told_all dones lists given done some all =
+      let told = told_shares 0 dones lists given done in
       let Has : ℕ → ℕ → Type 0 = λ block m. HasPairs (data_of problem) (sequences_in problem block) m in
       let by_share = subst (λ (k : ℕ). SumsBy (λ w m. HasBlockPairs problem (share_of w workers (block_count problem)) m) (range_with_len 0 k) told.0) all told.1 in
       let flat = sums-flat Has (λ w. share_of w workers (block_count problem)) (range_with_len 0 workers) told.0 by_share in

@@ -1,4 +1,4 @@
 -- the words of the promise
 pub mod Shares
 -- what the proofs keep
-pub mod Hands
+pub mod Starts

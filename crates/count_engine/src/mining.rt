@@ -6,18 +6,18 @@ ghost use Rattle.mine_model.specs.Counted.{HasPairs, IsTold, IsCountingWork};
 ghost use Rattle.mine_model.specs.Limits.{most_workers};
 ghost use Rattle.mining_job.specs.Problems.{data_of};
 ghost use Rattle.count_shards.specs.Shards.{AreShardsOf, AreAllLists, AreNewLists, AddedEachOnce};
-ghost use Rattle.count_engine.specs.Hands.{IsHandOf, IsDone};
+ghost use Rattle.count_engine.specs.Starts.{IsStartOf, IsDone};
 
-use super::hands::{Done, Hand, gathered, hands_of};
+use super::starts::{Done, Start, gathered, starts_of};
 use super::working::work;
 use count_shards::{Shard, Shards};
 use mine_model::{Gate, Mined, NoMemory, Work};
 use mining_job::Job;
 use std::alloc::Global;
 use std::sync::Wait;
-use std::thread;
 use std::thread::Threads;
 use turn_lock::Pass;
+use worker_threads::done_by_each;
 
 /// One worker's whole run, with what it was given.
 fn done_by<R: Wait, G: Gate>(
@@ -25,15 +25,15 @@ fn done_by<R: Wait, G: Gate>(
     alloc: Global,
     job: &Job,
     shards: &Shards,
-    hand: Hand,
+    start: Start,
     workers: u32,
     gate: &G,
 ) -> Result<Done, NoMemory>
     requires shards { AreShardsOf job.now shards.now }
-    requires hand { IsHandOf shards.now workers hand }
-    ensures { IfOk result (IsDone job.now shards.now workers hand.worker) }
+    requires start { IsStartOf shards.now workers start }
+    ensures { IfOk result (IsDone job.now shards.now workers start.worker) }
 {
-    let Hand { worker, mut passes } = hand;
+    let Start { worker, mut passes } = start;
     let pairs = work(
         rt,
         alloc,
@@ -69,17 +69,18 @@ fn done_by_all<R: Threads + Wait + Sync, G: Gate>(
     ensures each_once { IfOk result (λ r. AddedEachOnce job.now r.0.items) }
     ensures pairs { IfOk result (λ r. IsTold (HasPairs (data_of job.now) job.now.sequences) r.1) }
 {
-    let hands = hands_of(alloc, lists)?;
-    let results = thread::map_vec(
+    let starts = starts_of(alloc, lists)?;
+    let dones = done_by_each(
         rt,
-        hands,
-        &|hand: Hand| -> Result<Done, NoMemory>
+        alloc,
+        starts,
+        &|start: Start| -> Result<Done, NoMemory>
             requires shards { AreShardsOf job.now shards.now }
-            requires hand { IsHandOf shards.now workers hand }
-            ensures { IfOk result (IsDone job.entry.now shards.entry.now workers hand.worker) }
-        { done_by(rt, alloc, job, shards, hand, workers, gate) },
+            requires start { IsStartOf shards.now workers start }
+            ensures { IfOk result (IsDone job.entry.now shards.entry.now workers start.worker) }
+        { done_by(rt, alloc, job, shards, start, workers, gate) },
     )?;
-    let (lists, pairs) = gathered(alloc, results)?;
+    let (lists, pairs) = gathered(alloc, dones)?;
     Ok((lists, pairs))
 }
 

@@ -20,6 +20,7 @@ use item_names::Names;
 use mine_model::{Fault, Gate, Mined, NoMemory};
 use mining_job::Job;
 use pattern_writer::order;
+use search_engine::Division;
 use std::alloc::Global;
 use std::sync::Wait;
 use std::thread::Threads;
@@ -30,7 +31,7 @@ fn searched<R: Threads + Wait + Sync, G: Gate>(
     rt: &R,
     alloc: Global,
     job: &Job,
-    split: bool,
+    division: Division,
     command: &Command,
     gate: &G,
 ) -> Result<Mined, NoMemory>
@@ -40,11 +41,11 @@ fn searched<R: Threads + Wait + Sync, G: Gate>(
     ensures items { IfOk result (λ mined. (row : TheRow) → Contains mined.rows.items row
         → AllByRecursion (λ t. t.0 < job.now.hierarchy.items) row.pattern) }
     ensures work { IfOk result (λ mined.
-        IsWorkFor split (data_of job.now) job.now.ranking.order mined.work) }
+        IsWorkFor division (data_of job.now) job.now.ranking.order mined.work) }
 {
     match command.seed {
-        Some(seed) => search_engine::simulate(alloc, job, split, command.workers, seed),
-        None => search_engine::mine(rt, alloc, job, split, command.workers, gate),
+        Some(seed) => search_engine::simulate(alloc, job, division, command.workers, seed),
+        None => search_engine::mine(rt, alloc, job, division, command.workers, gate),
     }
 }
 
@@ -68,8 +69,8 @@ fn mined_by<R: Threads + Wait + Sync, G: Gate>(
     let _items = job.hierarchy().items();
     match command.engine {
         Engine::Count => count_engine::mine(rt, alloc, job, command.workers, gate),
-        Engine::Dfs => searched(rt, alloc, job, false, command, gate),
-        Engine::Pivot => searched(rt, alloc, job, true, command, gate),
+        Engine::Dfs => searched(rt, alloc, job, Division::Whole, command, gate),
+        Engine::Pivot => searched(rt, alloc, job, Division::ByPivots, command, gate),
         Engine::Cand => cand_automaton::mine(rt, alloc, job, command.workers, gate),
     }
 }

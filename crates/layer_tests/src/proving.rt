@@ -6,7 +6,7 @@ use fst_compile::State;
 use mine_model::{Item, NoMemory, Row};
 use mining_job::Job;
 use pattern_proof::{ProofWriter, path};
-use search_engine::simulate;
+use search_engine::{Division, simulate};
 use std::alloc::Global;
 use std::fmt::Write;
 use std::thread::Threads;
@@ -102,7 +102,7 @@ fn is_written(
     is_whole: bool,
 ) -> Result<bool, NoMemory> {
     let names = file_names(alloc)?;
-    let mined = simulate(alloc, job, false, 1, 7)?;
+    let mined = simulate(alloc, job, Division::Whole, 1, 7)?;
     if !are_named(mined.rows.as_slice(), &names) {
         return Ok(false);
     }

@@ -2,7 +2,7 @@
 use super::data::{A, A1, B, Lines, RUNNING, Shape, are_rows, job, text_of_rows};
 use mine_model::{NoMemory, OpenGate, Work};
 use mining_job::Job;
-use search_engine::{mine, simulate};
+use search_engine::{Division, mine, simulate};
 use std::alloc::Global;
 use std::sync::Wait;
 use std::thread::Threads;
@@ -16,20 +16,25 @@ const WORK: Work = Work {
 
 const ROWS: Lines<'static> = &[(3, &[A1, B]), (2, &[A1, A, B]), (2, &[A1, A1, B])];
 
-/// Whether so many workers find the rows and count the work, split by pivots or not.
+/// Whether so many workers find the rows and count the work.
 fn is_found<R: Threads + Wait + Sync>(
     rt: &R,
     alloc: Global,
     job: &Job,
-    split: bool,
+    division: Division,
     workers: u32,
 ) -> Result<bool, NoMemory> {
-    let found = mine(rt, alloc, job, split, workers.clamp(1, 64), &OpenGate)?;
+    let found = mine(rt, alloc, job, division, workers.clamp(1, 64), &OpenGate)?;
     Ok(found.work == WORK && are_rows(found.rows.as_slice(), ROWS))
 }
 
-/// Whether the search is split, and its workers.
-const SEARCHES: [(bool, u32); 4] = [(false, 1), (false, 4), (true, 1), (true, 4)];
+/// What the search begins with, and its workers.
+const SEARCHES: [(Division, u32); 4] = [
+    (Division::Whole, 1),
+    (Division::Whole, 4),
+    (Division::ByPivots, 1),
+    (Division::ByPivots, 4),
+];
 
 /// The number of the first search that finds something else.
 fn wrong_of<R: Threads + Wait + Sync>(
@@ -37,8 +42,8 @@ fn wrong_of<R: Threads + Wait + Sync>(
     alloc: Global,
     job: &Job,
 ) -> Result<Option<usize>, NoMemory> {
-    for (number, (split, workers)) in SEARCHES.iter().enumerate() {
-        if !is_found(rt, alloc, job, *split, *workers)? {
+    for (number, (division, workers)) in SEARCHES.iter().enumerate() {
+        if !is_found(rt, alloc, job, *division, *workers)? {
             return Ok(Some(number));
         }
     }
@@ -59,29 +64,29 @@ fn workers_find_all_rows(rt: HostRuntime) {
 fn simulated(
     alloc: Global,
     job: &Job,
-    split: bool,
+    division: Division,
     workers: u32,
     seed: u64,
 ) -> Result<String, NoMemory> {
-    let found = simulate(alloc, job, split, workers.clamp(1, 64), seed)?;
+    let found = simulate(alloc, job, division, workers.clamp(1, 64), seed)?;
     text_of_rows(alloc, found.rows.as_slice())
 }
 
-/// Whether the search is split, its workers, its seed, and its rows. The orders were worked out by the rules
+/// What the search begins with, its workers, its seed, and its rows. The orders were worked out by the rules
 /// of the machine. The only part has the pivot a1, and its tree is that of all ranks but for the labels'
 /// first numbers.
-const SIMULATED: [(bool, u32, u64, &str); 5] = [
-    (false, 1, 7, "2 a1 a1 b,2 a1 A b,3 a1 b,"),
-    (false, 3, 0, "2 a1 A b,3 a1 b,2 a1 a1 b,"),
-    (false, 3, 7, "3 a1 b,2 a1 a1 b,2 a1 A b,"),
-    (false, 4, u64::MAX, "2 a1 a1 b,2 a1 A b,3 a1 b,"),
-    (true, 1, 7, "2 a1 a1 b,2 a1 A b,3 a1 b,"),
+const SIMULATED: [(Division, u32, u64, &str); 5] = [
+    (Division::Whole, 1, 7, "2 a1 a1 b,2 a1 A b,3 a1 b,"),
+    (Division::Whole, 3, 0, "2 a1 A b,3 a1 b,2 a1 a1 b,"),
+    (Division::Whole, 3, 7, "3 a1 b,2 a1 a1 b,2 a1 A b,"),
+    (Division::Whole, 4, u64::MAX, "2 a1 a1 b,2 a1 A b,3 a1 b,"),
+    (Division::ByPivots, 1, 7, "2 a1 a1 b,2 a1 A b,3 a1 b,"),
 ];
 
 /// The number of the first simulated search with other rows.
 fn other_of(alloc: Global, job: &Job) -> Result<Option<usize>, NoMemory> {
-    for (number, (split, workers, seed, want)) in SIMULATED.iter().enumerate() {
-        if simulated(alloc, job, *split, *workers, *seed)?.as_str() != *want {
+    for (number, (division, workers, seed, want)) in SIMULATED.iter().enumerate() {
+        if simulated(alloc, job, *division, *workers, *seed)?.as_str() != *want {
             return Ok(Some(number));
         }
     }

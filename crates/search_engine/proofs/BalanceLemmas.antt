@@ -78,9 +78,9 @@ module _ {T G : Type 0} (label_of : T → List ℕ) (ground_of : T → G) (kids 
 
   module _ (now : Seat T G) (after : BoardPass) where
     -- the next node was got
-    pub way-next : (hand rest : List T) (node : T) (later : Seat T G) → IsUnderWay kids seat now pass after (map label_of hand)
-        → given later ≡ given now → IsNext label_of ground_of node now later hand rest → IsUnderWay kids seat later pass after (label_of node ∷ map label_of rest)
-    way-next hand rest node later way same next =
+    pub way-next : (overflow rest : List T) (node : T) (later : Seat T G) → IsUnderWay kids seat now pass after (map label_of overflow)
+        → given later ≡ given now → IsNext label_of ground_of node now later overflow rest → IsUnderWay kids seat later pass after (label_of node ∷ map label_of rest)
+    way-next overflow rest node later way same next =
         let s = way.shift in
         let all : List (List ℕ) = s.got ++ next.came in
         record {
@@ -98,15 +98,15 @@ module _ {T G : Type 0} (label_of : T → List ℕ) (ground_of : T → G) (kids 
               sum_by-append weight s.got next.came,
             );
           };
-          balance = more-came kids s.got s.made (s.given ++ map label_of hand) way.balance next.came all (s.given ++ label_of node ∷ map label_of rest)
+          balance = more-came kids s.got s.made (s.given ++ map label_of overflow) way.balance next.came all (s.given ++ label_of node ∷ map label_of rest)
               (λ weight. refl)
               (λ weight. omega (
                 arith,
                 next.same weight,
-                sum_by-append weight (map label_of hand) next.came,
+                sum_by-append weight (map label_of overflow) next.came,
                 sum_by-append weight s.given (label_of node ∷ map label_of rest),
-                sum_by-append weight s.given (map label_of hand),
-                sum_by-append weight (s.given ++ map label_of hand) next.came,
+                sum_by-append weight s.given (map label_of overflow),
+                sum_by-append weight (s.given ++ map label_of overflow) next.came,
               ));
         }
 
@@ -140,11 +140,11 @@ module _ {T G : Type 0} (label_of : T → List ℕ) (ground_of : T → G) (kids 
               ));
         }
 
-    -- its kids were put, or stay in the hand
-    pub way-put : (rest hand : List T) (more put kept : List (List ℕ)) (later : Seat T G) → IsUnderWay kids seat now pass after (map label_of rest ++ more)
-        → given later ≡ given now ++ put → got later ≡ got now → map label_of hand ≡ map label_of rest ++ kept → SameLabels more (put ++ kept)
-        → IsUnderWay kids seat later pass after (map label_of hand)
-    way-put rest hand more put kept later way given_more same longer are =
+    -- its kids were put, or stay in the overflow
+    pub way-put : (rest overflow : List T) (more put kept : List (List ℕ)) (later : Seat T G) → IsUnderWay kids seat now pass after (map label_of rest ++ more)
+        → given later ≡ given now ++ put → got later ≡ got now → map label_of overflow ≡ map label_of rest ++ kept → SameLabels more (put ++ kept)
+        → IsUnderWay kids seat later pass after (map label_of overflow)
+    way-put rest overflow more put kept later way given_more same longer are =
         let s = way.shift in
         record {
           shift = record { made = s.made; given = s.given ++ put; got = s.got };
@@ -153,7 +153,7 @@ module _ {T G : Type 0} (label_of : T → List ℕ) (ground_of : T → G) (kids 
             put = given_more ∙ ap (λ (l : List (List ℕ)). l ++ put) way.is_shift.put ∙ append_assoc (given seat) s.given put;
             taken = λ weight. omega (arith, way.is_shift.taken weight, ap (sum_by weight) same);
           };
-          balance = held-otherwise kids s.got s.made (s.given ++ (map label_of rest ++ more)) way.balance ((s.given ++ put) ++ map label_of hand)
+          balance = held-otherwise kids s.got s.made (s.given ++ (map label_of rest ++ more)) way.balance ((s.given ++ put) ++ map label_of overflow)
               (λ weight. omega (
                 arith,
                 are weight,
@@ -162,7 +162,7 @@ module _ {T G : Type 0} (label_of : T → List ℕ) (ground_of : T → G) (kids 
                 sum_by-append weight (map label_of rest) kept,
                 sum_by-append weight s.given (map label_of rest ++ more),
                 sum_by-append weight (map label_of rest) more,
-                sum_by-append weight (s.given ++ put) (map label_of hand),
+                sum_by-append weight (s.given ++ put) (map label_of overflow),
                 sum_by-append weight s.given put,
               ));
         }

@@ -1,7 +1,7 @@
 pub mod BalanceLemmas
 pub mod ChoiceLemmas
+pub mod CrewLemmas
 pub mod CrossingLemmas
-pub mod HandLemmas
 pub mod PartitionLemmas
 pub mod RunLemmas
 pub mod SearchLemmas

@@ -1,11 +1,10 @@
 -- The runs of all workers add up.
 use Rattle.std.proofs.Common.{◌≡◌, ℕ, zero, suc, ◌+◌, ◌<◌, List, [], ◌∷◌, ◌++◌, length, refl, sym, ap, subst, ◌∙◌, arith, sum_by, flat_map, map, All, Option, Some, slice_get, slice_index_or, get_or, Result, Ok, IfOk, length-append, ◌≤◌}
 use Rattle.std.specs.List.{AllByRecursion, remove}
-use Rattle.std.proofs.lemmas.List.{map-append}
+use Rattle.std.proofs.lemmas.List.{length-map, map-append}
 use Rattle.std.proofs.lemmas.List.Elements.{All-nil, All-cons, All-head, All-tail, All-push, All-weaker}
 use Rattle.std.proofs.lemmas.List.Sums.{sum_by-append}
 use Rattle.std.proofs.lemmas.Option.{same_Some}
-use Rattle.mine_model.specs.declared.memory.NoMemory.{NoMemory}
 use Rattle.search_tree.specs.Cover.{Covers, Shift, IsEven, all_made, all_given, all_got}
 use Rattle.mine_model.specs.Labels.{SameLabels}
 use Rattle.search_tree.proofs.CoverLemmas.{kids_weight, flat-weight}
@@ -18,17 +17,19 @@ use Rattle.node_pool.proofs.Steps.{sum_by_map}
 use Rattle.turn_lock.specs.History.{Made}
 use Rattle.turn_lock.specs.Passes.{IsPassOf, AreAllPasses, made}
 use Rattle.result_board.specs.Board.{labels_of}
-use Rattle.search_engine.specs.declared.hand.Hand.{Hand}
+use Rattle.worker_threads.specs.Doing.{AreDone}
+use Rattle.worker_threads.proofs.DoingLemmas.{done-long as each-long}
+use Rattle.search_engine.specs.declared.worker.Worker.{Worker}
 use Rattle.search_engine.specs.Workers.{BoardPass, BoardLock}
 use Rattle.search_engine.specs.Shifts.{PostedFrom}
-use Rattle.search_engine.specs.Hands.{AreHandsOf, AreGivenBack, IsMannedHand, IsDone, AreTried, AreDone, AreManned, AreRuns, AreOpened}
+use Rattle.search_engine.specs.Crews.{AreWorkersOf, IsEquipped, IsDone, AreManned, AreRuns, AreOpened}
 
 module _ {T G : Type 0} where
-  abbrev seats_in : List (Hand T G) → List (Seat T G)
-  seats_in hands = map (λ (hand : Hand T G). hand.seat) hands
+  abbrev seats_in : List (Worker T G) → List (Seat T G)
+  seats_in workers = map (λ (worker : Worker T G). worker.seat) workers
 
-  abbrev passes_in : List (Hand T G) → List BoardPass
-  passes_in hands = map (λ (hand : Hand T G). hand.pass) hands
+  abbrev passes_in : List (Worker T G) → List BoardPass
+  passes_in workers = map (λ (worker : Worker T G). worker.pass) workers
 
 -- what all workers posted, put and got, by their seats and passes before and behind
 pub record Adds {T G : Type 0} (kids : List ℕ → List (List ℕ)) (seats later : List (Seat T G)) (passes after : List BoardPass) : Type 0 where
@@ -54,8 +55,8 @@ front-sums first rest more others all same weight one is = omega (
 )
 
 module _ {T G : Type 0} (kids : List ℕ → List (List ℕ)) (board : BoardLock) where
-  pub runs-add : (hands dones : List (Hand T G)) → AreDone kids board hands dones
-      → Adds kids (seats_in hands) (seats_in dones) (passes_in hands) (passes_in dones)
+  pub runs-add : (workers dones : List (Worker T G)) → AreDone (IsDone kids board) workers dones
+      → Adds kids (seats_in workers) (seats_in dones) (passes_in workers) (passes_in dones)
   runs-add [] [] are = record {
     shifts = [];
     even = tt;
@@ -64,84 +65,62 @@ module _ {T G : Type 0} (kids : List ℕ → List (List ℕ)) (board : BoardLock
     taken = λ weight. refl;
   }
   runs-add [] (done ∷ dones) are = absurd are
-  runs-add (hand ∷ hands) [] are = absurd are
-  runs-add (hand ∷ hands) (done ∷ dones) are =
-      let rest = runs-add hands dones are.1 in
+  runs-add (worker ∷ workers) [] are = absurd are
+  runs-add (worker ∷ workers) (done ∷ dones) are =
+      let rest = runs-add workers dones are.1 in
       let run = are.0.run in
       record {
         shifts = run.shift ∷ rest.shifts;
         even = (run.even, rest.even);
-        posted = λ weight. front-sums (made hand.pass) (flat_map made (passes_in dones)) (flat_map made (passes_in hands)) (all_made rest.shifts) (made done.pass) rest.posted weight run.shift.made
-            (ap (sum_by weight) run.is_shift.posted ∙ sum_by-append weight (made hand.pass) run.shift.made);
-        put = λ weight. front-sums (given hand.seat) (flat_map given (seats_in dones)) (flat_map given (seats_in hands)) (all_given rest.shifts) (given done.seat) rest.put weight run.shift.given
-            (ap (sum_by weight) run.is_shift.put ∙ sum_by-append weight (given hand.seat) run.shift.given);
-        taken = λ weight. front-sums (got hand.seat) (flat_map got (seats_in dones)) (flat_map got (seats_in hands)) (all_got rest.shifts) (got done.seat) rest.taken weight run.shift.got
-            (run.is_shift.taken weight ∙ sum_by-append weight (got hand.seat) run.shift.got);
+        posted = λ weight. front-sums (made worker.pass) (flat_map made (passes_in dones)) (flat_map made (passes_in workers)) (all_made rest.shifts) (made done.pass) rest.posted weight run.shift.made
+            (ap (sum_by weight) run.is_shift.posted ∙ sum_by-append weight (made worker.pass) run.shift.made);
+        put = λ weight. front-sums (given worker.seat) (flat_map given (seats_in dones)) (flat_map given (seats_in workers)) (all_given rest.shifts) (given done.seat) rest.put weight run.shift.given
+            (ap (sum_by weight) run.is_shift.put ∙ sum_by-append weight (given worker.seat) run.shift.given);
+        taken = λ weight. front-sums (got worker.seat) (flat_map got (seats_in dones)) (flat_map got (seats_in workers)) (all_got rest.shifts) (got done.seat) rest.taken weight run.shift.got
+            (run.is_shift.taken weight ∙ sum_by-append weight (got worker.seat) run.shift.got);
       }
 
   -- the seats are still those of the pool
-  seats-stay : (pool : List Deque) (known_ground : Option G) (hands dones : List (Hand T G)) → AreDone kids board hands dones → (from : ℕ)
-      → ((k : ℕ) (s : Seat T G) → slice_get (seats_in hands) k ≡ Some s → IsSeatAt known_ground pool (from + k) s)
+  seats-stay : (pool : List Deque) (known_ground : Option G) (workers dones : List (Worker T G)) → AreDone (IsDone kids board) workers dones → (from : ℕ)
+      → ((k : ℕ) (s : Seat T G) → slice_get (seats_in workers) k ≡ Some s → IsSeatAt known_ground pool (from + k) s)
       → (k : ℕ) (s : Seat T G) → slice_get (seats_in dones) k ≡ Some s → IsSeatAt known_ground pool (from + k) s
   seats-stay pool known_ground [] [] are from each k s at = each k s at
   seats-stay pool known_ground [] (done ∷ dones) are from each k s at = absurd are
-  seats-stay pool known_ground (hand ∷ hands) [] are from each k s at = absurd are
-  seats-stay pool known_ground (hand ∷ hands) (done ∷ dones) are from each zero s at =
-      let (number, of, ground) = each 0 hand.seat refl in
+  seats-stay pool known_ground (worker ∷ workers) [] are from each k s at = absurd are
+  seats-stay pool known_ground (worker ∷ workers) (done ∷ dones) are from each zero s at =
+      let (number, of, ground) = each 0 worker.seat refl in
       let (same_number, same_pool, same_ground) = are.0.same in
       subst (IsSeatAt known_ground pool (from + 0)) (same_Some done.seat s at) (same_number ∙ number, same_pool ∙ of, same_ground ∙ ground)
-  seats-stay pool known_ground (hand ∷ hands) (done ∷ dones) are from each (suc k) s at =
+  seats-stay pool known_ground (worker ∷ workers) (done ∷ dones) are from each (suc k) s at =
       subst (λ n. IsSeatAt known_ground pool n s) (omega arith)
-      (seats-stay pool known_ground hands dones are.1 (suc from) (λ j t there. subst (λ n. IsSeatAt known_ground pool n t) (omega arith) (each (suc j) t there)) k s at)
+      (seats-stay pool known_ground workers dones are.1 (suc from) (λ j t there. subst (λ n. IsSeatAt known_ground pool n t) (omega arith) (each (suc j) t there)) k s at)
 
-  hands-long : (hands dones : List (Hand T G)) → AreDone kids board hands dones → length (seats_in dones) ≡ length (seats_in hands)
-  hands-long [] [] are = refl
-  hands-long [] (done ∷ dones) are = absurd are
-  hands-long (hand ∷ hands) [] are = absurd are
-  hands-long (hand ∷ hands) (done ∷ dones) are = ap suc (hands-long hands dones are.1)
+  workers-long : (workers dones : List (Worker T G)) → AreDone (IsDone kids board) workers dones → length (seats_in dones) ≡ length (seats_in workers)
+  workers-long workers dones are =
+      let seat_of : Worker T G → Seat T G = λ worker. worker.seat in
+      length-map dones seat_of ∙ each-long (IsDone kids board) workers dones are ∙ sym (length-map workers seat_of)
 
-  pub pool-stays : (hands dones : List (Hand T G)) → AreDone kids board hands dones → IsWholePool (seats_in hands) → IsWholePool (seats_in dones)
-  pool-stays hands dones are whole =
+  pub pool-stays : (workers dones : List (Worker T G)) → AreDone (IsDone kids board) workers dones → IsWholePool (seats_in workers) → IsWholePool (seats_in dones)
+  pool-stays workers dones are whole =
       let (pool, known_ground, long, each) = whole in (
         pool,
         known_ground,
-        long ∙ sym (hands-long hands dones are),
+        long ∙ sym (workers-long workers dones are),
         λ k s at. subst (λ n. IsSeatAt known_ground pool n s) (omega arith)
-            (seats-stay pool known_ground hands dones are 0 (λ j t there. subst (λ n. IsSeatAt known_ground pool n t) (omega arith) (each j t there)) k s at),
+            (seats-stay pool known_ground workers dones are 0 (λ j t there. subst (λ n. IsSeatAt known_ground pool n t) (omega arith) (each j t there)) k s at),
       )
 
-  pub passes-stay : (hands dones : List (Hand T G)) → AreDone kids board hands dones → All (IsPassOf board) (passes_in dones)
+  pub passes-stay : (workers dones : List (Worker T G)) → AreDone (IsDone kids board) workers dones → All (IsPassOf board) (passes_in dones)
   passes-stay [] [] are = All-nil (IsPassOf board)
   passes-stay [] (done ∷ dones) are = absurd are
-  passes-stay (hand ∷ hands) [] are = absurd are
-  passes-stay (hand ∷ hands) (done ∷ dones) are = All-cons (IsPassOf board) done.pass (passes_in dones) are.0.pass_is (passes-stay hands dones are.1)
-
-  -- each job was tried
-  pub all-tried : (hands : List (Hand T G)) (results : List (Result (Hand T G) NoMemory)) → length results ≡ length hands
-      → ((k : ℕ) (d : Result (Hand T G) NoMemory) → k < length hands
-      → (hand : Hand T G) × (get_or hands k hand ≡ hand) × IfOk (get_or results k d) (IsDone kids board hand))
-      → AreTried kids board hands results
-  all-tried [] [] many each = tt
-  all-tried [] (result ∷ results) many each = absurd (omega (arith, many))
-  all-tried (hand ∷ hands) [] many each = absurd (omega (arith, many))
-  all-tried (hand ∷ hands) (result ∷ results) many each =
-      let (job, is, does) = each 0 result (omega arith) in (
-        subst (λ (h : Hand T G). IfOk result (IsDone kids board h)) (sym is) does,
-        all-tried hands results (omega (arith, many)) (λ k d within. each (suc k) d (omega (arith, within))),
-      )
-
-  -- those that all gave something back did their work
-  pub all-done : (hands dones : List (Hand T G)) → AreTried kids board hands (map Ok dones) → AreDone kids board hands dones
-  all-done [] [] tried = tt
-  all-done [] (done ∷ dones) tried = absurd tried
-  all-done (hand ∷ hands) [] tried = absurd tried
-  all-done (hand ∷ hands) (done ∷ dones) tried = (tried.0, all-done hands dones tried.1)
+  passes-stay (worker ∷ workers) [] are = absurd are
+  passes-stay (worker ∷ workers) (done ∷ dones) are = All-cons (IsPassOf board) done.pass (passes_in dones) are.0.pass_is (passes-stay workers dones are.1)
 
 module _ {T G : Type 0} (home : G) (board : BoardLock) where
-  -- seats and passes of hands
-  pub hands-manned : (hands : List (Hand T G)) → AreManned home board (seats_in hands) (passes_in hands) → All (IsMannedHand home board) hands
-  hands-manned [] manned = All-nil (IsMannedHand home board)
-  hands-manned (hand ∷ hands) manned = All-cons (IsMannedHand home board) hand hands manned.0 (hands-manned hands manned.1)
+  -- seats and passes of workers
+  pub workers-manned : (workers : List (Worker T G)) → AreManned home board (seats_in workers) (passes_in workers) → All (IsEquipped home board) workers
+  workers-manned [] manned = All-nil (IsEquipped home board)
+  workers-manned (worker ∷ workers) manned = All-cons (IsEquipped home board) worker workers manned.0 (workers-manned workers manned.1)
 
 -- the same labels in another order cover the same tree
 pub covers-same : (roots : List (List ℕ)) (kids : List ℕ → List (List ℕ)) (labels others : List (List ℕ)) → SameLabels others labels → Covers roots kids labels → Covers roots kids others
@@ -218,51 +197,30 @@ module _ {T G : Type 0} (label_of : T → List ℕ) (ground_of : T → G) (home 
         sum_by-append weight (map label_of rest ++ map label_of left) (flat_map kids posted),
       )))
 
--- what hands are given and give back, by their seats and passes
+-- what workers are given and give back, by their seats and passes
 module _ {T G : Type 0} (home : G) (board : BoardLock) where
-  pub given-manned : (seats : List (Seat T G)) (passes : List BoardPass) (hands : List (Hand T G)) → AreHandsOf seats passes hands → AreManned home board seats passes
-      → All (IsMannedHand home board) hands
-  given-manned seats passes hands are manned = hands-manned home board hands
-      (subst (λ (l : List (Seat T G)). AreManned home board l (passes_in hands)) (sym are.seats_are)
+  pub given-manned : (seats : List (Seat T G)) (passes : List BoardPass) (workers : List (Worker T G)) → AreWorkersOf seats passes workers → AreManned home board seats passes
+      → All (IsEquipped home board) workers
+  given-manned seats passes workers are manned = workers-manned home board workers
+      (subst (λ (l : List (Seat T G)). AreManned home board l (passes_in workers)) (sym are.seats_are)
       (subst (λ (l : List BoardPass). AreManned home board seats l) (sym are.passes_are) manned))
 
-  -- all but the first
-  pub first-manned : (hands : List (Hand T G)) (first : Hand T G) → 1 ≤ length hands → first ≡ slice_index_or hands 0 first → All (IsMannedHand home board) hands
-      → IsMannedHand home board first × All (IsMannedHand home board) (remove hands 0) × (first ∷ remove hands 0 ≡ hands)
-  first-manned [] first some is all = absurd (omega (arith, some))
-  first-manned (hand ∷ hands) first some is all = (
-    subst (IsMannedHand home board) (sym is) (All-head (IsMannedHand home board) hand hands all),
-    All-tail (IsMannedHand home board) hand hands all,
-    (λ i. is i ∷ hands),
-  )
-
 module _ {T G : Type 0} (kids : List ℕ → List (List ℕ)) (board : BoardLock) where
-  pub runs-made : (seats later : List (Seat T G)) (passes after : List BoardPass) (hands : List (Hand T G)) (results : List (Result (Hand T G) NoMemory))
-      → AreHandsOf seats passes hands → AreTried kids board hands results → AreGivenBack results later after → AreRuns kids board seats later passes after
-  runs-made seats later passes after hands results are tried back = record {
-    before = hands;
-    behind = back.hands;
+  pub runs-made : (seats later : List (Seat T G)) (passes after : List BoardPass) (workers dones : List (Worker T G))
+      → AreWorkersOf seats passes workers → AreDone (IsDone kids board) workers dones → AreWorkersOf later after dones → AreRuns kids board seats later passes after
+  runs-made seats later passes after workers dones are done back = record {
+    before = workers;
+    behind = dones;
     given_are = are;
-    back_are = back.are;
-    done = all-done kids board hands back.hands (subst (AreTried kids board hands) back.all tried);
+    back_are = back;
+    done = done;
   }
-
-  -- no worker at all
-  pub runs-none : (seats : List (Seat T G)) (passes : List BoardPass) (hands : List (Hand T G)) → AreHandsOf seats passes hands → length hands ≡ 0 → AreRuns kids board seats [] passes []
-  runs-none seats passes [] are none = record {
-    before = [];
-    behind = [];
-    given_are = are;
-    back_are = record { seats_are = refl; passes_are = refl };
-    done = tt;
-  }
-  runs-none seats passes (hand ∷ hands) are none = absurd (omega (arith, none))
 
   -- by their seats and passes
   pub runs-adds : (seats later : List (Seat T G)) (passes after : List BoardPass) → AreRuns kids board seats later passes after → Adds kids seats later passes after
   runs-adds seats later passes after runs =
       let adds = runs-add kids board runs.before runs.behind runs.done in
-      let (given_are, back_are) : AreHandsOf seats passes runs.before × AreHandsOf later after runs.behind = (runs.given_are, runs.back_are) in
+      let (given_are, back_are) : AreWorkersOf seats passes runs.before × AreWorkersOf later after runs.behind = (runs.given_are, runs.back_are) in
       record {
         shifts = adds.shifts;
         even = adds.even;
@@ -281,33 +239,32 @@ module _ {T G : Type 0} (kids : List ℕ → List (List ℕ)) (board : BoardLock
   pub runs-passes : (seats later : List (Seat T G)) (passes after : List BoardPass) → AreRuns kids board seats later passes after → All (IsPassOf board) after
   runs-passes seats later passes after runs = subst (All (IsPassOf board)) runs.back_are.passes_are (passes-stay kids board runs.before runs.behind runs.done)
 
-  done-homes : (home : G) (hands dones : List (Hand T G)) → AreDone kids board hands dones → All (λ seat. seat_ground seat ≡ Some home) (seats_in hands)
+  done-homes : (home : G) (workers dones : List (Worker T G)) → AreDone (IsDone kids board) workers dones → All (λ seat. seat_ground seat ≡ Some home) (seats_in workers)
       → All (λ seat. seat_ground seat ≡ Some home) (seats_in dones)
   done-homes home [] [] are all = all
   done-homes home [] (done ∷ dones) are all = absurd are
-  done-homes home (hand ∷ hands) [] are all = absurd are
-  done-homes home (hand ∷ hands) (done ∷ dones) are all =
+  done-homes home (worker ∷ workers) [] are all = absurd are
+  done-homes home (worker ∷ workers) (done ∷ dones) are all =
       let (same_number, same_pool, same_ground) = are.0.same in
       All-cons (λ (s : Seat T G). seat_ground s ≡ Some home) done.seat (seats_in dones)
-      (same_ground ∙ All-head (λ (s : Seat T G). seat_ground s ≡ Some home) hand.seat (seats_in hands) all)
-      (done-homes home hands dones are.1 (All-tail (λ (s : Seat T G). seat_ground s ≡ Some home) hand.seat (seats_in hands) all))
+      (same_ground ∙ All-head (λ (s : Seat T G). seat_ground s ≡ Some home) worker.seat (seats_in workers) all)
+      (done-homes home workers dones are.1 (All-tail (λ (s : Seat T G). seat_ground s ≡ Some home) worker.seat (seats_in workers) all))
 
   pub runs-homes : (home : G) (seats later : List (Seat T G)) (passes after : List BoardPass) → AreRuns kids board seats later passes after
       → All (λ seat. seat_ground seat ≡ Some home) seats → All (λ seat. seat_ground seat ≡ Some home) later
   runs-homes home seats later passes after runs all = subst (All (λ (s : Seat T G). seat_ground s ≡ Some home)) runs.back_are.seats_are
       (done-homes home runs.before runs.behind runs.done (subst (All (λ (s : Seat T G). seat_ground s ≡ Some home)) (sym runs.given_are.seats_are) all))
 
-  done-long : (hands dones : List (Hand T G)) → AreDone kids board hands dones → length (passes_in dones) ≡ length (passes_in hands)
-  done-long [] [] are = refl
-  done-long [] (done ∷ dones) are = absurd are
-  done-long (hand ∷ hands) [] are = absurd are
-  done-long (hand ∷ hands) (done ∷ dones) are = ap suc (done-long hands dones are.1)
+  done-long : (workers dones : List (Worker T G)) → AreDone (IsDone kids board) workers dones → length (passes_in dones) ≡ length (passes_in workers)
+  done-long workers dones are =
+      let pass_of : Worker T G → BoardPass = λ worker. worker.pass in
+      length-map dones pass_of ∙ each-long (IsDone kids board) workers dones are ∙ sym (length-map workers pass_of)
 
   pub runs-long : (seats later : List (Seat T G)) (passes after : List BoardPass) → AreRuns kids board seats later passes after
       → (length after ≡ length passes) × (length later ≡ length seats)
   runs-long seats later passes after runs = (
     ap length (sym runs.back_are.passes_are) ∙ done-long runs.before runs.behind runs.done ∙ ap length runs.given_are.passes_are,
-    ap length (sym runs.back_are.seats_are) ∙ hands-long kids board runs.before runs.behind runs.done ∙ ap length runs.given_are.seats_are,
+    ap length (sym runs.back_are.seats_are) ∙ workers-long kids board runs.before runs.behind runs.done ∙ ap length runs.given_are.seats_are,
   )
 
 -- each seat with a pass

@@ -1,5 +1,5 @@
 -- What a search grows is its tree, and the rows over a cover of the tree are the answer.
-use Rattle.std.proofs.Common.{◌≡◌, ◌↔◌, ℕ, suc, ◌<◌, ◌≤◌, Bool, true, false, Option, IfSome, List, [], ◌∷◌, length, All, sym, ap₂, subst, arith}
+use Rattle.std.proofs.Common.{◌≡◌, ◌↔◌, ℕ, suc, ◌<◌, ◌≤◌, Option, IfSome, List, [], ◌∷◌, length, All, sym, ap₂, subst, arith}
 use Rattle.std.specs.List.{AllByRecursion, AllPairs, Contains, filter_map}
 use Rattle.mine_model.specs.declared.item.Item.{Item}
 use Rattle.mine_model.specs.declared.mined.Work.{Work}
@@ -23,6 +23,8 @@ use Rattle.dfs_growth.specs.Nodes.{Prefix, label_at}
 use Rattle.dfs_growth.specs.Tree.{search_tree, roots_by, kids_by, row_by}
 use Rattle.dfs_growth.proofs.TreeLemmas.{search_tree-is}
 use Rattle.result_board.specs.Board.{HasRow}
+use Rattle.search_engine.specs.declared.division.Division.{Division}
+use Rattle.search_engine.specs.declared.division.Division.TheVariants.{Whole, ByPivots}
 use Rattle.search_engine.specs.Partition.{HasPivotAmong, IsPartsWork, ArePivotsFor, IsWorkFor}
 use Rattle.search_engine.specs.Searches.{Search, tree_of}
 use Rattle.search_engine.proofs.PartitionLemmas.{parts-once, parts-rows, parts-work, partition-rows, partition-work}
@@ -103,32 +105,32 @@ module _ (problem : Problem) (whole : IsWhole problem) (search : Search) (same :
   walks-tree = subst (λ (p : Problem). IsSearchTree (data_of problem) problem.ranking.order search.pivots (search_tree p search.pivots)) (sym same) (search_tree-is problem whole search.pivots)
 
   -- over a cover of its tree
-  module _ (split : Bool) (are_for : ArePivotsFor split (data_of problem) problem.ranking.order search.pivots)
+  module _ (division : Division) (are_for : ArePivotsFor division (data_of problem) problem.ranking.order search.pivots)
       (labels : List (List ℕ)) (covers : Covers (tree_of search).roots (tree_of search).kids labels) where
-    work-for : (split : Bool) → ArePivotsFor split (data_of problem) problem.ranking.order search.pivots
-        → IsWorkFor split (data_of problem) problem.ranking.order (record { nodes = length labels; parts = length (tree_of search).roots; candidates = 0 })
-    work-for false one =
+    work-for : (division : Division) → ArePivotsFor division (data_of problem) problem.ranking.order search.pivots
+        → IsWorkFor division (data_of problem) problem.ranking.order (record { nodes = length labels; parts = length (tree_of search).roots; candidates = 0 })
+    work-for Whole one =
         search-work (data_of problem) problem.ranking whole.ranks (tree_of search) (subst (λ p. IsSearchTree (data_of problem) problem.ranking.order p (tree_of search)) one walks-tree)
         labels covers whole.least
-    work-for true alive = partition-work (data_of problem) problem.ranking whole.ranks search.pivots alive (tree_of search) walks-tree labels covers
+    work-for ByPivots alive = partition-work (data_of problem) problem.ranking whole.ranks search.pivots alive (tree_of search) walks-tree labels covers
 
     pub walks-work : (nodes parts : ℕ) → nodes ≡ length labels → parts ≡ length (tree_of search).roots
-        → IsWorkFor split (data_of problem) problem.ranking.order (record { nodes = nodes; parts = parts; candidates = 0 })
+        → IsWorkFor division (data_of problem) problem.ranking.order (record { nodes = nodes; parts = parts; candidates = 0 })
     walks-work nodes parts is_nodes is_parts =
         let made : ℕ → ℕ → Work = λ n p. record { nodes = n; parts = p; candidates = 0 } in
-        subst (IsWorkFor split (data_of problem) problem.ranking.order) (ap₂ made (sym is_nodes) (sym is_parts)) (work-for split are_for)
+        subst (IsWorkFor division (data_of problem) problem.ranking.order) (ap₂ made (sym is_nodes) (sym is_parts)) (work-for division are_for)
 
     module _ (ends : All (λ link. (link.child.0 < problem.hierarchy.items) × (link.parent.0 < problem.hierarchy.items)) problem.hierarchy.links)
         (rows : List Row) (are : rows ≡ filter_map (tree_of search).row labels) where
-      rows-for : (split : Bool) → ArePivotsFor split (data_of problem) problem.ranking.order search.pivots
+      rows-for : (division : Division) → ArePivotsFor division (data_of problem) problem.ranking.order search.pivots
           → AreFrequent (data_of problem) (filter_map (tree_of search).row labels)
-      rows-for false one =
+      rows-for Whole one =
           search-rows (data_of problem) problem.ranking whole.ranks (tree_of search) (subst (λ p. IsSearchTree (data_of problem) problem.ranking.order p (tree_of search)) one walks-tree)
           labels covers (items-known problem whole ends)
-      rows-for true alive = partition-rows (data_of problem) problem.ranking whole.ranks search.pivots alive (tree_of search) walks-tree labels covers (items-known problem whole ends)
+      rows-for ByPivots alive = partition-rows (data_of problem) problem.ranking whole.ranks search.pivots alive (tree_of search) walks-tree labels covers (items-known problem whole ends)
 
       pub walks-frequent : AreFrequent (data_of problem) rows
-      walks-frequent = subst (AreFrequent (data_of problem)) (sym are) (rows-for split are_for)
+      walks-frequent = subst (AreFrequent (data_of problem)) (sym are) (rows-for division are_for)
 
       pub walks-within : (row : Row) → Contains rows row → AllByRecursion (λ (t : Item). t.0 < problem.hierarchy.items) row.pattern
       walks-within row held = frequent-within problem whole ends row ((walks-frequent.frequent row).0 held)

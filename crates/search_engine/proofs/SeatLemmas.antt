@@ -24,31 +24,31 @@ labels-more : {T : Type 0} (label_of : T → List ℕ) (weight : List ℕ → �
 labels-more label_of weight tasks task = ap (sum_by weight) (map-append label_of tasks (task ∷ [])) ∙ sum_by_push weight (map label_of tasks) (label_of task)
 
 module _ {T G : Type 0} (label_of : T → List ℕ) where
-  -- these tasks were put, or came to the hand
-  pub record ArePut (seat later : Seat T G) (tasks hand after : List T) : Type 0 where
+  -- these tasks were put, or came to the overflow
+  pub record ArePut (seat later : Seat T G) (tasks overflow after : List T) : Type 0 where
     pub put : List (List ℕ)
     pub kept : List (List ℕ)
     pub given_is : given later ≡ given seat ++ put
-    pub hand_is : map label_of after ≡ map label_of hand ++ kept
+    pub overflow_is : map label_of after ≡ map label_of overflow ++ kept
     pub same : SameLabels (map label_of tasks) (put ++ kept)
 
-  pub put-none : (seat : Seat T G) (hand : List T) → ArePut seat seat [] hand hand
-  put-none seat hand = record {
+  pub put-none : (seat : Seat T G) (overflow : List T) → ArePut seat seat [] overflow overflow
+  put-none seat overflow = record {
     put = [];
     kept = [];
     given_is = sym (append-nil (given seat));
-    hand_is = sym (append-nil (map label_of hand));
+    overflow_is = sym (append-nil (map label_of overflow));
     same = λ weight. refl;
   }
 
-  module _ (seat now later : Seat T G) (tasks hand after : List T) (task : T) (are : ArePut seat now tasks hand after) where
+  module _ (seat now later : Seat T G) (tasks overflow after : List T) (task : T) (are : ArePut seat now tasks overflow after) where
     -- one more was put
-    pub put-more : given later ≡ given now ++ label_of task ∷ [] → ArePut seat later (tasks ++ task ∷ []) hand after
+    pub put-more : given later ≡ given now ++ label_of task ∷ [] → ArePut seat later (tasks ++ task ∷ []) overflow after
     put-more more = record {
       put = are.put ++ label_of task ∷ [];
       kept = are.kept;
       given_is = more ∙ ap (λ (l : List (List ℕ)). l ++ label_of task ∷ []) are.given_is ∙ append_assoc (given seat) are.put (label_of task ∷ []);
-      hand_is = are.hand_is;
+      overflow_is = are.overflow_is;
       same = λ weight. omega (
         arith,
         are.same weight,
@@ -59,13 +59,13 @@ module _ {T G : Type 0} (label_of : T → List ℕ) where
       );
     }
 
-    -- one more came to the hand
-    pub put-kept : given later ≡ given now → (last : List T) → last ≡ after ++ task ∷ [] → ArePut seat later (tasks ++ task ∷ []) hand last
+    -- one more came to the overflow
+    pub put-kept : given later ≡ given now → (last : List T) → last ≡ after ++ task ∷ [] → ArePut seat later (tasks ++ task ∷ []) overflow last
     put-kept same last is = record {
       put = are.put;
       kept = are.kept ++ label_of task ∷ [];
       given_is = same ∙ are.given_is;
-      hand_is = ap (map label_of) is ∙ map-append label_of after (task ∷ []) ∙ ap (λ (l : List (List ℕ)). l ++ label_of task ∷ []) are.hand_is ∙ append_assoc (map label_of hand) are.kept (label_of task ∷ []);
+      overflow_is = ap (map label_of) is ∙ map-append label_of after (task ∷ []) ∙ ap (λ (l : List (List ℕ)). l ++ label_of task ∷ []) are.overflow_is ∙ append_assoc (map label_of overflow) are.kept (label_of task ∷ []);
       same = λ weight. omega (
         arith,
         are.same weight,
@@ -77,32 +77,32 @@ module _ {T G : Type 0} (label_of : T → List ℕ) where
     }
 
   module _ (ground_of : T → G) where
-    -- the next task is the last of the hand
-    pub next-of_hand : (task : T) (seat : Seat T G) (hand rest : List T) → hand ≡ rest ++ task ∷ [] → IsNext label_of ground_of task seat seat hand rest
-    next-of_hand task seat hand rest is = record {
+    -- the next task is the last of the overflow
+    pub next-of_hand : (task : T) (seat : Seat T G) (overflow rest : List T) → overflow ≡ rest ++ task ∷ [] → IsNext label_of ground_of task seat seat overflow rest
+    next-of_hand task seat overflow rest is = record {
       came = [];
       got_them = λ weight. omega (arith, sum_by-append weight (got seat) []);
       same = λ weight. omega (
         arith,
         ap (λ (l : List T). sum_by weight (map label_of l)) is,
         labels-more label_of weight rest task,
-        sum_by-append weight (map label_of hand) [],
+        sum_by-append weight (map label_of overflow) [],
         sum_by-cons weight (label_of task) (map label_of rest),
       );
-      own = λ home seat_is are. let parts = All-pop (λ (t : T). ground_of t ≡ home) hand rest (Some task) is are in (parts.1, parts.0);
+      own = λ home seat_is are. let parts = All-pop (λ (t : T). ground_of t ≡ home) overflow rest (Some task) is are in (parts.1, parts.0);
     }
 
-    -- the hand is empty, and the next task is what the seat found
-    pub next-of_seat : (next : Option T) (seat later : Seat T G) (hand rest : List T) → hand ≡ [] → rest ≡ [] → HasFound label_of ground_of next seat later → HasNext label_of ground_of next seat later hand rest
-    next-of_seat None seat later hand rest none still found = (none, still, found)
-    next-of_seat (Some task) seat later hand rest none still found = record {
+    -- the overflow is empty, and the next task is what the seat found
+    pub next-of_seat : (next : Option T) (seat later : Seat T G) (overflow rest : List T) → overflow ≡ [] → rest ≡ [] → HasFound label_of ground_of next seat later → HasNext label_of ground_of next seat later overflow rest
+    next-of_seat None seat later overflow rest none still found = (none, still, found)
+    next-of_seat (Some task) seat later overflow rest none still found = record {
       came = label_of task ∷ [];
       got_them = found.1;
       same = λ weight. omega (
         arith,
         ap (λ (l : List T). sum_by weight (map label_of l)) none,
         ap (λ (l : List T). sum_by weight (map label_of l)) still,
-        sum_by-append weight (map label_of hand) (label_of task ∷ []),
+        sum_by-append weight (map label_of overflow) (label_of task ∷ []),
         sum_by-cons weight (label_of task) [],
         sum_by-cons weight (label_of task) (map label_of rest),
       );

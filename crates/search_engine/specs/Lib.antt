@@ -6,4 +6,4 @@ pub mod Partition
 -- what the proofs keep
 pub mod Searches
 pub mod Shifts
-pub mod Hands
+pub mod Crews

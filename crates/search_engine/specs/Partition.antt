@@ -1,10 +1,12 @@
 -- A search by pivots: the parts of the article on pivots.
-use Rattle.std.specs.Prelude.{◌≡◌, ◌≢◌, ℕ, ◌≤◌, ◌<◌, ◌↔◌, Bool, true, false, List, [], ◌∷◌, length, AllPairs, Contains}
+use Rattle.std.specs.Prelude.{◌≡◌, ◌≢◌, ℕ, ◌≤◌, ◌<◌, ◌↔◌, List, [], ◌∷◌, length, AllPairs, Contains}
 use Rattle.mine_model.specs.declared.item.Item.{Item}
 use Rattle.mine_model.specs.declared.mined.Work.{Work}
 use Rattle.mine_model.specs.Answer.{Data}
 use Rattle.mine_model.specs.Growth.{IsSearchWork}
 use Rattle.mine_model.specs.Pivots.{label_of, IsWithinPivot, IsAliveLabel}
+use Rattle.search_engine.specs.declared.division.Division.{Division}
+use Rattle.search_engine.specs.declared.division.Division.TheVariants.{Whole, ByPivots}
 
 -- the pivots under whose bounds the empty prefix is alive, rising
 pub record AreAlivePivots (d : Data Item) (order : List Item) (pivots : List ℕ) : Type 0 where
@@ -41,11 +43,11 @@ pub record IsPartitionWork (d : Data Item) (order : List Item) (work : Work) : T
 
 -- the pivots of the roots: those that are alive where the search is split, and else 0 alone, which stands for
 -- none
-abbrev pub ArePivotsFor : Bool → Data Item → List Item → List ℕ → Type 0
-ArePivotsFor false d order pivots = pivots ≡ 0 ∷ []
-ArePivotsFor true d order pivots = AreAlivePivots d order pivots
+abbrev pub ArePivotsFor : Division → Data Item → List Item → List ℕ → Type 0
+ArePivotsFor Whole d order pivots = pivots ≡ 0 ∷ []
+ArePivotsFor ByPivots d order pivots = AreAlivePivots d order pivots
 
 -- the work of a search, split by pivots or not
-abbrev pub IsWorkFor : Bool → Data Item → List Item → Work → Type 0
-IsWorkFor false d order work = IsSearchWork d work
-IsWorkFor true d order work = IsPartitionWork d order work
+abbrev pub IsWorkFor : Division → Data Item → List Item → Work → Type 0
+IsWorkFor Whole d order work = IsSearchWork d work
+IsWorkFor ByPivots d order work = IsPartitionWork d order work

@@ -1,4 +1,4 @@
--- What a seat gets, and what a worker has in hand.
+-- What a seat gets, and what a worker keeps back.
 use Rattle.std.specs.Prelude.{◌≡◌, ℕ, ◌<◌, true, Option, Some, None, List, [], ◌∷◌, ◌++◌, length, map, All}
 use Rattle.mine_model.specs.Labels.{SameLabels}
 use Rattle.node_pool.specs.Pool.{pool_of, seat_ground, is_dry, given, got}
@@ -26,15 +26,15 @@ module _ {T G : Type 0} (label_of : T → List ℕ) (ground_of : T → G) where
   HasFound None seat later = (got later ≡ got seat) × IsAllDry later
       × (length (pool_of later) ≡ 1 → SameLabels (given later) (got later))
 
-  -- the task is the next: of the hand, or what the seat got
-  pub record IsNext (task : T) (seat later : Seat T G) (hand rest : List T) : Type 0 where
+  -- the task is the next: of the overflow, or what the seat got
+  pub record IsNext (task : T) (seat later : Seat T G) (overflow rest : List T) : Type 0 where
     pub came : List (List ℕ)
     pub got_them : SameLabels (got later) (got seat ++ came)
-    pub same : SameLabels (map label_of hand ++ came) (label_of task ∷ map label_of rest)
-    pub own : (home : G) → seat_ground seat ≡ Some home → AreTasksOf ground_of home hand
+    pub same : SameLabels (map label_of overflow ++ came) (label_of task ∷ map label_of rest)
+    pub own : (home : G) → seat_ground seat ≡ Some home → AreTasksOf ground_of home overflow
         → (ground_of task ≡ home) × AreTasksOf ground_of home rest
 
-  -- the next task, or none where the hand is empty and no deque has one
+  -- the next task, or none where the overflow is empty and no deque has one
   abbrev pub HasNext : Option T → Seat T G → Seat T G → List T → List T → Type 0
-  HasNext (Some task) seat later hand rest = IsNext task seat later hand rest
-  HasNext None seat later hand rest = (hand ≡ []) × (rest ≡ []) × HasFound None seat later
+  HasNext (Some task) seat later overflow rest = IsNext task seat later overflow rest
+  HasNext None seat later overflow rest = (overflow ≡ []) × (rest ≡ []) × HasFound None seat later

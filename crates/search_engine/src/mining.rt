@@ -15,6 +15,7 @@ ghost use Rattle.dfs_growth.specs.Nodes.{Prefix, label_at};
 ghost use Rattle.search_engine.specs.Partition.{HasPivotAmong, IsPartsWork, IsWorkFor};
 ghost use Rattle.search_engine.specs.Searches.{tree_of};
 
+use super::division::Division;
 use super::search::Search;
 use super::workers::posted;
 use dfs_growth::{Node, whole_roots};
@@ -33,7 +34,7 @@ pub fn mine<R: Threads + Wait + Sync, G: Gate>(
     rt: &R,
     alloc: Global,
     job: &Job,
-    is_split: bool,
+    division: Division,
     workers: u32,
     gate: &G,
 ) -> Result<Mined, NoMemory>
@@ -43,19 +44,23 @@ pub fn mine<R: Threads + Wait + Sync, G: Gate>(
     ensures items { IfOk result (λ mined. (row : Row) → Contains mined.rows.items row
         → AllByRecursion (λ t. t.0 < job.now.hierarchy.items) row.pattern) }
     ensures work { IfOk result (λ mined.
-        IsWorkFor is_split (data_of job.now) job.now.ranking.order mined.work) }
+        IsWorkFor division (data_of job.now) job.now.ranking.order mined.work) }
 {
-    // The contract of `items` says that no link leads out of the items, so neither does a pattern.
+    // For the proof alone: no link leads out of the items, so neither does a pattern.
     let _items = job.hierarchy().items();
-    if is_split {
-        let seeds = split(rt, alloc, job, workers)?;
-        let mined = mine_parts(rt, alloc, job, seeds, workers, gate)?;
-        return Ok(mined);
+    match division {
+        Division::Whole => {
+            let roots = whole_roots(rt, workers, alloc, job)?;
+            let search = Search::new(job);
+            let mined = mined_by(rt, alloc, job, &search, roots, workers, gate)?;
+            Ok(mined)
+        }
+        Division::ByPivots => {
+            let seeds = split(rt, alloc, job, workers)?;
+            let mined = mine_parts(rt, alloc, job, seeds, workers, gate)?;
+            Ok(mined)
+        }
     }
-    let roots = whole_roots(rt, workers, alloc, job)?;
-    let search = Search::new(job);
-    let mined = mined_by(rt, alloc, job, &search, roots, workers, gate)?;
-    Ok(mined)
 }
 
 /// The frequent patterns of a job whose pivots are those of the seeds, each once and in any order, with their
@@ -84,6 +89,7 @@ pub fn mine_parts<R: Threads + Wait + Sync, G: Gate>(
     ensures work { IfOk result (λ mined.
         IsPartsWork (data_of job.now) job.now.ranking.order (pivots_in seeds.items) mined.work) }
 {
+    // For the proof alone, as in `mine`.
     let _items = job.hierarchy().items();
     let search = Search::by_seeds(job, seeds);
     let roots = search.roots(alloc)?;
@@ -115,10 +121,10 @@ fn mined_by<'a, R: Threads + Wait + Sync, G: Gate>(
           candidates = 0;
         })) }
 {
-    // Each accessor of the job says that it is whole.
+    // For the proof alone: the job is whole, as each accessor of it says.
     let _support = job.support();
     let parts = roots.len() as u64;
-    let board = posted(rt, alloc, search, job, job, roots, workers, gate)?;
+    let board = posted(rt, alloc, search, job, roots, workers, gate)?;
     let (rows, nodes) = board.into_parts();
     Ok(Mined {
         rows,

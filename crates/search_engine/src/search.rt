@@ -9,6 +9,7 @@ ghost use Rattle.dfs_growth.specs.Nodes.{Prefix, label_at};
 ghost use Rattle.search_engine.specs.Partition.{ArePivotsFor};
 ghost use Rattle.search_engine.specs.Searches.{AreComplete, pivots_from};
 
+use super::division::Division;
 use dfs_growth::{Node, expand, roots, whole_roots_alone};
 use mine_model::NoMemory;
 use mining_job::{Job, PartSeed};
@@ -88,7 +89,7 @@ impl<'a> Search<'a> {
         ensures problem { result.problem ≡ job.now }
         ensures pivots { result.pivots ≡ 0 ∷ [] }
     {
-        // Each accessor of the job says that it is whole.
+        // For the proof alone: the job is whole, as each accessor of it says.
         let _support = job.support();
         Search {
             job,
@@ -102,6 +103,7 @@ impl<'a> Search<'a> {
         ensures problem { result.problem ≡ job.now }
         ensures pivots { result.pivots ≡ pivots_in seeds.items }
     {
+        // For the proof alone: the job is whole.
         let _support = job.support();
         Search {
             job,
@@ -110,16 +112,22 @@ impl<'a> Search<'a> {
     }
 
     /// The search of the job, split by pivots or not. The pivots are looked for in this thread.
-    pub(crate) fn alone(alloc: Global, job: &'a Job, is_split: bool) -> Result<Search<'a>, NoMemory>
+    pub(crate) fn alone(
+        alloc: Global,
+        job: &'a Job,
+        division: Division,
+    ) -> Result<Search<'a>, NoMemory>
         ensures problem { IfOk result (λ search. search.problem ≡ job.now) }
         ensures pivots { IfOk result (λ search.
-            ArePivotsFor is_split (data_of job.now) job.now.ranking.order search.pivots) }
+            ArePivotsFor division (data_of job.now) job.now.ranking.order search.pivots) }
     {
-        if !is_split {
-            return Ok(Search::new(job));
+        match division {
+            Division::Whole => Ok(Search::new(job)),
+            Division::ByPivots => {
+                let seeds = split_alone(alloc, job)?;
+                Ok(Search::by_seeds(job, seeds))
+            }
         }
-        let seeds = split_alone(alloc, job)?;
-        Ok(Search::by_seeds(job, seeds))
     }
 
     /// The job.
@@ -168,7 +176,7 @@ impl<'a> Grow for Search<'a> {
         node: Node<'a>,
         room: &mut Room<'a>,
     ) -> Result<Grown<Node<'a>>, NoMemory> {
-        // The node is grown by its own job, which is that of the search.
+        // For the proof alone: the node's own job, by which it is grown, is that of the search, and whole.
         let _job = self.job();
         let grown = expand(alloc, node, room)?;
         Ok(grown)

@@ -10,43 +10,43 @@ use mine_model::NoMemory;
 use node_pool::{Seat, Task};
 use std::sync::Wait;
 
-/// Puts the tasks into the own deque. Those that find no room there stay in the hand.
+/// Puts the tasks into the own deque. Those that find no room there stay in the overflow.
 pub(crate) fn put_all<T: Task>(
     seat: &mut Seat<T>,
     tasks: Vec<T>,
-    hand: &mut Vec<T>,
+    overflow: &mut Vec<T>,
 ) -> Result<(), NoMemory>
     requires tasks { All (λ task. seat_ground seat.old ≡ Some (T.ground_of task)) tasks.items }
     ensures seat { SameSeat seat.old seat.new }
     ensures got { got seat.new ≡ got seat.old }
     ensures put { OnOk result ((put kept : List (List ℕ)) × (given seat.new ≡ given seat.old ++ put)
-        × (map T.label_of hand.new.items ≡ map T.label_of hand.old.items ++ kept)
+        × (map T.label_of overflow.new.items ≡ map T.label_of overflow.old.items ++ kept)
         × SameLabels (map T.label_of tasks.items) (put ++ kept)) }
-    ensures hand { OnOk result ((home : T.Ground) → seat_ground seat.old ≡ Some home
-        → AreTasksOf T.ground_of home hand.old.items → AreTasksOf T.ground_of home hand.new.items) }
+    ensures overflow { OnOk result ((home : T.Ground) → seat_ground seat.old ≡ Some home
+        → AreTasksOf T.ground_of home overflow.old.items → AreTasksOf T.ground_of home overflow.new.items) }
 {
     'tasks: for task in tasks {
         if let Err(back) = seat.put(task) {
-            hand.push(back)?;
+            overflow.push(back)?;
         }
     }
     Ok(())
 }
 
-/// The next task of the worker: of its hand, of its own deque, or of another's, waited for while some are not
-/// done yet. None where all are.
+/// The next task of the worker: of its overflow, of its own deque, or of another's, waited for while some are
+/// not done yet. None where all are.
 pub(crate) fn next_task<T: Task, R: Wait>(
     rt: &R,
     seat: &mut Seat<T>,
-    hand: &mut Vec<T>,
+    overflow: &mut Vec<T>,
     steer: &Steer,
 ) -> Result<Option<T>, NoMemory>
     ensures same { SameSeat seat.old seat.new }
     ensures given { given seat.new ≡ given seat.old }
     ensures next { IfOk result (λ next.
-        HasNext T.label_of T.ground_of next seat.old seat.new hand.old.items hand.new.items) }
+        HasNext T.label_of T.ground_of next seat.old seat.new overflow.old.items overflow.new.items) }
 {
-    match hand.pop() {
+    match overflow.pop() {
         Some(task) => Ok(Some(task)),
         None => fetched(rt, seat, steer),
     }

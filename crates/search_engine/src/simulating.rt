@@ -11,6 +11,7 @@ ghost use Rattle.search_engine.specs.Choices.{choices_of};
 ghost use Rattle.search_engine.specs.Partition.{ArePivotsFor, IsWorkFor};
 
 use super::choices::choices;
+use super::division::Division;
 use super::search::Search;
 use mine_model::{Mined, NoMemory, Work};
 use mining_job::Job;
@@ -24,7 +25,7 @@ use std::alloc::Global;
 pub fn simulate(
     alloc: Global,
     job: &Job,
-    split: bool,
+    division: Division,
     workers: u32,
     seed: u64,
 ) -> Result<Mined, NoMemory>
@@ -34,16 +35,16 @@ pub fn simulate(
     ensures items { IfOk result (λ mined. (row : Row) → Contains mined.rows.items row
         → AllByRecursion (λ t. t.0 < job.now.hierarchy.items) row.pattern) }
     ensures work { IfOk result (λ mined.
-        IsWorkFor split (data_of job.now) job.now.ranking.order mined.work) }
+        IsWorkFor division (data_of job.now) job.now.ranking.order mined.work) }
     ensures posted { IfOk result (λ mined. (pivots : List ℕ)
-        × ArePivotsFor split (data_of job.now) job.now.ranking.order pivots
+        × ArePivotsFor division (data_of job.now) job.now.ranking.order pivots
         × (tree : SearchTree) × IsSearchTree (data_of job.now) job.now.ranking.order pivots tree
         × (labels : List (List ℕ)) × ArePosted tree.roots tree.kids workers (choices_of seed) labels
         × (mined.rows.items ≡ filter_map tree.row labels)) }
 {
-    // The contract of `items` says that no link leads out of the items, so neither does a pattern.
+    // For the proof alone: no link leads out of the items, so neither does a pattern.
     let _items = job.hierarchy().items();
-    let search = Search::alone(alloc, job, split)?;
+    let search = Search::alone(alloc, job, division)?;
     let parts = search.roots(alloc)?.len() as u64;
     let choices = choices(alloc, seed)?;
     let Posted { labels, rows } = run_schedule(alloc, &search, workers, choices.as_slice())?;

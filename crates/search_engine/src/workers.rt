@@ -1,5 +1,5 @@
 //! Several workers, each in a thread of its own.
-ghost use Rattle.std.specs.Prelude.{◌≡◌, ℕ, ◌≤◌, List, [], ◌∷◌, ◌++◌, All, map, length, IfOk, OnOk, vec_len};
+ghost use Rattle.std.specs.Prelude.{◌≡◌, ℕ, ◌≤◌, List, [], ◌++◌, map, length, IfOk, OnOk, vec_len};
 ghost use Rattle.search_tree.specs.Cover.{Covers};
 ghost use Rattle.mine_model.specs.Limits.{most_workers};
 ghost use Rattle.turn_lock.specs.Passes.{IsPassOf, number, made};
@@ -7,12 +7,13 @@ ghost use Rattle.result_board.specs.Board.{labels_of, HasRow};
 ghost use Rattle.search_engine.specs.Seats.{AreTasksOf};
 ghost use Rattle.search_engine.specs.Workers.{AreTasks, IsBoardOf};
 ghost use Rattle.search_engine.specs.Shifts.{PostedFrom};
-ghost use Rattle.search_engine.specs.Hands.{AreHandsOf, AreGivenBack, IsMannedHand, AreManned, IsDone, AreTried};
-ghost use Rattle.search_engine.specs.Hands.{AreRuns, AreOpened, AreLocked};
+ghost use Rattle.search_engine.specs.Crews.{AreWorkersOf, IsEquipped, AreManned, IsDone, AreRuns};
+ghost use Rattle.search_engine.specs.Crews.{AreOpened, AreLocked};
 
-use super::hand::Hand;
+use super::crew::Crew;
 use super::seats::put_all;
 use super::steer::Steer;
+use super::worker::Worker;
 use super::working::{grow, work};
 use mine_model::{Gate, NoMemory};
 use mining_job::Job;
@@ -21,224 +22,119 @@ use result_board::Board;
 use search_tree::Grow;
 use std::alloc::Global;
 use std::sync::Wait;
-use std::thread;
 use std::thread::Threads;
 use turn_lock::{Pass, TurnLock};
+use worker_threads::done_by_each;
 
-// One worker's whole run, with what it was given.
-fn done_by<T: Task, S: Grow<Node = T>, R: Wait, G: Gate>(
-    rt: &R,
-    alloc: Global,
-    search: &S,
-    home: &T::Ground,
-    board: &TurnLock<Board>,
-    hand: Hand<T>,
-    steer: &Steer,
-    gate: &G,
-) -> Result<Hand<T>, NoMemory>
-    requires tasks { AreTasks (S.label_of search.now) T.label_of (S.IsOwn search.now) T.ground_of home.now }
-    requires board { IsBoardOf (S.row_of search.now) board.now }
-    requires manned { IsMannedHand home.now board.now hand }
-    ensures { IfOk result (IsDone (S.kids_of search.now) board.now hand) }
+// One worker's whole run, after which it is given back.
+fn done_by<T: Task<Ground = Job>, S: Grow<Node = T>, R: Wait, G: Gate>(
+    crew: &Crew<S, R, G>,
+    mut worker: Worker<T>,
+) -> Result<Worker<T>, NoMemory>
+    requires tasks { AreTasks (S.label_of crew.now.search.now) T.label_of (S.IsOwn crew.now.search.now)
+        T.ground_of crew.now.job.now }
+    requires board { IsBoardOf (S.row_of crew.now.search.now) crew.now.board.now }
+    requires equipped { IsEquipped crew.now.job.now crew.now.board.now worker }
+    ensures { IfOk result (IsDone (S.kids_of crew.now.search.now) crew.now.board.now worker) }
 {
-    let Hand { mut seat, mut pass } = hand;
-    work::<T, S, R, G>(
-        rt, alloc, search, home, &mut seat, board, &mut pass, steer, gate,
-    )?;
-    Ok(Hand { seat, pass })
+    work::<T, S, R, G>(crew, &mut worker)?;
+    Ok(worker)
 }
 
-// The workers' hands, a seat and a pass in each.
-fn hands_of<T: Task>(
+// The workers, with a seat and a pass each.
+fn workers_of<T: Task>(
     alloc: Global,
     seats: Vec<Seat<T>>,
     passes: Vec<Pass<Board>>,
-) -> Result<Vec<Hand<T>>, NoMemory>
+) -> Result<Vec<Worker<T>>, NoMemory>
     requires all { vec_len passes ≡ vec_len seats }
-    ensures { IfOk result (λ hands. AreHandsOf seats.items passes.items hands.items) }
+    ensures { IfOk result (λ workers. AreWorkersOf seats.items passes.items workers.items) }
 {
-    let mut hands = Vec::with_capacity(alloc, seats.len())?;
+    let mut workers = Vec::with_capacity(alloc, seats.len())?;
     let mut rest = passes.into_iter();
     'seats: for seat in seats {
         let Some(pass) = rest.next() else {
             unreachable!()
         };
-        hands.push(Hand { seat, pass })?;
+        workers.push(Worker { seat, pass })?;
     }
-    Ok(hands)
+    Ok(workers)
 }
 
-// What all workers gave back, in their order, unless one wanted memory.
-fn gathered<T: Task>(
+// The seats and the passes of these workers.
+fn apart<T: Task>(
     alloc: Global,
-    results: Vec<Result<Hand<T>, NoMemory>>,
+    workers: Vec<Worker<T>>,
 ) -> Result<(Vec<Seat<T>>, Vec<Pass<Board>>), NoMemory>
-    ensures { IfOk result (λ back. AreGivenBack results.items back.0.items back.1.items) }
+    ensures { IfOk result (λ back. AreWorkersOf back.0.items back.1.items workers.items) }
 {
-    let mut seats = Vec::with_capacity(alloc, results.len())?;
-    let mut passes = Vec::with_capacity(alloc, results.len())?;
-    'results: for result in results {
-        let Hand { seat, pass } = result?;
+    let mut seats = Vec::with_capacity(alloc, workers.len())?;
+    let mut passes = Vec::with_capacity(alloc, workers.len())?;
+    'workers: for worker in workers {
+        let Worker { seat, pass } = worker;
         seats.push(seat)?;
         passes.push(pass)?;
     }
     Ok((seats, passes))
 }
 
-// Lets the worker of each of these hands run, in a thread of its own where one can be made.
-fn done_by_each<
-    H: Sync,
-    T: Task<Ground = H>,
-    S: Grow<Node = T> + Sync,
-    R: Threads + Wait + Sync,
-    G: Gate,
->(
-    rt: &R,
-    alloc: Global,
-    search: &S,
-    home: &H,
-    board: &TurnLock<Board>,
-    hands: Vec<Hand<T>>,
-    steer: &Steer,
-    gate: &G,
-) -> Result<Vec<Result<Hand<T>, NoMemory>>, NoMemory>
-where
-    S::Room: Send,
-    requires tasks { AreTasks (S.label_of search.now) T.label_of (S.IsOwn search.now) T.ground_of home.now }
-    requires board { IsBoardOf (S.row_of search.now) board.now }
-    requires manned { All (IsMannedHand home.now board.now) hands.items }
-    ensures { IfOk result (λ results.
-        AreTried (S.kids_of search.now) board.now hands.items results.items) }
-{
-    let results = thread::map_vec(
-        rt,
-        hands,
-        &|hand: Hand<T>| -> Result<Hand<T>, NoMemory>
-            requires tasks { AreTasks (S.label_of search.now) T.label_of
-                (S.IsOwn search.now) T.ground_of home.now }
-            requires board { IsBoardOf (S.row_of search.now) board.now }
-            requires manned { IsMannedHand home.now board.now hand }
-            ensures { IfOk result (IsDone (S.kids_of search.entry.now) board.entry.now hand) }
-        { done_by::<T, S, R, G>(rt, alloc, search, home, board, hand, steer, gate) },
-    )?;
-    Ok(results)
-}
-
-// Lets all workers run, the first of them, whose deque has the roots, in this thread. So it runs at once even
-// where no other thread can be made, and the others, which wait until all nodes are posted, never wait for
-// one that has not begun.
-fn done_by_all<
-    H: Sync,
-    T: Task<Ground = H>,
-    S: Grow<Node = T> + Sync,
-    R: Threads + Wait + Sync,
-    G: Gate,
->(
-    rt: &R,
-    alloc: Global,
-    search: &S,
-    home: &H,
-    board: &TurnLock<Board>,
-    first: Hand<T>,
-    others: Vec<Hand<T>>,
-    steer: &Steer,
-    gate: &G,
-) -> Result<Vec<Result<Hand<T>, NoMemory>>, NoMemory>
-where
-    S::Room: Send,
-    requires tasks { AreTasks (S.label_of search.now) T.label_of (S.IsOwn search.now) T.ground_of home.now }
-    requires board { IsBoardOf (S.row_of search.now) board.now }
-    requires first { IsMannedHand home.now board.now first }
-    requires others { All (IsMannedHand home.now board.now) others.items }
-    ensures { IfOk result (λ results.
-        AreTried (S.kids_of search.now) board.now (first ∷ others.items) results.items) }
-{
-    let (results, own) = thread::join(
-        rt,
-        || -> Result<Vec<Result<Hand<T>, NoMemory>>, NoMemory>
-            requires tasks { AreTasks (S.label_of search.now) T.label_of
-                (S.IsOwn search.now) T.ground_of home.now }
-            requires board { IsBoardOf (S.row_of search.now) board.now }
-            requires others { All (IsMannedHand home.now board.now) others.items }
-            ensures { IfOk result (λ results.
-                AreTried (S.kids_of search.entry.now) board.entry.now others.items results.items) }
-        { done_by_each::<H, T, S, R, G>(rt, alloc, search, home, board, others, steer, gate) },
-        || -> Result<Hand<T>, NoMemory>
-            requires tasks { AreTasks (S.label_of search.now) T.label_of
-                (S.IsOwn search.now) T.ground_of home.now }
-            requires board { IsBoardOf (S.row_of search.now) board.now }
-            requires first { IsMannedHand home.now board.now first }
-            ensures { IfOk result (IsDone (S.kids_of search.entry.now) board.entry.now first) }
-        { done_by::<T, S, R, G>(rt, alloc, search, home, board, first, steer, gate) },
-    );
-    let mut results = results?;
-    results.insert(0, own)?;
-    Ok(results)
-}
-
-// Lets each worker run.
-fn worked<
-    H: Sync,
-    T: Task<Ground = H>,
-    S: Grow<Node = T> + Sync,
-    R: Threads + Wait + Sync,
-    G: Gate,
->(
-    rt: &R,
-    alloc: Global,
-    search: &S,
-    home: &H,
+// Lets a worker run for each seat, with one of the passes. The first, whose deque has the roots, runs in this
+// thread. So it runs at once even where no other thread can be made, and the others, which wait until all
+// nodes are posted, never wait for one that has not begun.
+fn worked<T: Task<Ground = Job>, S: Grow<Node = T> + Sync, R: Threads + Wait + Sync, G: Gate>(
+    crew: &Crew<S, R, G>,
     seats: Vec<Seat<T>>,
-    board: &TurnLock<Board>,
     passes: Vec<Pass<Board>>,
-    steer: &Steer,
-    gate: &G,
 ) -> Result<(Vec<Seat<T>>, Vec<Pass<Board>>), NoMemory>
 where
     S::Room: Send,
-    requires tasks { AreTasks (S.label_of search.now) T.label_of (S.IsOwn search.now) T.ground_of home.now }
-    requires board { IsBoardOf (S.row_of search.now) board.now }
+    requires tasks { AreTasks (S.label_of crew.now.search.now) T.label_of (S.IsOwn crew.now.search.now)
+        T.ground_of crew.now.job.now }
+    requires board { IsBoardOf (S.row_of crew.now.search.now) crew.now.board.now }
     requires all { vec_len passes ≡ vec_len seats }
-    requires manned { AreManned home.now board.now seats.items passes.items }
-    ensures { IfOk result (λ back.
-        AreRuns (S.kids_of search.now) board.now seats.items back.0.items passes.items back.1.items) }
+    requires manned { AreManned crew.now.job.now crew.now.board.now seats.items passes.items }
+    ensures { IfOk result (λ back. AreRuns (S.kids_of crew.now.search.now) crew.now.board.now
+        seats.items back.0.items passes.items back.1.items) }
 {
-    let mut hands = hands_of(alloc, seats, passes)?;
-    if hands.is_empty() {
-        return Ok((Vec::new(alloc), Vec::new(alloc)));
-    }
-    let first = hands.remove(0);
-    let results = done_by_all::<H, T, S, R, G>(
-        rt, alloc, search, home, board, first, hands, steer, gate,
+    let workers = workers_of(crew.alloc, seats, passes)?;
+    let done = done_by_each(
+        crew.rt,
+        crew.alloc,
+        workers,
+        &|worker: Worker<T>| -> Result<Worker<T>, NoMemory>
+            requires tasks { AreTasks (S.label_of crew.now.search.now) T.label_of
+                (S.IsOwn crew.now.search.now) T.ground_of crew.now.job.now }
+            requires board { IsBoardOf (S.row_of crew.now.search.now) crew.now.board.now }
+            requires equipped { IsEquipped crew.now.job.now crew.now.board.now worker }
+            ensures { IfOk result
+                (IsDone (S.kids_of crew.entry.now.search.now) crew.entry.now.board.now worker) }
+        { done_by::<T, S, R, G>(crew, worker) },
     )?;
-    let back = gathered(alloc, results)?;
+    let back = apart(crew.alloc, done)?;
     Ok(back)
 }
 
 // Grows these nodes and all below them, and posts their labels.
-fn grow_rest<T: Task, S: Grow<Node = T>, R: Wait>(
-    rt: &R,
-    alloc: Global,
-    search: &S,
-    home: &T::Ground,
-    board: &TurnLock<Board>,
+fn grow_rest<T: Task<Ground = Job>, S: Grow<Node = T>, R: Wait, G: Gate>(
+    crew: &Crew<S, R, G>,
     pass: &mut Pass<Board>,
     mut rest: Vec<T>,
 ) -> Result<(), NoMemory>
-    requires tasks { AreTasks (S.label_of search.now) T.label_of (S.IsOwn search.now) T.ground_of home.now }
-    requires board { IsBoardOf (S.row_of search.now) board.now }
-    requires pass { IsPassOf board.now pass.old }
-    requires own { AreTasksOf T.ground_of home.now rest.items }
-    ensures pass { IsPassOf board.now pass.new × (number pass.new ≡ number pass.old) }
+    requires tasks { AreTasks (S.label_of crew.now.search.now) T.label_of (S.IsOwn crew.now.search.now)
+        T.ground_of crew.now.job.now }
+    requires board { IsBoardOf (S.row_of crew.now.search.now) crew.now.board.now }
+    requires pass { IsPassOf crew.now.board.now pass.old }
+    requires own { AreTasksOf T.ground_of crew.now.job.now rest.items }
+    ensures pass { IsPassOf crew.now.board.now pass.new × (number pass.new ≡ number pass.old) }
     ensures posted { OnOk result ((posted : List (List ℕ)) × (made pass.new ≡ made pass.old ++ posted)
-        × PostedFrom (S.kids_of search.now) (map T.label_of rest.items) posted []) }
+        × PostedFrom (S.kids_of crew.now.search.now) (map T.label_of rest.items) posted []) }
 {
-    let mut room = search.room(alloc)?;
-    'nodes: for _ in rt.forever() {
+    let mut room = crew.search.room(crew.alloc)?;
+    'nodes: for _ in crew.rt.forever() {
         let Some(node) = rest.pop() else {
             return Ok(());
         };
-        let mut kids = grow::<T, S, R>(rt, alloc, search, home, node, board, pass, &mut room)?;
+        let mut kids = grow::<T, S, R, G>(crew, node, pass, &mut room)?;
         rest.append(&mut kids)?;
     }
     unreachable!()
@@ -285,17 +181,10 @@ fn locked(
 
 /// The board of the job on which these roots and all below them are posted, by so many workers and, where
 /// they left any over, by the caller. Each worker has a thread of its own, where one can be made.
-pub fn posted<
-    H: Sync,
-    T: Task<Ground = H>,
-    S: Grow<Node = T> + Sync,
-    R: Threads + Wait + Sync,
-    G: Gate,
->(
+pub fn posted<T: Task<Ground = Job>, S: Grow<Node = T> + Sync, R: Threads + Wait + Sync, G: Gate>(
     rt: &R,
     alloc: Global,
     search: &S,
-    home: &H,
     job: &Job,
     roots: Vec<T>,
     workers: u32,
@@ -303,9 +192,9 @@ pub fn posted<
 ) -> Result<Board, NoMemory>
 where
     S::Room: Send,
-    requires tasks { AreTasks (S.label_of search.now) T.label_of (S.IsOwn search.now) T.ground_of home.now }
+    requires tasks { AreTasks (S.label_of search.now) T.label_of (S.IsOwn search.now) T.ground_of job.now }
     requires rows { (label : List ℕ) → 1 ≤ length label → HasRow job.now label (S.row_of search.now label) }
-    requires own { AreTasksOf T.ground_of home.now roots.items }
+    requires own { AreTasksOf T.ground_of job.now roots.items }
     requires some { 1 ≤ workers }
     requires few { workers ≤ most_workers }
     ensures problem { IfOk result (λ board. board.problem ≡ job.now) }
@@ -313,15 +202,22 @@ where
         Covers (map T.label_of roots.items) (S.kids_of search.now) (labels_of board.posted)) }
 {
     let count = roots.len();
-    let (seats, mut rest) = opened::<T>(alloc, home, roots, workers)?;
+    let (seats, mut rest) = opened::<T>(alloc, job, roots, workers)?;
     let steer = Steer::new(count.saturating_sub(rest.len()) as u64);
     let (board, passes, mut own) = locked(alloc, job, workers)?;
-    let (seats, mut passes) = worked::<H, T, S, R, G>(
-        rt, alloc, search, home, seats, &board, passes, &steer, gate,
-    )?;
+    let crew = Crew {
+        rt,
+        alloc,
+        search,
+        job,
+        board: &board,
+        steer: &steer,
+        gate,
+    };
+    let (seats, mut passes) = worked::<T, S, R, G>(&crew, seats, passes)?;
     let mut left = finish(alloc, seats)?;
     rest.append(&mut left)?;
-    grow_rest::<T, S, R>(rt, alloc, search, home, &board, &mut own, rest)?;
+    grow_rest::<T, S, R, G>(&crew, &mut own, rest)?;
     passes.push(own)?;
     Ok(board.close(passes))
 }

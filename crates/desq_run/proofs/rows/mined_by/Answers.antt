@@ -1,5 +1,6 @@
 use Rattle.mine_model.specs.declared.mined.Mined.{Mined}
 use Rattle.mining_job.specs.Problems.{data_of}
+use Rattle.search_engine.specs.declared.division.Division.TheVariants.{ByPivots}
 use Rattle.search_engine.specs.Partition.{IsWorkFor}
 use Rattle.mine_model.specs.PartitionWork.{IsPartitionWork, IsNamedBefore}
 use Rattle.automaton_model.specs.Work.{IsAutomatonWork}
@@ -7,14 +8,13 @@ use Rattle.automaton_model.specs.NamedWork.{IsCandidateSetWork}
 use Rattle.desq_run.proofs.PartitionRankLemmas.{problem-work}
 use Rattle.desq_run.proofs.SetRankLemmas.{problem-set-work}
 use Rattle.desq_run.proofs.RowLemmas.{if_ok}
-use Rattle.std.proofs.Common.{true}
 use Rattle.desq_run.proofs.rows.mined_by.Goals as goal
 
 pub returns-in-Pivot-clause-work : goal.returns-in-Pivot-clause-work
 returns-in-Pivot-clause-work g c = λ names ties.
     let within = rw c.hierarchy.ensures.hierarchy at c.items-items.ensures.within in
     rw c.in-Pivot.is
-    (if_ok (λ (mined : Mined). IsWorkFor true (data_of c.args.job.now) c.args.job.now.ranking.order mined.work)
+    (if_ok (λ (mined : Mined). IsWorkFor ByPivots (data_of c.args.job.now) c.args.job.now.ranking.order mined.work)
     (λ (mined : Mined). IsPartitionWork (IsNamedBefore names) (data_of c.args.job.now) mined.work) c.searched-in-Pivot.result
     (λ mined is. problem-work c.args.job.now c.hierarchy.ensures.whole within names ties mined.work is) c.searched-in-Pivot.ensures.work)
 

@@ -1,10 +1,12 @@
-use Rattle.std.proofs.Common.{◌≡◌, List, [], ◌∷◌, ℕ, Bool, true, false, map, length, All, refl, sym, ap₂, ◌∙◌, subst}
+use Rattle.std.proofs.Common.{◌≡◌, List, [], ◌∷◌, ℕ, map, length, All, refl, sym, ap₂, ◌∙◌, subst}
 use Rattle.mine_model.specs.declared.mined.Work.{Work}
 use Rattle.mine_model.specs.Ranks.{Ranking}
 use Rattle.mining_job.specs.Problems.{Problem, data_of}
 use Rattle.dfs_growth.specs.Nodes.{Prefix, label_at}
 use Rattle.dfs_growth.specs.Tree.{roots_by}
 use Rattle.pivot_partition.specs.Pivots.{pivots_in}
+use Rattle.search_engine.specs.declared.division.Division.{Division}
+use Rattle.search_engine.specs.declared.division.Division.TheVariants.{Whole}
 use Rattle.search_engine.specs.Partition.{AreAlivePivots, IsWorkFor}
 use Rattle.search_engine.specs.Searches.{tree_of}
 use Rattle.search_engine.proofs.PartitionLemmas.{all-parts-rows, all-parts-work}
@@ -23,39 +25,39 @@ pub mined_by-requires-clause-own : goal.mined_by-requires-clause-own
 mined_by-requires-clause-own g c κs within =
     subst (λ (p : Problem). All (λ (node : Prefix). node.problem ≡ p) c.in_ok-roots.roots.items) (sym c.new-search.ensures.problem) c.in_ok-roots.ensures.problem
 
-pub returns-then-is_split-clause-frequent : goal.returns-then-is_split-clause-frequent
-returns-then-is_split-clause-frequent g c =
+pub returns-in-ByPivots-clause-frequent : goal.returns-in-ByPivots-clause-frequent
+returns-in-ByPivots-clause-frequent g c =
     let whole = c.hierarchy.ensures.whole in
     let ends = rw c.hierarchy.ensures.hierarchy at c.items-items.ensures.within in
     all-parts-rows (data_of c.args.job.now) c.args.job.now.ranking whole.ranks (pivots_in c.in_ok-seeds.seeds.items)
     (record { rising = c.in_ok-seeds.ensures.rising; exact = c.in_ok-seeds.ensures.alive }) (items-known c.args.job.now whole ends)
-    c.in_ok-mined.mined.rows.items c.in_ok-mined.ensures.once c.in_ok-mined.ensures.rows
+    c.in_ok-mined-2.mined.rows.items c.in_ok-mined-2.ensures.once c.in_ok-mined-2.ensures.rows
 
-pub returns-then-is_split-clause-work : goal.returns-then-is_split-clause-work
-returns-then-is_split-clause-work g c =
+pub returns-in-ByPivots-clause-work : goal.returns-in-ByPivots-clause-work
+returns-in-ByPivots-clause-work g c =
     let whole = c.hierarchy.ensures.whole in
-    subst (λ (split : Bool). IsWorkFor split (data_of c.args.job.now) c.args.job.now.ranking.order c.in_ok-mined.mined.work) (sym c.if-is_split.true)
+    subst (λ (division : Division). IsWorkFor division (data_of c.args.job.now) c.args.job.now.ranking.order c.in_ok-mined-2.mined.work) (sym c.in-ByPivots.is)
     (all-parts-work (data_of c.args.job.now) c.args.job.now.ranking whole.ranks (pivots_in c.in_ok-seeds.seeds.items)
-    (record { rising = c.in_ok-seeds.ensures.rising; exact = c.in_ok-seeds.ensures.alive }) c.in_ok-mined.mined.work c.in_ok-mined.ensures.work)
+    (record { rising = c.in_ok-seeds.ensures.rising; exact = c.in_ok-seeds.ensures.alive }) c.in_ok-mined-2.mined.work c.in_ok-mined-2.ensures.work)
 
-pub returns-clause-frequent : goal.returns-clause-frequent
-returns-clause-frequent g c =
+pub returns-in-Whole-clause-frequent : goal.returns-in-Whole-clause-frequent
+returns-in-Whole-clause-frequent g c =
     let ends = rw c.hierarchy.ensures.hierarchy at c.items-items.ensures.within in
-    let (labels, covers, are, work) = c.in_ok-mined-2.ensures in
-    walks-frequent c.args.job.now c.hierarchy.ensures.whole c.new-search.result c.new-search.ensures.problem false c.new-search.ensures.pivots
-    labels covers ends c.in_ok-mined-2.mined.rows.items are
+    let (labels, covers, are, work) = c.in_ok-mined.ensures in
+    walks-frequent c.args.job.now c.hierarchy.ensures.whole c.new-search.result c.new-search.ensures.problem Whole c.new-search.ensures.pivots
+    labels covers ends c.in_ok-mined.mined.rows.items are
 
-pub returns-clause-items : goal.returns-clause-items
-returns-clause-items g c =
+pub returns-in-Whole-clause-items : goal.returns-in-Whole-clause-items
+returns-in-Whole-clause-items g c =
     let ends = rw c.hierarchy.ensures.hierarchy at c.items-items.ensures.within in
-    let (labels, covers, are, work) = c.in_ok-mined-2.ensures in
-    walks-within c.args.job.now c.hierarchy.ensures.whole c.new-search.result c.new-search.ensures.problem false c.new-search.ensures.pivots
-    labels covers ends c.in_ok-mined-2.mined.rows.items are
+    let (labels, covers, are, work) = c.in_ok-mined.ensures in
+    walks-within c.args.job.now c.hierarchy.ensures.whole c.new-search.result c.new-search.ensures.problem Whole c.new-search.ensures.pivots
+    labels covers ends c.in_ok-mined.mined.rows.items are
 
-pub returns-clause-work : goal.returns-clause-work
-returns-clause-work g c =
-    let (labels, covers, are, work) = c.in_ok-mined-2.ensures in
-    let counted = walks-work c.args.job.now c.hierarchy.ensures.whole c.new-search.result c.new-search.ensures.problem false c.new-search.ensures.pivots
+pub returns-in-Whole-clause-work : goal.returns-in-Whole-clause-work
+returns-in-Whole-clause-work g c =
+    let (labels, covers, are, work) = c.in_ok-mined.ensures in
+    let counted = walks-work c.args.job.now c.hierarchy.ensures.whole c.new-search.result c.new-search.ensures.problem Whole c.new-search.ensures.pivots
     labels covers (length labels) (length (tree_of c.new-search.result).roots) refl refl in
-    subst (λ (split : Bool). IsWorkFor split (data_of c.args.job.now) c.args.job.now.ranking.order c.in_ok-mined-2.mined.work) (sym c.if-is_split.false)
-    (subst (λ (w : Work). IsWorkFor false (data_of c.args.job.now) c.args.job.now.ranking.order w) (sym work) counted)
+    subst (λ (division : Division). IsWorkFor division (data_of c.args.job.now) c.args.job.now.ranking.order c.in_ok-mined.mined.work) (sym c.in-Whole.is)
+    (subst (λ (w : Work). IsWorkFor Whole (data_of c.args.job.now) c.args.job.now.ranking.order w) (sym work) counted)

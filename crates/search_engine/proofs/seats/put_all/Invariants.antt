@@ -11,7 +11,7 @@ invariant-tasks g l = record {
   count : into_iter_len l.task-iterator ≡ length (into_iter_items l.task-iterator);
   same : SameSeat l.fn.seat l.seat;
   got : got l.seat ≡ got l.fn.seat;
-  are : ArePut g.T.Task.label_of l.fn.seat l.seat l.yielded l.fn.hand.items l.hand.items;
+  are : ArePut g.T.Task.label_of l.fn.seat l.seat l.yielded l.fn.overflow.items l.overflow.items;
   own : (home : g.row.T-Ground.Denot) → seat_ground l.fn.seat ≡ Some home
-      → AreTasksOf g.T.Task.ground_of home l.fn.hand.items → AreTasksOf g.T.Task.ground_of home l.hand.items;
+      → AreTasksOf g.T.Task.ground_of home l.fn.overflow.items → AreTasksOf g.T.Task.ground_of home l.overflow.items;
 }

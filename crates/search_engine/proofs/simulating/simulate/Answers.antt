@@ -14,13 +14,13 @@ run_schedule-requires c =
 pub returns-clause-frequent : goal.returns-clause-frequent
 returns-clause-frequent c =
     let ends = rw c.hierarchy.ensures.hierarchy at c.items-items.ensures.within in
-    walks-frequent c.args.job.now c.hierarchy.ensures.whole c.in_ok-search.search c.in_ok-search.ensures.problem c.args.split c.in_ok-search.ensures.pivots
+    walks-frequent c.args.job.now c.hierarchy.ensures.whole c.in_ok-search.search c.in_ok-search.ensures.problem c.args.division c.in_ok-search.ensures.pivots
     c.in_ok-labels.field-0.labels c.in_ok-labels.ensures.cover ends c.in_ok-labels.field-0.rows.items c.in_ok-labels.ensures.rows
 
 pub returns-clause-items : goal.returns-clause-items
 returns-clause-items c =
     let ends = rw c.hierarchy.ensures.hierarchy at c.items-items.ensures.within in
-    walks-within c.args.job.now c.hierarchy.ensures.whole c.in_ok-search.search c.in_ok-search.ensures.problem c.args.split c.in_ok-search.ensures.pivots
+    walks-within c.args.job.now c.hierarchy.ensures.whole c.in_ok-search.search c.in_ok-search.ensures.problem c.args.division c.in_ok-search.ensures.pivots
     c.in_ok-labels.field-0.labels c.in_ok-labels.ensures.cover ends c.in_ok-labels.field-0.rows.items c.in_ok-labels.ensures.rows
 
 pub returns-clause-work : goal.returns-clause-work
@@ -28,7 +28,7 @@ returns-clause-work c =
     let roots : length (map label_at c.in_ok-roots.field-0.items) ≡ length (tree_of c.in_ok-search.search).roots = ap (λ (l : List (List ℕ)). length l) c.in_ok-roots.ensures.labels in
     let parts : c.len-parts.result ≡ length (tree_of c.in_ok-search.search).roots =
     omega (arith, c.len-parts.ensures, c.in_ok-roots.field-0.ok.0, length-map c.in_ok-roots.field-0.items label_at, roots) in
-    walks-work c.args.job.now c.hierarchy.ensures.whole c.in_ok-search.search c.in_ok-search.ensures.problem c.args.split c.in_ok-search.ensures.pivots
+    walks-work c.args.job.now c.hierarchy.ensures.whole c.in_ok-search.search c.in_ok-search.ensures.problem c.args.division c.in_ok-search.ensures.pivots
     c.in_ok-labels.field-0.labels c.in_ok-labels.ensures.cover c.len.result c.len-parts.result c.len.ensures parts
 
 pub returns-clause-posted : goal.returns-clause-posted

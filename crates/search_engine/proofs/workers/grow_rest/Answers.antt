@@ -12,14 +12,14 @@ nodes-preserved g c =
     let node = c.in-Some-pop.node in
     let more = c.in_ok-kids.kids.items in
     let label = g.T.Task.label_of in
-    let kids = g.S.Grow.kids_of c.args.search.now in
+    let kids = g.S.Grow.kids_of c.args.crew.now.search.now in
     let first = map label c.args.rest.items in
     record {
       pass_is = c.in_ok-kids.ensures.pass.0;
       number_is = c.in_ok-kids.ensures.pass.1 ∙ inv.number_is;
       roomy = c.in_ok-kids.ensures.room;
-      own = rw c.in_ok-append.ensures.items (All-append (λ task. g.T.Task.ground_of task ≡ c.args.home.now) front more
-          (All-pop (λ task. g.T.Task.ground_of task ≡ c.args.home.now) c.nodes.rest.items front (Some node) c.in-Some-pop.ensures.items inv.own).0
+      own = rw c.in_ok-append.ensures.items (All-append (λ task. g.T.Task.ground_of task ≡ c.args.crew.now.job.now) front more
+          (All-pop (λ task. g.T.Task.ground_of task ≡ c.args.crew.now.job.now) c.nodes.rest.items front (Some node) c.in-Some-pop.ensures.items inv.own).0
           c.in_ok-kids.ensures.own);
       posted = (
         posted ++ label node ∷ [],

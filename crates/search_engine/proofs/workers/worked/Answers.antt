@@ -1,25 +1,19 @@
-use Rattle.std.proofs.Common.{◌≤◌, ◌∷◌, length, subst, arith}
-use Rattle.search_engine.specs.Hands.{AreTried}
-use Rattle.search_engine.proofs.RunLemmas.{given-manned, first-manned, runs-made}
+use Rattle.std.proofs.Common.{rules}
+use Rattle.worker_threads.proofs.DoingLemmas.{done-weaker}
+use Rattle.search_engine.specs.Crews.{IsDone}
+use Rattle.search_engine.proofs.RunLemmas.{given-manned, runs-made}
 use Rattle.search_engine.proofs.workers.worked.Goals as goal
 
-pub done_by_all-requires-clause-others : goal.done_by_all-requires-clause-others
-done_by_all-requires-clause-others g c κs within =
-    let hands = c.in_ok-hands.hands.items in
-    let some : 1 ≤ length hands = omega (arith, c.remove-first.ensures.len, c.in_ok-hands.hands.ok.0) in
-    let all = given-manned c.args.home.now c.args.board.now c.args.seats.items c.args.passes.items hands c.in_ok-hands.ensures c.requires.manned in
-    let (one, others, same) = first-manned c.args.home.now c.args.board.now hands c.remove-first.result some c.remove-first.ensures.value all in
-    rw c.remove-first.ensures.items others
+pub done_by_each-requires-after_bounds : goal.done_by_each-requires-after_bounds
+done_by_each-requires-after_bounds g c κs within =
+    let all = given-manned c.args.crew.now.job.now c.args.crew.now.board.now c.args.seats.items c.args.passes.items c.in_ok-workers.workers.items c.in_ok-workers.ensures c.requires.manned in
+    search rules
 
 pub returns : goal.returns
 returns g c =
-    let hands = c.in_ok-hands.hands.items in
-    let some : 1 ≤ length hands = omega (arith, c.remove-first.ensures.len, c.in_ok-hands.hands.ok.0) in
-    let all = given-manned c.args.home.now c.args.board.now c.args.seats.items c.args.passes.items hands c.in_ok-hands.ensures c.requires.manned in
-    let (one, others, same) = first-manned c.args.home.now c.args.board.now hands c.remove-first.result some c.remove-first.ensures.value all in
-    let kids = g.S.Grow.kids_of c.args.search.now in
-    let results = c.in_ok-results.results.items in
-    runs-made kids c.args.board.now c.args.seats.items c.in_ok-back.back.0.items c.args.passes.items c.in_ok-back.back.1.items hands results c.in_ok-hands.ensures
-    (subst (λ l. AreTried kids c.args.board.now l results) same
-    (subst (λ l. AreTried kids c.args.board.now (c.remove-first.result ∷ l) results) c.remove-first.ensures.items c.in_ok-results.ensures))
-    c.in_ok-back.ensures
+    let kids = g.S.Grow.kids_of c.args.crew.now.search.now in
+    let board = c.args.crew.now.board.now in
+    let workers = c.in_ok-workers.workers.items in
+    let dones = c.in_ok-done.done.items in
+    runs-made kids board c.args.seats.items c.in_ok-back.back.0.items c.args.passes.items c.in_ok-back.back.1.items workers dones
+    c.in_ok-workers.ensures (done-weaker _ (IsDone kids board) (λ worker done call. call) workers dones c.in_ok-done.ensures) c.in_ok-back.ensures

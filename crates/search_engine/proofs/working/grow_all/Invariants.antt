@@ -7,10 +7,10 @@ use Rattle.search_engine.proofs.working.grow_all.Given as goal
 
 abbrev pub invariant-nodes : goal.invariant-nodes
 invariant-nodes g l = record {
-  same : SameSeat l.fn.seat l.seat;
-  pass_is : IsPassOf l.board l.pass;
-  number_is : number l.pass ≡ number l.fn.pass;
-  way : IsUnderWay (g.S.Grow.kids_of l.search) l.fn.seat l.seat l.fn.pass l.pass (map g.T.Task.label_of l.hand.items);
-  own : AreTasksOf g.T.Task.ground_of l.home l.hand.items;
-  room_is : g.S.Grow.IsRoomy l.search l.room;
+  same : SameSeat l.fn.worker.seat l.worker.seat;
+  pass_is : IsPassOf l.crew.board.now l.worker.pass;
+  number_is : number l.worker.pass ≡ number l.fn.worker.pass;
+  way : IsUnderWay (g.S.Grow.kids_of l.crew.search.now) l.fn.worker.seat l.worker.seat l.fn.worker.pass l.worker.pass (map g.T.Task.label_of l.overflow.items);
+  own : AreTasksOf g.T.Task.ground_of l.crew.job.now l.overflow.items;
+  room_is : g.S.Grow.IsRoomy l.crew.search.now l.room;
 }

@@ -1,8 +1,8 @@
 use Rattle.std.proofs.Common.{◌≡◌, ◌++◌, length, List}
 use Rattle.std.specs.Vec.Iter.{into_iter_items, into_iter_len}
 use Rattle.search_engine.specs.Workers.{BoardPass}
-use Rattle.search_engine.specs.Hands.{AreHandsOf}
-use Rattle.search_engine.proofs.workers.hands_of.Given as goal
+use Rattle.search_engine.specs.Crews.{AreWorkersOf}
+use Rattle.search_engine.proofs.workers.workers_of.Given as goal
 
 abbrev pub invariant-seats : goal.invariant-seats
 invariant-seats g l = record {
@@ -10,5 +10,5 @@ invariant-seats g l = record {
   count : into_iter_len l.seat-iterator ≡ length (into_iter_items l.seat-iterator);
   many : length (into_iter_items l.rest) ≡ length (into_iter_items l.seat-iterator);
   passes : (taken : List BoardPass) × (taken ++ into_iter_items l.rest ≡ l.fn.passes.items)
-      × AreHandsOf l.yielded taken l.hands.items;
+      × AreWorkersOf l.yielded taken l.workers.items;
 }

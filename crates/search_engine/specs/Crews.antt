@@ -1,33 +1,26 @@
 -- What each worker is given, and what it gives back.
-use Rattle.std.specs.Prelude.{◌≡◌, ℕ, Some, List, [], ◌∷◌, ◌++◌, map, All, Result, Ok, IfOk}
+use Rattle.std.specs.Prelude.{◌≡◌, ℕ, Some, List, [], ◌∷◌, ◌++◌, map, All}
 use Rattle.std.specs.List.{flat_map}
-use Rattle.mine_model.specs.declared.memory.NoMemory.{NoMemory}
 use Rattle.mine_model.specs.Labels.{SameLabels}
 use Rattle.mining_job.specs.Problems.{Problem}
 use Rattle.node_pool.specs.Pool.{seat_ground, given, got, SameSeat, IsWholePool}
 use Rattle.node_pool.specs.declared.seat.Seat.{Seat}
 use Rattle.turn_lock.specs.Passes.{IsPassOf, AreAllPasses, number, made, opened_with}
-use Rattle.search_engine.specs.declared.hand.Hand.{Hand}
+use Rattle.worker_threads.specs.Doing.{AreDone}
+use Rattle.search_engine.specs.declared.worker.Worker.{Worker}
 use Rattle.search_engine.specs.Seats.{AreTasksOf}
 use Rattle.search_engine.specs.Workers.{BoardPass, BoardLock, IsRun, IsManned}
 
 module _ {T G : Type 0} where
-  -- seats and passes, each in one hand, in order
-  pub record AreHandsOf (seats : List (Seat T G)) (passes : List BoardPass) (hands : List (Hand T G))
+  -- the workers have these seats and passes, in order
+  pub record AreWorkersOf (seats : List (Seat T G)) (passes : List BoardPass) (workers : List (Worker T G))
       : Type 0 where
-    pub seats_are : map (λ (hand : Hand T G). hand.seat) hands ≡ seats
-    pub passes_are : map (λ (hand : Hand T G). hand.pass) hands ≡ passes
+    pub seats_are : map (λ (worker : Worker T G). worker.seat) workers ≡ seats
+    pub passes_are : map (λ (worker : Worker T G). worker.pass) workers ≡ passes
 
-  -- all workers gave their hands back, with these seats and passes
-  pub record AreGivenBack (results : List (Result (Hand T G) NoMemory)) (seats : List (Seat T G))
-      (passes : List BoardPass) : Type 0 where
-    pub hands : List (Hand T G)
-    pub all : results ≡ map Ok hands
-    pub are : AreHandsOf seats passes hands
-
-  -- the hand is for such tasks and this board
-  abbrev pub IsMannedHand : G → BoardLock → Hand T G → Type 0
-  IsMannedHand home board hand = IsManned home board hand.seat hand.pass
+  -- the worker has a seat for such tasks, and a pass of this board
+  abbrev pub IsEquipped : G → BoardLock → Worker T G → Type 0
+  IsEquipped home board worker = IsManned home board worker.seat worker.pass
 
   -- each seat and its pass are
   abbrev pub AreManned : G → BoardLock → List (Seat T G) → List BoardPass → Type 0
@@ -37,32 +30,20 @@ module _ {T G : Type 0} where
   AreManned home board _ _ = ⊥
 
 module _ {T G : Type 0} (kids : List ℕ → List (List ℕ)) (board : BoardLock) where
-  -- the worker ran, and gave its hand back
-  pub record IsDone (hand done : Hand T G) : Type 0 where
-    pub same : SameSeat hand.seat done.seat
+  -- the worker ran, and came back
+  pub record IsDone (worker done : Worker T G) : Type 0 where
+    pub same : SameSeat worker.seat done.seat
     pub pass_is : IsPassOf board done.pass
-    pub number_is : number done.pass ≡ number hand.pass
-    pub run : IsRun kids hand.seat done.seat hand.pass done.pass
+    pub number_is : number done.pass ≡ number worker.pass
+    pub run : IsRun kids worker.seat done.seat worker.pass done.pass
 
-  -- each worker did, in order, unless it wanted memory
-  abbrev pub AreTried : List (Hand T G) → List (Result (Hand T G) NoMemory) → Type 0
-  AreTried [] [] = Unit {0}
-  AreTried (hand ∷ hands) (result ∷ results) = IfOk result (IsDone hand) × AreTried hands results
-  AreTried _ _ = ⊥
-
-  -- each worker did, in order
-  abbrev pub AreDone : List (Hand T G) → List (Hand T G) → Type 0
-  AreDone [] [] = Unit {0}
-  AreDone (hand ∷ hands) (done ∷ others) = IsDone hand done × AreDone hands others
-  AreDone _ _ = ⊥
-
-  -- the workers ran with these seats and passes, which they gave back as those
+  -- workers ran with these seats and passes, and came back with those
   pub record AreRuns (seats later : List (Seat T G)) (passes after : List BoardPass) : Type 0 where
-    pub before : List (Hand T G)
-    pub behind : List (Hand T G)
-    pub given_are : AreHandsOf seats passes before
-    pub back_are : AreHandsOf later after behind
-    pub done : AreDone before behind
+    pub before : List (Worker T G)
+    pub behind : List (Worker T G)
+    pub given_are : AreWorkersOf seats passes before
+    pub back_are : AreWorkersOf later after behind
+    pub done : AreDone IsDone before behind
 
 -- the seats of a pool of such tasks, into which roots were put, and the roots that were not
 pub record AreOpened {T G : Type 0} (label_of : T → List ℕ) (ground_of : T → G) (home : G)

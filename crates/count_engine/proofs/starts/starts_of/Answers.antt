@@ -1,6 +1,6 @@
 use Rattle.std.proofs.Common.{◌++◌, length, append_assoc, ap, sym, ◌∙◌, arith}
-use Rattle.count_engine.proofs.HandLemmas.{hands_more}
-use Rattle.count_engine.proofs.hands.hands_of.Goals as goal
+use Rattle.count_engine.proofs.StartLemmas.{starts_more}
+use Rattle.count_engine.proofs.starts.starts_of.Goals as goal
 
 pub lists-preserved : goal.lists-preserved
 lists-preserved c =
@@ -9,5 +9,5 @@ lists-preserved c =
     record {
       seen = rw append_assoc (ap (λ xs. seen ++ xs) (sym steps.0) ∙ c.lists.invariant.seen);
       count = omega (arith, steps.1, c.lists.invariant.count, ap length steps.0);
-      hands = rw c.in_ok-push.ensures.items (hands_more seen c.lists.hands.items c.in-Some.passes c.len-worker.result c.lists.invariant.hands (omega (arith, c.len-worker.ensures, c.lists.hands.ok.0)));
+      starts = rw c.in_ok-push.ensures.items (starts_more seen c.lists.starts.items c.in-Some.passes c.len-worker.result c.lists.invariant.starts (omega (arith, c.len-worker.ensures, c.lists.starts.ok.0)));
     }

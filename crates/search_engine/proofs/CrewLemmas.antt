@@ -1,34 +1,25 @@
 -- What workers are given and what they give back, one worker more, and how the seats are opened.
-use Rattle.std.proofs.Common.{◌≡◌, ℕ, zero, suc, ◌+◌, ◌≤◌, Option, Some, List, [], ◌∷◌, ◌++◌, length, map, flat_map, sum_by, All, slice_get, slice_index_or, Result, Ok, refl, sym, ap, subst, ◌∙◌, arith}
+use Rattle.std.proofs.Common.{◌≡◌, ℕ, zero, suc, ◌+◌, ◌≤◌, Option, Some, List, [], ◌∷◌, ◌++◌, length, map, flat_map, sum_by, All, slice_get, slice_index_or, refl, sym, ap, subst, ◌∙◌, arith}
 use Rattle.std.specs.List.{insert, remove}
 use Rattle.std.proofs.lemmas.List.{map-append}
 use Rattle.std.proofs.lemmas.List.Elements.{All-cons, All-head, All-tail}
 use Rattle.std.proofs.lemmas.List.Sums.{sum_by-append}
 use Rattle.std.proofs.lemmas.Option.{same_Some}
-use Rattle.mine_model.specs.declared.memory.NoMemory.{NoMemory}
 use Rattle.mine_model.specs.Labels.{SameLabels}
 use Rattle.node_pool.specs.Deques.{Deque}
 use Rattle.node_pool.specs.Pool.{seat_ground, given, got, SameSeat, IsSeatAt, IsWholePool, IsFresh}
 use Rattle.node_pool.specs.declared.seat.Seat.{Seat}
-use Rattle.search_engine.specs.declared.hand.Hand.{Hand}
+use Rattle.search_engine.specs.declared.worker.Worker.{Worker}
 use Rattle.search_engine.specs.Seats.{AreTasksOf}
 use Rattle.search_engine.specs.Workers.{BoardPass}
-use Rattle.search_engine.specs.Hands.{AreHandsOf, AreGivenBack, AreOpened}
+use Rattle.search_engine.specs.Crews.{AreWorkersOf, AreOpened}
 
 module _ {T G : Type 0} where
-  pub hands-more : (seats : List (Seat T G)) (passes : List BoardPass) (hands : List (Hand T G)) (hand : Hand T G) → AreHandsOf seats passes hands
-      → AreHandsOf (seats ++ hand.seat ∷ []) (passes ++ hand.pass ∷ []) (hands ++ hand ∷ [])
-  hands-more seats passes hands hand are = record {
-    seats_are = map-append (λ (h : Hand T G). h.seat) hands (hand ∷ []) ∙ ap (λ (l : List (Seat T G)). l ++ hand.seat ∷ []) are.seats_are;
-    passes_are = map-append (λ (h : Hand T G). h.pass) hands (hand ∷ []) ∙ ap (λ (l : List BoardPass). l ++ hand.pass ∷ []) are.passes_are;
-  }
-
-  pub back-more : (results : List (Result (Hand T G) NoMemory)) (seats : List (Seat T G)) (passes : List BoardPass) (hand : Hand T G) → AreGivenBack results seats passes
-      → AreGivenBack (results ++ Ok hand ∷ []) (seats ++ hand.seat ∷ []) (passes ++ hand.pass ∷ [])
-  back-more results seats passes hand back = record {
-    hands = back.hands ++ hand ∷ [];
-    all = ap (λ (l : List (Result (Hand T G) NoMemory)). l ++ Ok hand ∷ []) back.all ∙ sym (map-append Ok back.hands (hand ∷ []));
-    are = hands-more seats passes back.hands hand back.are;
+  pub workers-more : (seats : List (Seat T G)) (passes : List BoardPass) (workers : List (Worker T G)) (worker : Worker T G) → AreWorkersOf seats passes workers
+      → AreWorkersOf (seats ++ worker.seat ∷ []) (passes ++ worker.pass ∷ []) (workers ++ worker ∷ [])
+  workers-more seats passes workers worker are = record {
+    seats_are = map-append (λ (h : Worker T G). h.seat) workers (worker ∷ []) ∙ ap (λ (l : List (Seat T G)). l ++ worker.seat ∷ []) are.seats_are;
+    passes_are = map-append (λ (h : Worker T G). h.pass) workers (worker ∷ []) ∙ ap (λ (l : List BoardPass). l ++ worker.pass ∷ []) are.passes_are;
   }
 
 -- how the seats are opened
