@@ -16,6 +16,9 @@ pub(crate) const HOMES: u32 = 16;
 // How many sequences a block has; the last one may have fewer.
 const BLOCK: u32 = 256;
 
+// So many candidates at a time are looked for side by side.
+const TOUCHED: usize = 16;
+
 /// The candidates of one block of sequences of a job after another, each counted in its home. Each block uses
 /// the room of the one before.
 pub struct BlockCounts<'a> {
@@ -199,10 +202,26 @@ fn add_each(
     ensures added { OnOk result (AddsEach candidates.now.listed weight homes.old.items homes.new.items) }
 {
     for i in 0..candidates.len() {
+        touch_next(homes, candidates, i);
         let list = candidates.get(i);
         homes[home_of(list)].add(list, weight)?;
     }
     Ok(())
+}
+
+// At every so many candidates reads early where the next ones may stand, from this one on.
+fn touch_next(homes: &mut Vec<PatternCounts>, candidates: &CandidateList, from: usize)
+    requires all { length homes.old.items ≡ home_count }
+    ensures same { homes.new.items ≡ homes.old.items }
+{
+    if from % TOUCHED > 0 {
+        return;
+    }
+    let end = candidates.len().min(from.saturating_add(TOUCHED));
+    for i in from..end {
+        let list = candidates.get(i);
+        homes[home_of(list)].touch(list);
+    }
 }
 
 // The home of a list. That sums wrap does not matter, since 16 divides 2³².

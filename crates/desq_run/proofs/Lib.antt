@@ -1,7 +1,7 @@
 pub mod Told
 pub mod LinkLemmas
 pub mod HierarchyLemmas
-pub mod PartitionRankLemmas
+pub mod PartitionWorkLemmas
 pub mod PivotCodeLemmas
 pub mod SetRankLemmas
 pub mod SeedLemmas

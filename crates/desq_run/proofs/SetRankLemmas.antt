@@ -16,7 +16,7 @@ use Rattle.automaton_model.specs.NamedWork.{IsNumberOfClasses, PivotCandidates, 
 use Rattle.automaton_model.proofs.AutomatonLemmas.{code-unique, code-also, equal-codes}
 use Rattle.automaton_model.proofs.PivotLemmas.{pivot-ranks}
 use Rattle.automaton_model.proofs.ClassLemmas.{classes-by}
-use Rattle.desq_run.proofs.PartitionRankLemmas.{order-within, Bound, at_rank, bound-same, by_top, item_at, label-same, label-back, label-forth, label-ranked}
+use Rattle.search_tree.proofs.PartitionRankLemmas.{order-within, Bound, at_rank, bound-same, by_top, item_at, label-same, label-back, label-forth, label-ranked}
 use Rattle.desq_run.proofs.PivotCodeLemmas.{pivot-code}
 
 module _ (names : List (List ℕ)) (d : Data Item) (ranking : Ranking) (ranks : AreRanks d.links d.sequences d.threshold ranking)

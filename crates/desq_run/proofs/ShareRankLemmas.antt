@@ -22,7 +22,7 @@ use Rattle.command_line.specs.declared.share.Share.{Share}
 use Rattle.split_merge.specs.Shares.{IsInShare, IsRankList, HasPlace, IsRankedTo, IsPivot}
 use Rattle.desq_run.specs.Parts.{HasItem, IsOfShare, IsShareWork}
 use Rattle.desq_run.specs.Inputs.{AreFound}
-use Rattle.desq_run.proofs.PartitionRankLemmas.{order-within, before, label-ranked, label-forth, label-back, one_top, one_list, item_at, items_of, IsItemLabel}
+use Rattle.search_tree.proofs.PartitionRankLemmas.{order-within, before, label-ranked, label-forth, label-back, one_top, one_list, item_at, items_of, IsItemLabel}
 
 to_place : (order : List Item) (v : Item) (rank : ℕ) → HasRank order v rank → HasPlace order v rank
 to_place order v rank has = (has.least, has.place)

@@ -6,7 +6,7 @@ ghost use Rattle.pattern_counts.specs.Tally.{no_lists, IsTally, sum_of, Adds};
 ghost use Rattle.pattern_counts.specs.Hashes.{hash_of};
 ghost use Rattle.pattern_counts.specs.Counted.{HasRoom};
 
-use super::table::{Slot, find, free_all, make_room, place};
+use super::table::{Slot, find, free_all, held_at_home, make_room, place};
 use flat_lists::FlatLists;
 use mine_model::NoMemory;
 use std::alloc::Global;
@@ -18,6 +18,9 @@ const MOST_LISTS: usize = 4_294_967_295;
 /// A table with more slots than so many for each list is dropped when it is cleared.
 const MOST_SPARSE: usize = 8;
 
+/// So many lists at a time are read early.
+const TOUCHED: usize = 32;
+
 /// Lists by numbers from 0 on, by the same numbers their sums and their hashes, and a table that finds the
 /// number of a list.
 pub(crate) struct Counts {
@@ -25,6 +28,8 @@ pub(crate) struct Counts {
     sums: Vec<u64>,
     hashes: Vec<u32>,
     slots: Vec<Slot>,
+    // What was read early, which nothing asks for: so the reads are made.
+    touched: u64,
 }
 
 // Written out, so that it is let go of by a call, and not part by part wherever one is.
@@ -35,6 +40,7 @@ impl Drop for Counts {
             sums: _,
             hashes: _,
             slots: _,
+            touched: _,
         } = self;
     }
 }
@@ -66,6 +72,7 @@ impl Counts {
             sums: Vec::new(alloc),
             hashes: Vec::new(alloc),
             slots: Vec::new(alloc),
+            touched: 0,
         }
     }
 
@@ -140,6 +147,44 @@ impl Counts {
         ensures most_ranks { self.new.most_ranks ≡ self.old.most_ranks }
     {
         self.sums[number] += weight;
+    }
+
+    /// Reads early where a list with this hash may stand.
+    pub(crate) fn touch(&mut self, hash: u32)
+        ensures { self.new ≡ self.old }
+    {
+        self.touched ^= u64::from(held_at_home(self.slots.as_slice(), hash));
+    }
+
+    /// At every so many numbers reads early what may be held of the next lists of the others, from this number
+    /// on: their slots, one after another with nothing between, so that they come to the processor side by
+    /// side, and then the lists and sums that these name.
+    pub(crate) fn touch_next(&mut self, others: &Counts, from: usize)
+        ensures { self.new ≡ self.old }
+    {
+        if from % TOUCHED > 0 {
+            return;
+        }
+        let end = others.hashes.len().min(from.saturating_add(TOUCHED));
+        let mut touched: u64 = 0;
+        for number in from..end {
+            touched ^= u64::from(held_at_home(self.slots.as_slice(), others.hashes[number]));
+        }
+        for number in from..end {
+            let held = held_at_home(self.slots.as_slice(), others.hashes[number]) as usize;
+            touched ^= self.read_early(held);
+        }
+        self.touched ^= touched;
+    }
+
+    // Reads the sum and the first rank of the list with the number, counted from 1.
+    fn read_early(&self, held: usize) -> u64 {
+        if held == 0 || held > self.lists.len() {
+            return 0;
+        }
+        let first = self.lists.list(held - 1).first().copied();
+        let sum = self.sums.get(held - 1).copied();
+        sum.unwrap_or(0) ^ u64::from(first.unwrap_or(0))
     }
 
     /// Takes memory for so many more lists with so many ranks in all.

@@ -152,6 +152,14 @@ pub(crate) fn place(slots: &mut Vec<Slot>, hash: u32, number: u32)
     }
 }
 
+/// What stands at the home of the hash, which may be that of another list.
+pub(crate) fn held_at_home(slots: &[Slot], hash: u32) -> u32 {
+    if slots.is_empty() {
+        return 0;
+    }
+    slots[home(slots.len(), u64::from(hash))].held
+}
+
 /// Frees all slots.
 pub(crate) fn free_all(slots: &mut Vec<Slot>)
     ensures size { length slots.new.items ≡ length slots.old.items }

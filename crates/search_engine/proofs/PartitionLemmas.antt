@@ -21,7 +21,8 @@ use Rattle.mine_model.proofs.OnceLemmas.{once-apart}
 use Rattle.search_tree.proofs.PivotLemmas.{pivot-same, place_of}
 use Rattle.search_tree.proofs.SearchAnswerLemmas.{frequent-ranks}
 use Rattle.search_tree.proofs.SearchTreeLemmas.{IsAliveLabel-shorter, IsRowOf-same, search-members, search-once}
-use Rattle.search_engine.specs.Partition.{AreAlivePivots, HasPivotAmong, IsPartsWork, IsPartitionWork}
+use Rattle.search_tree.specs.RankedPartition.{AreAlivePivots, IsRankedPartitionWork}
+use Rattle.search_engine.specs.Partition.{HasPivotAmong, IsPartsWork}
 use Rattle.sequence_grids.proofs.KindLemmas.{once_by_rising}
 
 -- one root for each pivot
@@ -120,7 +121,7 @@ module _ (d : Data Item) (ranking : Ranking) (are : AreRanks d.links d.sequences
   }
 
   -- and their work is that of the search by pivots
-  pub all-parts-work : (work : Work) → IsPartsWork d ranking.order pivots work → IsPartitionWork d ranking.order work
+  pub all-parts-work : (work : Work) → IsPartsWork d ranking.order pivots work → IsRankedPartitionWork d ranking.order work
   all-parts-work work is = record {
     labels = is.labels;
     once = is.once;
@@ -148,7 +149,7 @@ module _ (d : Data Item) (ranking : Ranking) (are : AreRanks d.links d.sequences
         all-parts-rows known (filter_map tree.row labels) (parts-once d ranking are pivots alive_are.rising each tree is labels covers)
         (parts-rows d ranking are pivots alive_are.rising each tree is labels covers known)
 
-    pub partition-work : IsPartitionWork d ranking.order (record { nodes = length labels; parts = length tree.roots; candidates = 0 })
+    pub partition-work : IsRankedPartitionWork d ranking.order (record { nodes = length labels; parts = length tree.roots; candidates = 0 })
     partition-work =
         all-parts-work (record { nodes = length labels; parts = length tree.roots; candidates = 0 })
         (parts-work d ranking are pivots alive_are.rising each tree is labels covers)

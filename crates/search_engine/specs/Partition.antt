@@ -1,17 +1,13 @@
 -- A search by pivots: the parts of the article on pivots.
-use Rattle.std.specs.Prelude.{◌≡◌, ◌≢◌, ℕ, ◌≤◌, ◌<◌, ◌↔◌, List, [], ◌∷◌, length, AllPairs, Contains}
+use Rattle.std.specs.Prelude.{◌≡◌, ◌≢◌, ℕ, ◌↔◌, List, [], ◌∷◌, length, AllPairs, Contains}
 use Rattle.mine_model.specs.declared.item.Item.{Item}
 use Rattle.mine_model.specs.declared.mined.Work.{Work}
 use Rattle.mine_model.specs.Answer.{Data}
 use Rattle.mine_model.specs.Growth.{IsSearchWork}
 use Rattle.mine_model.specs.Pivots.{label_of, IsWithinPivot, IsAliveLabel}
+use Rattle.search_tree.specs.RankedPartition.{AreAlivePivots, IsRankedPartitionWork}
 use Rattle.search_engine.specs.declared.division.Division.{Division}
 use Rattle.search_engine.specs.declared.division.Division.TheVariants.{Whole, ByPivots}
-
--- the pivots under whose bounds the empty prefix is alive, rising
-pub record AreAlivePivots (d : Data Item) (order : List Item) (pivots : List ℕ) : Type 0 where
-  pub rising : AllPairs (λ low high. low < high) pivots
-  pub exact : (pivot : ℕ) → Contains pivots pivot ↔ ((1 ≤ pivot) × IsAliveLabel d order pivot [])
 
 -- the pivot of the items is one of these
 abbrev pub HasPivotAmong : List Item → List ℕ → List Item → Type 0
@@ -28,19 +24,6 @@ pub record IsPartsWork (d : Data Item) (order : List Item) (pivots : List ℕ) (
   pub parts : work.parts ≡ length pivots
   pub candidates : work.candidates ≡ 0
 
--- the work of a search by pivots: its nodes are the alive labels of pivots, and each alive pivot has a part
-pub record IsPartitionWork (d : Data Item) (order : List Item) (work : Work) : Type 0 where
-  pub labels : List (List ℕ)
-  pub once : AllPairs (λ first second. first ≢ second) labels
-  pub alive : (label : List ℕ) → Contains labels label
-      ↔ ((pivot : ℕ) × (ranks : List ℕ) × (1 ≤ pivot) × (label ≡ label_of pivot ranks)
-      × IsAliveLabel d order pivot ranks)
-  pub nodes : work.nodes ≡ length labels
-  pub pivots : List ℕ
-  pub are_alive : AreAlivePivots d order pivots
-  pub parts : work.parts ≡ length pivots
-  pub candidates : work.candidates ≡ 0
-
 -- the pivots of the roots: those that are alive where the search is split, and else 0 alone, which stands for
 -- none
 abbrev pub ArePivotsFor : Division → Data Item → List Item → List ℕ → Type 0
@@ -50,4 +33,4 @@ ArePivotsFor ByPivots d order pivots = AreAlivePivots d order pivots
 -- the work of a search, split by pivots or not
 abbrev pub IsWorkFor : Division → Data Item → List Item → Work → Type 0
 IsWorkFor Whole d order work = IsSearchWork d work
-IsWorkFor ByPivots d order work = IsPartitionWork d order work
+IsWorkFor ByPivots d order work = IsRankedPartitionWork d order work

@@ -9,7 +9,7 @@ ghost use Rattle.mine_model.specs.Ranks.{Ranking, AreRanks};
 ghost use Rattle.mine_model.specs.Numbered.{AreFrequent};
 ghost use Rattle.search_tree.specs.Cover.{Covers};
 ghost use Rattle.search_tree.specs.SearchTree.{SearchTree, IsSearchTree};
-ghost use Rattle.search_engine.specs.Partition.{AreAlivePivots, IsPartitionWork};
+ghost use Rattle.search_tree.specs.RankedPartition.{AreAlivePivots, IsRankedPartitionWork};
 
 /// Over a cover of the trees of the alive pivots the rows are the frequent patterns, each once, where each
 /// item has a frequency. The labels and the roots are the counted work of the search by pivots.
@@ -22,6 +22,6 @@ pub fn rows_of_the_trees_of_pivots_are_the_frequent_patterns()
     ensures work { (d : Data Item) (ranking : Ranking) (pivots : List ℕ) (tree : SearchTree)
         (labels : List (List ℕ)) → AreRanks d.links d.sequences d.threshold ranking
         → AreAlivePivots d ranking.order pivots → IsSearchTree d ranking.order pivots tree
-        → Covers tree.roots tree.kids labels → IsPartitionWork d ranking.order
+        → Covers tree.roots tree.kids labels → IsRankedPartitionWork d ranking.order
         (record { nodes = length labels; parts = length tree.roots; candidates = 0 }) }
 {}

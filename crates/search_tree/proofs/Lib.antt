@@ -6,3 +6,4 @@ pub mod ShiftLemmas
 pub mod PivotLemmas
 pub mod SearchTreeLemmas
 pub mod SearchAnswerLemmas
+pub mod PartitionRankLemmas

@@ -1,3 +1,4 @@
 -- the words of the promise
 pub mod SearchTree
+pub mod RankedPartition
 pub mod Cover

@@ -13,4 +13,5 @@ pub use label::{Grown, Label};
 pub use search_laws::{
     at_most_one_search_tree, each_pattern_has_one_pivot, prefixes_of_alive_prefixes_are_alive,
     rows_of_the_search_tree_are_the_frequent_patterns, search_tree_has_a_cover,
+    work_by_ranks_is_work_by_items,
 };

@@ -1,17 +1,20 @@
 //! Laws of the search by prefixes, whatever walks the tree. Each is the contract of a function that does
 //! nothing.
 
-ghost use Rattle.std.specs.Prelude.{◌≡◌, ◌≢◌, ℕ, ◌≤◌, List, [], ◌∷◌, ◌++◌, length, AllPairs};
+ghost use Rattle.std.specs.Prelude.{◌≡◌, ◌≢◌, ℕ, ◌≤◌, ◌<◌, List, [], ◌∷◌, ◌++◌, length, AllPairs, Contains};
 ghost use Rattle.std.specs.List.{filter_map};
 ghost use Rattle.mine_model.specs.declared.item.Item.{Item};
 ghost use Rattle.mine_model.specs.Support.{HasFrequency};
 ghost use Rattle.mine_model.specs.Answer.{Data};
-ghost use Rattle.mine_model.specs.Ranks.{Ranking, AreRanked, AreRanks};
+ghost use Rattle.mine_model.specs.Ranks.{Ranking, AreRanked, AreRanks, AreTiesByName};
+ghost use Rattle.mine_model.specs.PartitionWork.{IsPartitionWork, IsNamedBefore};
+ghost use Rattle.mine_model.specs.declared.mined.Work.{Work};
 ghost use Rattle.mine_model.specs.Growth.{IsAlive, AreFrequentItems, IsSearchWork};
 ghost use Rattle.mine_model.specs.Numbered.{AreFrequent};
 ghost use Rattle.search_tree.specs.Cover.{Covers};
 ghost use Rattle.mine_model.specs.Pivots.{IsWithinPivot, label_of, IsAliveLabel};
 ghost use Rattle.search_tree.specs.SearchTree.{SearchTree, IsSearchTree};
+ghost use Rattle.search_tree.specs.RankedPartition.{IsRankedPartitionWork};
 
 /// What begins an alive prefix is alive, among the patterns of frequent items and within the bound of a
 /// pivot.
@@ -59,4 +62,13 @@ pub fn each_pattern_has_one_pivot()
         → first ≡ second }
     ensures labels { (first second : ℕ) (ranks others : List ℕ)
         → label_of first ranks ≡ label_of second others → first ≡ second }
+{}
+
+/// Where the order of ranks is by frequency and then by name, and the ranks are those of items that have a
+/// frequency in the list, the work of a search by pivots that is told by ranks is that told by items.
+pub fn work_by_ranks_is_work_by_items()
+    ensures { (names : List (List ℕ)) (d : Data Item) (ranking : Ranking) (work : Work) → 1 ≤ d.threshold
+        → AreRanks d.links d.sequences d.threshold ranking → AreTiesByName names ranking
+        → ((w : Item) → Contains ranking.order w → w.0 < length ranking.frequencies)
+        → IsRankedPartitionWork d ranking.order work → IsPartitionWork (IsNamedBefore names) d work }
 {}

@@ -5,7 +5,7 @@ use Rattle.search_engine.specs.Partition.{IsWorkFor}
 use Rattle.mine_model.specs.PartitionWork.{IsPartitionWork, IsNamedBefore}
 use Rattle.automaton_model.specs.Work.{IsAutomatonWork}
 use Rattle.automaton_model.specs.NamedWork.{IsCandidateSetWork}
-use Rattle.desq_run.proofs.PartitionRankLemmas.{problem-work}
+use Rattle.desq_run.proofs.PartitionWorkLemmas.{problem-work}
 use Rattle.desq_run.proofs.SetRankLemmas.{problem-set-work}
 use Rattle.desq_run.proofs.RowLemmas.{if_ok}
 use Rattle.desq_run.proofs.rows.mined_by.Goals as goal

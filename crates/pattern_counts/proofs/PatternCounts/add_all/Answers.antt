@@ -1,5 +1,7 @@
-use Rattle.std.proofs.Common.{◌≡◌, ◌+◌, ◌^◌, ◌<◌, ℕ, List, sym, subst, ◌∙◌, arith}
-use Rattle.pattern_counts.specs.Tally.{Tally, sum_of, AddsAll}
+use Rattle.std.proofs.Common.{◌≡◌, ◌+◌, ◌^◌, ◌<◌, ◌≤◌, ℕ, List, length, sym, subst, ◌∙◌, arith}
+use Rattle.pattern_counts.specs.Tally.{Tally, sum_of, Adds, AddsAll}
+use Rattle.flat_lists.specs.Shelf.{elements_of}
+use Rattle.pattern_counts.specs.Counted.{Counted}
 use Rattle.pattern_counts.proofs.SumLemmas.{front, adds_none, adds_both, front_more, front_all, room_for}
 use Rattle.flat_lists.proofs.ShelfLemmas.{elements_of-drop}
 use Rattle.pattern_counts.proofs.PatternCounts.add_all.Goals as goal
@@ -20,14 +22,15 @@ loop-number-init c =
 pub put-requires-clause-sum : goal.put-requires-clause-sum
 put-requires-clause-sum c =
     let other : Tally = c.other.inside.counts.tally in
+    rw c.touch_next.ensures (
     room_for other c.sum.ensures.tally c.loop-number.number c.sum.result c.list-list.result.now c.list-list.ensures c.sum.ensures.sum c.args.self.now c.loop-number.self-inside.counts.tally c.loop-number.invariant.adds
-    (subst (λ (t : Tally). (l : List ℕ) → sum_of c.args.self.now l + sum_of t l < 2 ^ 64) (sym c.other.view_is) c.requires)
+    (subst (λ (t : Tally). (l : List ℕ) → sum_of c.args.self.now l + sum_of t l < 2 ^ 64) (sym c.other.view_is) c.requires))
 
 pub put-requires-clause-room : goal.put-requires-clause-room
 put-requires-clause-room c =
     let room = c.loop-number.invariant.room in
     let more = elements_of-drop c.other.inside.counts.tally.lists c.loop-number.number c.list-list.result.now c.list-list.ensures in
-    record { for_lists = omega (arith, room.for_lists); for_ranks = omega (arith, room.for_ranks, more) }
+    rw c.touch_next.ensures (record { for_lists = omega (arith, room.for_lists); for_ranks = omega (arith, room.for_ranks, more) })
 
 pub loop-number-preserved : goal.loop-number-preserved
 loop-number-preserved c =
@@ -35,13 +38,19 @@ loop-number-preserved c =
     let number = c.loop-number.number in
     let room = c.loop-number.invariant.room in
     let more = elements_of-drop c.other.inside.counts.tally.lists number c.list-list.result.now c.list-list.ensures in
+    let same = c.touch_next.ensures in
+    let adds = subst (λ (counted : Counted). Adds c.list-list.result.now c.sum.result counted.tally c.put.new.self.tally) same c.put.ensures.adds in
+    let count = subst (λ (counted : Counted). length c.put.new.self.tally.lists ≤ length counted.tally.lists + 1) same c.put.ensures.count in
+    let ranks = subst (λ (counted : Counted). elements_of c.put.new.self.tally.lists ≤ elements_of counted.tally.lists + length c.list-list.result.now) same c.put.ensures.ranks in
+    let most_lists = subst (λ (counted : Counted). counted.most_lists ≤ c.put.new.self.most_lists) same c.put.ensures.most_lists in
+    let most_ranks = subst (λ (counted : Counted). counted.most_ranks ≤ c.put.new.self.most_ranks) same c.put.ensures.most_ranks in
     record {
       adds = adds_both c.list-list.result.now c.sum.result c.args.self.now c.loop-number.self-inside.counts.tally c.put.new.self.tally (front number other) (front (number + 1) other)
-          c.put.ensures.adds (front_more other c.sum.ensures.tally number c.sum.result c.list-list.result.now c.list-list.ensures c.sum.ensures.sum) c.loop-number.invariant.adds;
+          adds (front_more other c.sum.ensures.tally number c.sum.result c.list-list.result.now c.list-list.ensures c.sum.ensures.sum) c.loop-number.invariant.adds;
       tally = c.put.ensures.tally;
       room = record {
-        for_lists = omega (arith, room.for_lists, c.put.ensures.count, c.put.ensures.most_lists);
-        for_ranks = omega (arith, room.for_ranks, more, c.put.ensures.ranks, c.put.ensures.most_ranks);
+        for_lists = omega (arith, room.for_lists, count, most_lists);
+        for_ranks = omega (arith, room.for_ranks, more, ranks, most_ranks);
       };
     }
 

@@ -7,7 +7,8 @@ use Rattle.dfs_growth.specs.Tree.{roots_by}
 use Rattle.pivot_partition.specs.Pivots.{pivots_in}
 use Rattle.search_engine.specs.declared.division.Division.{Division}
 use Rattle.search_engine.specs.declared.division.Division.TheVariants.{Whole}
-use Rattle.search_engine.specs.Partition.{AreAlivePivots, IsWorkFor}
+use Rattle.search_tree.specs.RankedPartition.{AreAlivePivots}
+use Rattle.search_engine.specs.Partition.{IsWorkFor}
 use Rattle.search_engine.specs.Searches.{tree_of}
 use Rattle.search_engine.proofs.PartitionLemmas.{all-parts-rows, all-parts-work}
 use Rattle.search_engine.proofs.SearchLemmas.{items-known, roots-walked, walks-work, walks-frequent, walks-within}

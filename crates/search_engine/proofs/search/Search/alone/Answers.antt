@@ -1,7 +1,8 @@
 use Rattle.std.proofs.Common.{sym, subst}
 use Rattle.mining_job.specs.Problems.{data_of}
 use Rattle.search_engine.specs.declared.division.Division.{Division}
-use Rattle.search_engine.specs.Partition.{ArePivotsFor, AreAlivePivots}
+use Rattle.search_tree.specs.RankedPartition.{AreAlivePivots}
+use Rattle.search_engine.specs.Partition.{ArePivotsFor}
 use Rattle.search_engine.proofs.search.Search.alone.Goals as goal
 
 pub returns-in-ByPivots-clause-pivots : goal.returns-in-ByPivots-clause-pivots

@@ -24,8 +24,7 @@ use Rattle.mine_model.proofs.RankLemmas.{HasRank-held}
 use Rattle.mine_model.proofs.RankedLemmas.{ranked-first, ranked-same, ranked-all, item_rank, same_ranks}
 use Rattle.mine_model.proofs.AliveLemmas.{IsAlive-weaker, IsAlive-some}
 use Rattle.search_tree.proofs.SearchAnswerLemmas.{ranked-items, frequent-ranks}
-use Rattle.mining_job.specs.Problems.{Problem, data_of, IsWhole}
-use Rattle.search_engine.specs.Partition.{IsPartitionWork as IsRankedWork}
+use Rattle.search_tree.specs.RankedPartition.{IsRankedPartitionWork}
 use Rattle.mine_model.specs.PartitionWork.{RanksBefore, IsPivotOf, IsPartitionWork, IsBytewiseBefore, IsNamedBefore}
 use Rattle.mine_model.proofs.NumberLemmas.{IsNumberOf-by}
 
@@ -208,7 +207,7 @@ module _ (names : List (List ℕ)) (d : Data Item) (ranking : Ranking) (ranks : 
         (subst (λ l. AreRanked ranking.order l others) (sym same) (label-ranked other others also).1)
 
     -- THE WORK by ranks is that by items
-    pub partition-items : (work : Work) → IsRankedWork d ranking.order work → IsPartitionWork (IsNamedBefore names) d work
+    pub partition-items : (work : Work) → IsRankedPartitionWork d ranking.order work → IsPartitionWork (IsNamedBefore names) d work
     partition-items work is = record {
       nodes = IsNumberOf-by
           (λ label. (top : ℕ) × (list : List ℕ) × (1 ≤ top) × (label ≡ label_of top list) × IsAliveLabel d ranking.order top list)
@@ -237,12 +236,3 @@ module _ (names : List (List ℕ)) (d : Data Item) (ranking : Ranking) (ranks : 
           });
       candidates = is.candidates;
     }
-
--- the work of a problem whose links are between its items
-pub problem-work : (problem : Problem) → IsWhole problem
-    → All (λ (link : Link Item). (link.child.0 < problem.hierarchy.items) × (link.parent.0 < problem.hierarchy.items)) problem.hierarchy.links
-    → (names : List (List ℕ)) → AreTiesByName names problem.ranking → (work : Work) → IsRankedWork (data_of problem) problem.ranking.order work
-    → IsPartitionWork (IsNamedBefore names) (data_of problem) work
-problem-work problem whole ends names ties work is =
-    let within = order-within (data_of problem) problem.ranking whole.ranks whole.least problem.hierarchy.items ends whole.items whole.ranked in
-    partition-items names (data_of problem) problem.ranking whole.ranks ties within whole.least work is
