@@ -90,11 +90,11 @@ pub leads_as_rows : (labels : List Label) (rows : List ℕ) (edges : List (List 
 leads_as_rows labels rows edges are from to =
     elim (cases_lt from (length rows)) [
       | inl inside ↦ (
-          λ (edge, contained, is). (are.exact from inside to).0 (subst (λ (k : ℕ). Contains (map target (get_or edges from [])) k) is (Contains-by target (get_or edges from []) edge contained)),
-          λ has.
-              let (edge, contained, is) = Contains-from target (get_or edges from []) to ((are.exact from inside to).1 has) in
-              (edge, contained, sym is),
-        )
+        λ (edge, contained, is). (are.exact from inside to).0 (subst (λ (k : ℕ). Contains (map target (get_or edges from [])) k) is (Contains-by target (get_or edges from []) edge contained)),
+        λ has.
+            let (edge, contained, is) = Contains-from target (get_or edges from []) to ((are.exact from inside to).1 has) in
+            (edge, contained, sym is),
+      )
       | inr outside ↦
           let row = get_or_past edges from [] (omega (arith, are.count)) in
           rw row (

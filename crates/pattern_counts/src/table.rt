@@ -54,7 +54,13 @@ pub(crate) fn find(lists: &FlatLists<u32>, slots: &[Slot], hash: u32, list: &[u3
 
 /// The same by a search from the home of the hash on.
 #[inline(never)]
-fn find_from(lists: &FlatLists<u32>, slots: &[Slot], hash: u32, list: &[u32], home: usize) -> Option<usize>
+fn find_from(
+    lists: &FlatLists<u32>,
+    slots: &[Slot],
+    hash: u32,
+    list: &[u32],
+    home: usize,
+) -> Option<usize>
     requires table { IsTable layout (map hash_of lists.now.lists) slots.now }
     requires hash { hash ≡ hash_of list.now }
     requires home { home ≡ home_of (length slots.now) hash }
@@ -74,7 +80,14 @@ fn find_from(lists: &FlatLists<u32>, slots: &[Slot], hash: u32, list: &[u32], ho
 }
 
 /// Looks for the list in the slots from `from` to before `to`, up to the first that is free.
-fn search(lists: &FlatLists<u32>, slots: &[Slot], hash: u32, list: &[u32], from: usize, to: usize) -> Outcome
+fn search(
+    lists: &FlatLists<u32>,
+    slots: &[Slot],
+    hash: u32,
+    list: &[u32],
+    from: usize,
+    to: usize,
+) -> Outcome
     requires table { IsTable layout (map hash_of lists.now.lists) slots.now }
     requires hash { hash ≡ hash_of list.now }
     requires within { to ≤ length slots.now }
