@@ -1,9 +1,9 @@
 -- Frequencies among some of the sequences, and how they grow by a sequence.
-use Rattle.std.specs.Prelude.{◌≡◌, ℕ, ◌+◌, ◌*◌, ◌⊎◌, ◌==◌, if◌then◌else◌, min, List, length}
-use Rattle.std.specs.List.{slice_index, slice_range, range_with_len, AllZip}
+use Rattle.std.specs.Prelude.{◌≡◌, ℕ, ◌+◌, ◌⊎◌, ◌==◌, if◌then◌else◌, List, length}
+use Rattle.std.specs.List.{slice_index, range_with_len, AllZip}
 use Rattle.std.specs.Global.{Vec}
 use Rattle.mine_model.specs.declared.item.Item.{Item}
-use Rattle.mine_model.specs.Ancestry.{Ancestry}
+use Rattle.mine_model.specs.Ancestry.{Ancestry, list_at}
 use Rattle.mine_model.specs.Support.{Sequence}
 use Rattle.mine_model.specs.Ranks.{AreFrequencies}
 
@@ -12,20 +12,11 @@ pub record IsTally (hierarchy : Ancestry) (sequences : List (Sequence Item)) (su
   pub whole : length sums ≡ hierarchy.items
   pub exact : AreFrequencies hierarchy.links sequences sums
 
--- where a piece of this size begins
-abbrev pub place : ℕ → List (Sequence Item) → ℕ → ℕ
-place size sequences piece = min (piece * size) (length sequences)
-
--- the sequences of a piece of this size, by its number
-abbrev pub piece_of : ℕ → List (Sequence Item) → ℕ → List (Sequence Item)
-piece_of size sequences piece =
-    slice_range sequences (place size sequences piece) (place size sequences (piece + 1))
-
--- so many parts are what is counted in the pieces, in order
-abbrev pub AreTallies : Ancestry → ℕ → List (Sequence Item) → ℕ → List (Vec ℕ) → Type 0
-AreTallies hierarchy size sequences pieces parts =
-    AllZip (λ piece part. IsTally hierarchy (piece_of size sequences piece) part.items)
-    (range_with_len 0 pieces) parts
+-- the parts are what is counted in the pieces that end there, in order
+abbrev pub AreTallies : Ancestry → List ℕ → List (Sequence Item) → List (Vec ℕ) → Type 0
+AreTallies hierarchy ends sequences parts =
+    AllZip (λ piece part. IsTally hierarchy (list_at ends sequences piece) part.items)
+    (range_with_len 0 (length ends)) parts
 
 -- the sum has grown by the weight where the property holds, and else is as it was
 abbrev pub AddsWeight : Type 0 → ℕ → ℕ → ℕ → Type 0

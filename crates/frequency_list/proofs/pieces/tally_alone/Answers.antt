@@ -1,4 +1,4 @@
-use Rattle.std.proofs.Common.{◌≡◌, ℕ, ◌≤◌, List, [], Result, Ok, Err, IfOk, length, refl, subst, arith}
+use Rattle.std.proofs.Common.{◌≡◌, List, [], Result, Ok, Err, IfOk, length, subst, arith}
 use Rattle.std.specs.List.{slice_range}
 use Rattle.mine_model.specs.declared.item.Item.{Item}
 use Rattle.mine_model.specs.Support.{Sequence}
