@@ -1,5 +1,4 @@
 use mine_model::{Fault, NoMemory, Which};
-use std::alloc::AllocFailed;
 use thiserror::Error;
 
 /// Why a hierarchy file was not read. Lines and columns count from 1, columns in bytes.
@@ -58,17 +57,6 @@ impl From<NoMemory> for CloseFault {
 
     fn from(_e: NoMemory) -> CloseFault {
         CloseFault::NoMemory
-    }
-}
-
-impl<T: Drop> From<AllocFailed<T>> for HierarchyFault {
-    ghost use Rattle.std.specs.Prelude.{◌≡◌};
-    ghost use Rattle.item_hierarchy.specs.declared.hierarchy_fault.HierarchyFault.TheVariants.{NoMemory};
-
-    ghost from_gives = { λ _ e. e ≡ NoMemory };
-
-    fn from(_e: AllocFailed<T>) -> HierarchyFault {
-        HierarchyFault::NoMemory
     }
 }
 
