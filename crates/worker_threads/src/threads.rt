@@ -1,4 +1,4 @@
-ghost use Rattle.std.specs.Prelude.{◌≡◌, List, ◌∷◌, All, map, Ok, IfOk};
+ghost use Rattle.std.specs.Prelude.{◌≡◌, All, map, Ok, IfOk};
 ghost use Rattle.worker_threads.specs.Doing.{AreDone};
 
 use mine_model::NoMemory;

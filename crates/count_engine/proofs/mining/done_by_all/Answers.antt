@@ -1,8 +1,8 @@
-use Rattle.std.proofs.Common.{length, arith, ◌≡◌, ◌∙◌}
+use Rattle.std.proofs.Common.{length, ◌≡◌, ◌∙◌}
 use Rattle.worker_threads.proofs.DoingLemmas.{done-long, done-weaker}
 use Rattle.count_shards.proofs.Lists.{all_at}
 use Rattle.count_engine.specs.declared.starts.Start.{Start}
-use Rattle.count_engine.specs.Starts.{IsStartOf, IsDone}
+use Rattle.count_engine.specs.Starts.{IsDone}
 use Rattle.count_engine.proofs.WorkLemmas.{AreDone, given_start, all_done, each_once, all_lists, told_all}
 use Rattle.count_engine.proofs.mining.done_by_all.Goals.{In_ok-lists}
 use Rattle.count_engine.proofs.mining.done_by_all.Goals as goal
