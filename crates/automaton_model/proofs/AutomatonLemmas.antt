@@ -6,7 +6,7 @@ use Rattle.std.specs.List.{AllPairs, AllZip, Contains, slice_get, flat_map}
 use Rattle.std.proofs.lemmas.List.{append-nil}
 use Rattle.std.proofs.lemmas.Option.{slice_get-get_or}
 use Rattle.mine_model.proofs.ListLemmas.{Contains-cases, Contains-first, Contains-other, Contains-none, AllPairs-head}
-use Rattle.automaton_model.specs.Automata.{Edge, State, Accepts, edge_code, code_of}
+use Rattle.automaton_model.specs.Automata.{Edge, StateValue, Accepts, edge_code, code_of}
 use Rattle.automaton_model.specs.Codes.{IsEarlier, IsPrefixIn, AreNerodeEquivalent, IsFirstVisit, Leads, IsStateAfter, IsMinimalAutomaton, IsCodeOf}
 use Rattle.automaton_model.proofs.ZipLemmas.{zip-there}
 use Rattle.automaton_model.proofs.OrderLemmas.{ordered-same, earlier-both, earlier-cases, earlier-none}
@@ -40,7 +40,7 @@ flags_same true false same = absurd (omega (arith, same))
 flags_same false true same = absurd (omega (arith, same))
 flags_same false false same = refl
 
-pub code-same : (ss ts : List State) → code_of ss ≡ code_of ts → ss ≡ ts
+pub code-same : (ss ts : List StateValue) → code_of ss ≡ code_of ts → ss ≡ ts
 code-same [] [] same = refl
 code-same [] (t ∷ ts) same = absurd (cc)
 code-same (s ∷ ss) [] same = absurd (cc)
@@ -73,13 +73,13 @@ module _ (IsMember : List ℕ → Type 0) where
   ]
 
   -- the visits of one automaton are those of each other
-  visits_in : (ss ts : List State) (p : IsMinimalAutomaton IsMember ss) (q : IsMinimalAutomaton IsMember ts) → (x : List ℕ) → Contains p.visits x → Contains q.visits x
+  visits_in : (ss ts : List StateValue) (p : IsMinimalAutomaton IsMember ss) (q : IsMinimalAutomaton IsMember ts) → (x : List ℕ) → Contains p.visits x → Contains q.visits x
   visits_in ss ts p q x held =
       let is = p.first x held in
       let (visit, inside, same) = q.all x is.begins in
       subst (Contains q.visits) (visit-same visit x (q.first visit inside) is same) inside
 
-  pub visits-same : (ss ts : List State) (p : IsMinimalAutomaton IsMember ss) (q : IsMinimalAutomaton IsMember ts) → p.visits ≡ q.visits
+  pub visits-same : (ss ts : List StateValue) (p : IsMinimalAutomaton IsMember ss) (q : IsMinimalAutomaton IsMember ts) → p.visits ≡ q.visits
   visits-same ss ts p q =
       ordered-same IsEarlier earlier-both p.visits q.visits p.rising q.rising (visits_in ss ts p q) (visits_in ts ss q p)
 
@@ -93,14 +93,14 @@ module _ (IsMember : List ℕ → Type 0) where
   ranks_apart x y p q = omega (arith, p, q)
 
   -- a state after a prefix is determined
-  state_same : (visits : List (List ℕ)) (prefix : List ℕ) (s t : State) → IsStateAfter IsMember visits prefix s → IsStateAfter IsMember visits prefix t → s ≡ t
+  state_same : (visits : List (List ℕ)) (prefix : List ℕ) (s t : StateValue) → IsStateAfter IsMember visits prefix s → IsStateAfter IsMember visits prefix t → s ≡ t
   state_same visits prefix s t p q =
       let accepts : s.accepts ≡ t.accepts = bools_same s.accepts t.accepts ((λ good. q.accepts.1 (p.accepts.0 good)), (λ good. p.accepts.1 (q.accepts.0 good))) in
       let edges : s.edges ≡ t.edges = ordered-same (λ (low : Edge) (high : Edge). low.rank < high.rank) ranks_apart s.edges t.edges p.rising q.rising
       (λ e held. (q.exact e).1 ((p.exact e).0 held)) (λ e held. (p.exact e).1 ((q.exact e).0 held)) in
       λ i. record { accepts = accepts i; edges = edges i }
 
-  states_same : (all visits : List (List ℕ)) (ss ts : List State) → AllZip (IsStateAfter IsMember all) visits ss → AllZip (IsStateAfter IsMember all) visits ts → ss ≡ ts
+  states_same : (all visits : List (List ℕ)) (ss ts : List StateValue) → AllZip (IsStateAfter IsMember all) visits ss → AllZip (IsStateAfter IsMember all) visits ts → ss ≡ ts
   states_same all [] [] [] p q = refl
   states_same all [] [] (t ∷ ts) p q = absurd q
   states_same all [] (s ∷ ss) ts p q = absurd p
@@ -112,7 +112,7 @@ module _ (IsMember : List ℕ → Type 0) where
       λ i. first i ∷ rest i
 
   -- there is at most one minimal automaton
-  pub least-unique : (ss ts : List State) → IsMinimalAutomaton IsMember ss → IsMinimalAutomaton IsMember ts → ss ≡ ts
+  pub least-unique : (ss ts : List StateValue) → IsMinimalAutomaton IsMember ss → IsMinimalAutomaton IsMember ts → ss ≡ ts
   least-unique ss ts p q =
       let same = visits-same ss ts p q in
       states_same q.visits q.visits ss ts (subst (λ v. AllZip (IsStateAfter IsMember v) v ss) same p.state) q.state
@@ -123,17 +123,17 @@ module _ (IsMember : List ℕ → Type 0) where
 
   -- What an automaton accepts
 
-  module _ (states : List State) (least : IsMinimalAutomaton IsMember states) where
+  module _ (states : List StateValue) (least : IsMinimalAutomaton IsMember states) where
     -- from the state of a visit it accepts the rest after the visit
     accepts_forth : (ranks : List ℕ) (k : ℕ) (visit : List ℕ) → slice_get least.visits k ≡ Some visit → Accepts states k ranks → IsMember (visit ++ ranks)
     accepts_forth [] k visit at (s, is, good) =
         let (t, also, after) = zip-there (IsStateAfter IsMember least.visits) least.visits states least.state k visit at in
         let same : s ≡ t = one_of s t (slice_get states k) is also in
-        subst IsMember (sym (append-nil visit)) (after.accepts.0 (subst (λ (x : State). IsTrue x.accepts) same good))
+        subst IsMember (sym (append-nil visit)) (after.accepts.0 (subst (λ (x : StateValue). IsTrue x.accepts) same good))
     accepts_forth (w ∷ ranks) k visit at (s, edge, is, held, rank, next) =
         let (t, also, after) = zip-there (IsStateAfter IsMember least.visits) least.visits states least.state k visit at in
         let same : s ≡ t = one_of s t (slice_get states k) is also in
-        let leads : Leads IsMember least.visits visit edge = (after.exact edge).0 (subst (λ (x : State). Contains x.edges edge) same held) in
+        let leads : Leads IsMember least.visits visit edge = (after.exact edge).0 (subst (λ (x : StateValue). Contains x.edges edge) same held) in
         let member : IsMember ((visit ++ edge.rank ∷ []) ++ ranks) = (leads.same ranks).0 (accepts_forth ranks edge.to leads.first leads.numbered next) in
         subst (λ r. IsMember (visit ++ r ∷ ranks)) rank (subst IsMember (append_assoc visit (edge.rank ∷ []) ranks) member)
 
@@ -173,7 +173,7 @@ pub equal-codes : (IsMember Also : List ℕ → Type 0) (code : List ℕ) → Is
 equal-codes IsMember Also code (ss, p, is) (ts, q, as_well) ranks =
     let same : ss ≡ ts = code-same ss ts (sym is ∙ as_well) in
     let exact : Accepts ss 0 ranks ↔ IsMember ranks = accepts-exact IsMember ss p ranks in
-    let other : Accepts ss 0 ranks ↔ Also ranks = subst (λ (l : List State). Accepts l 0 ranks ↔ Also ranks) (sym same) (accepts-exact Also ts q ranks) in
+    let other : Accepts ss 0 ranks ↔ Also ranks = subst (λ (l : List StateValue). Accepts l 0 ranks ↔ Also ranks) (sym same) (accepts-exact Also ts q ranks) in
     ((λ m. other.0 (exact.1 m)), (λ m. exact.0 (other.1 m)))
 
 -- equal sets have equal codes
@@ -198,7 +198,7 @@ module _ (IsMember Also : List ℕ → Type 0) (same : (ranks : List ℕ) → Is
     (λ m. (same (first ++ more)).1 ((rests more).1 ((same (second ++ more)).0 m))),
   )
 
-  state_also : (visits : List (List ℕ)) (prefix : List ℕ) (s : State) → IsStateAfter IsMember visits prefix s → IsStateAfter Also visits prefix s
+  state_also : (visits : List (List ℕ)) (prefix : List ℕ) (s : StateValue) → IsStateAfter IsMember visits prefix s → IsStateAfter Also visits prefix s
   state_also visits prefix s after = record {
     accepts = ((λ good. (same prefix).0 (after.accepts.0 good)), (λ m. after.accepts.1 ((same prefix).1 m)));
     rising = after.rising;
@@ -220,7 +220,7 @@ module _ (IsMember Also : List ℕ → Type 0) (same : (ranks : List ℕ) → Is
     );
   }
 
-  zip_also : (all visits : List (List ℕ)) (ss : List State) → AllZip (IsStateAfter IsMember all) visits ss → AllZip (IsStateAfter Also all) visits ss
+  zip_also : (all visits : List (List ℕ)) (ss : List StateValue) → AllZip (IsStateAfter IsMember all) visits ss → AllZip (IsStateAfter Also all) visits ss
   zip_also all [] [] zip = zip
   zip_also all [] (s ∷ ss) zip = absurd zip
   zip_also all (v ∷ visits) [] zip = absurd zip
@@ -265,15 +265,15 @@ get_cases (x ∷ xs) (suc k) = get_cases xs k
 nothing_there : {X : Type 0} (o : Option X) (x : X) → o ≡ None → o ≡ Some x → ⊥
 nothing_there o x p q = cc
 
-pub accepts-decided : (states : List State) (ranks : List ℕ) (from : ℕ) → Accepts states from ranks ⊎ (Accepts states from ranks → ⊥)
+pub accepts-decided : (states : List StateValue) (ranks : List ℕ) (from : ℕ) → Accepts states from ranks ⊎ (Accepts states from ranks → ⊥)
 accepts-decided states [] from = elim (get_cases states from) [
   | inl some ↦ (let (s, is) = some in end s is s.accepts refl)
   | inr none ↦ inr (λ (s, is, good). nothing_there (slice_get states from) s none is)
 ]
   where
-    end : (s : State) → slice_get states from ≡ Some s → (b : Bool) → s.accepts ≡ b → Accepts states from [] ⊎ (Accepts states from [] → ⊥)
+    end : (s : StateValue) → slice_get states from ≡ Some s → (b : Bool) → s.accepts ≡ b → Accepts states from [] ⊎ (Accepts states from [] → ⊥)
     end s is true flag = inl (s, is, subst IsTrue (sym flag) refl)
-    end s is false flag = inr (λ (t, also, good). (let same : t ≡ s = one_of t s (slice_get states from) also is in true≢false (sym (subst (λ (x : State). IsTrue x.accepts) same good) ∙ flag)))
+    end s is false flag = inr (λ (t, also, good). (let same : t ≡ s = one_of t s (slice_get states from) also is in true≢false (sym (subst (λ (x : StateValue). IsTrue x.accepts) same good) ∙ flag)))
 accepts-decided states (w ∷ ranks) from = elim (get_cases states from) [
   | inl some ↦ (let (s, is) = some in step s is (any_decided (λ (e : Edge). (e.rank ≡ w) × Accepts states e.to ranks) (each (accepts-decided states ranks)) s.edges))
   | inr none ↦ inr (λ (s, e, is, held, rank, next). nothing_there (slice_get states from) s none is)
@@ -285,9 +285,9 @@ accepts-decided states (w ∷ ranks) from = elim (get_cases states from) [
       | inr other ↦ inr (λ (rank, next). other rank)
     ]
 
-    step : (s : State) → slice_get states from ≡ Some s
+    step : (s : StateValue) → slice_get states from ≡ Some s
         → ((e : Edge) × Contains s.edges e × ((e.rank ≡ w) × Accepts states e.to ranks)) ⊎ ((e : Edge) → Contains s.edges e → ((e.rank ≡ w) × Accepts states e.to ranks) → ⊥)
         → Accepts states from (w ∷ ranks) ⊎ (Accepts states from (w ∷ ranks) → ⊥)
     step s is (inl some) = (let (e, held, both) = some in inl (s, e, is, held, both.0, both.1))
     step s is (inr none) = inr (λ (t, e, also, held, rank, next).
-        (let same : t ≡ s = one_of t s (slice_get states from) also is in none e (subst (λ (x : State). Contains x.edges e) same held) (rank, next)))
+        (let same : t ≡ s = one_of t s (slice_get states from) also is in none e (subst (λ (x : StateValue). Contains x.edges e) same held) (rank, next)))

@@ -11,7 +11,7 @@ use Rattle.std.proofs.lemmas.Slice.Eq.{bytes_eq-Decides}
 use Rattle.std.proofs.lemmas.Option.{slice_get_within}
 use Rattle.mine_model.proofs.ListLemmas.{Contains-cases, Contains-first, Contains-other, Contains-none, Contains-by, Contains-from, AllPairs-tail, AllPairs-head, AllByRecursion-contained}
 use Rattle.mine_model.proofs.ElementLemmas.{get-some}
-use Rattle.automaton_model.specs.Automata.{Edge, State, Accepts, state_code}
+use Rattle.automaton_model.specs.Automata.{Edge, StateValue, Accepts, state_code}
 use Rattle.automaton_model.specs.Codes.{IsCodeOf}
 use Rattle.automaton_model.specs.Registry.{IsRegistry}
 use Rattle.automaton_model.specs.Languages.{IsRightLanguageOf, IsEdgeOf, IsStateOf}
@@ -212,7 +212,7 @@ heads_of ((x ∷ xs) ∷ lists) =
 
 -- Whether a state is there
 
-state_decided : (s t : State) → (s ≡ t) ⊎ (s ≡ t → ⊥)
+state_decided : (s t : StateValue) → (s ≡ t) ⊎ (s ≡ t → ⊥)
 state_decided s t = elim (bytes_eq (state_code s) (state_code t)) as (λ b. bytes_eq (state_code s) (state_code t) ≡ b → (s ≡ t) ⊎ (s ≡ t → ⊥)) [
   | true ↦ λ e.
       let codes : state_code s ≡ state_code t = (bytes_eq-Decides (state_code s) (state_code t)).0 e in
@@ -221,7 +221,7 @@ state_decided s t = elim (bytes_eq (state_code s) (state_code t)) as (λ b. byte
   | false ↦ λ e. inr (λ same. true≢false (sym ((bytes_eq-Decides (state_code s) (state_code t)).1 (ap state_code same)) ∙ e))
 ] refl
 
-there_decided : (states : List State) (s : State) → Contains states s ⊎ (Contains states s → ⊥)
+there_decided : (states : List StateValue) (s : StateValue) → Contains states s ⊎ (Contains states s → ⊥)
 there_decided [] s = inr (Contains-none s)
 there_decided (t ∷ states) s = elim (state_decided s t) [
   | inl same ↦ inl (subst (Contains (t ∷ states)) (sym same) (Contains-first t states))
@@ -233,21 +233,21 @@ there_decided (t ∷ states) s = elim (state_decided s t) [
 
 -- A registry with a node for the lists
 
-record HasNode (IsMember : List ℕ → Type 0) (states : List State) : Type 0 where
-  more : List State
+record HasNode (IsMember : List ℕ → Type 0) (states : List StateValue) : Type 0 where
+  more : List StateValue
   registry : IsRegistry (states ++ more)
   number : ℕ
   inside : number < length (states ++ more)
   node : IsRightLanguageOf IsMember (states ++ more) number
 
-record HasEdges (IsMember : List ℕ → Type 0) (states : List State) (ranks : List ℕ) : Type 0 where
-  more : List State
+record HasEdges (IsMember : List ℕ → Type 0) (states : List StateValue) (ranks : List ℕ) : Type 0 where
+  more : List StateValue
   registry : IsRegistry (states ++ more)
   edges : List Edge
   are : AllByRecursion (IsEdgeOf IsMember (states ++ more)) edges
   ranks_are : map (λ (edge : Edge). edge.rank) edges ≡ ranks
 
-edge_stays : (IsMember : List ℕ → Type 0) (states more : List State) → IsRegistry states → (edge : Edge) → IsEdgeOf IsMember states edge → IsEdgeOf IsMember (states ++ more) edge
+edge_stays : (IsMember : List ℕ → Type 0) (states more : List StateValue) → IsRegistry states → (edge : Edge) → IsEdgeOf IsMember states edge → IsEdgeOf IsMember (states ++ more) edge
 edge_stays IsMember states more registry edge is = record {
   inside = omega (arith, is.inside, length-append states more);
   more = is.more;
@@ -255,7 +255,7 @@ edge_stays IsMember states more registry edge is = record {
   node = node-stays states registry (λ ranks. IsMember (edge.rank ∷ ranks)) more edge.to is.inside is.node;
 }
 
-edges_stay : (IsMember : List ℕ → Type 0) (states more : List State) → IsRegistry states → (edges : List Edge) → AllByRecursion (IsEdgeOf IsMember states) edges → AllByRecursion (IsEdgeOf IsMember (states ++ more)) edges
+edges_stay : (IsMember : List ℕ → Type 0) (states more : List StateValue) → IsRegistry states → (edges : List Edge) → AllByRecursion (IsEdgeOf IsMember states) edges → AllByRecursion (IsEdgeOf IsMember (states ++ more)) edges
 edges_stay IsMember states more registry [] are = tt
 edges_stay IsMember states more registry (e ∷ edges) are = (edge_stays IsMember states more registry e are.0, edges_stay IsMember states more registry edges are.1)
 
@@ -276,9 +276,9 @@ abbrev Short : ℕ → List (List ℕ) → Type 0
 Short n lists = (list : List ℕ) → Contains lists list → length list ≤ n
 
 -- edges for these first ranks, where lists that are shorter have nodes
-edges_for : (lists : List (List ℕ)) → ((w : ℕ) (states : List State) → IsRegistry states → HasNode (Contains (tails w lists)) states)
+edges_for : (lists : List (List ℕ)) → ((w : ℕ) (states : List StateValue) → IsRegistry states → HasNode (Contains (tails w lists)) states)
     → (ranks : List ℕ) → ((w : ℕ) → Contains ranks w → (more : List ℕ) × Contains lists (w ∷ more))
-    → (states : List State) → IsRegistry states → HasEdges (Contains lists) states ranks
+    → (states : List StateValue) → IsRegistry states → HasEdges (Contains lists) states ranks
 edges_for lists shorter [] each states registry = record {
   more = [];
   registry = subst IsRegistry (sym (append-nil states)) registry;
@@ -311,7 +311,7 @@ edges_for lists shorter (w ∷ ranks) each states registry =
     }
 
 -- the state for the lists
-state_is : (lists : List (List ℕ)) (states : List State) (heads : List ℕ) → AreHeads lists heads → (has : HasEdges (Contains lists) states heads)
+state_is : (lists : List (List ℕ)) (states : List StateValue) (heads : List ℕ) → AreHeads lists heads → (has : HasEdges (Contains lists) states heads)
     → IsStateOf (Contains lists) (states ++ has.more) (record { accepts = has_empty lists; edges = has.edges })
 state_is lists states heads are has = record {
   accepts = empty-exact lists;
@@ -323,8 +323,8 @@ state_is lists states heads are has = record {
       (edge, inside, sym same));
 }
 
-state_for : (lists : List (List ℕ)) (states : List State) (heads : List ℕ) → AreHeads lists heads → (has : HasEdges (Contains lists) states heads)
-    → (state : State) → IsStateOf (Contains lists) (states ++ has.more) state
+state_for : (lists : List (List ℕ)) (states : List StateValue) (heads : List ℕ) → AreHeads lists heads → (has : HasEdges (Contains lists) states heads)
+    → (state : StateValue) → IsStateOf (Contains lists) (states ++ has.more) state
     → Contains (states ++ has.more) state ⊎ (Contains (states ++ has.more) state → ⊥) → HasNode (Contains lists) states
 state_for lists states heads are has state is (inl held) =
     let (number, at) = get-some_of (states ++ has.more) state held in
@@ -345,13 +345,13 @@ state_for lists states heads are has state is (inr fresh) =
       node = subst (λ l. IsRightLanguageOf (Contains lists) l (length (states ++ has.more))) whole (node-pushed (states ++ has.more) has.registry (Contains lists) state is);
     }
 
-node_with : (lists : List (List ℕ)) (states : List State) (heads : List ℕ) → AreHeads lists heads → HasEdges (Contains lists) states heads → HasNode (Contains lists) states
+node_with : (lists : List (List ℕ)) (states : List StateValue) (heads : List ℕ) → AreHeads lists heads → HasEdges (Contains lists) states heads → HasNode (Contains lists) states
 node_with lists states heads are has =
-    let state : State = record { accepts = has_empty lists; edges = has.edges } in
+    let state : StateValue = record { accepts = has_empty lists; edges = has.edges } in
     state_for lists states heads are has state (state_is lists states heads are has) (there_decided (states ++ has.more) state)
 
 -- lists of so many ranks at most have a node in some larger registry
-short_node : (n : ℕ) (lists : List (List ℕ)) → Short n lists → (states : List State) → IsRegistry states → HasNode (Contains lists) states
+short_node : (n : ℕ) (lists : List (List ℕ)) → Short n lists → (states : List StateValue) → IsRegistry states → HasNode (Contains lists) states
 short_node zero lists short states registry =
     node_with lists states [] (record {
       rising = λ i j e less inside. absurd (omega (arith, inside));

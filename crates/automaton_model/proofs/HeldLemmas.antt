@@ -14,8 +14,8 @@ use Rattle.std.proofs.lemmas.Bool.{cases_Bool}
 use Rattle.indexmap.specs.IndexSet.{insert_key}
 use Rattle.mine_model.proofs.ListLemmas.{Contains-cases, Contains-none, Contains-first, Contains-other}
 use Rattle.mine_model.proofs.ElementLemmas.{slice_get-mapped_by}
-use Rattle.automaton_model.specs.declared.state.State.{State as HeldState}
-use Rattle.automaton_model.specs.Automata.{Edge, State, state_of}
+use Rattle.automaton_model.specs.declared.state.State.{State}
+use Rattle.automaton_model.specs.Automata.{Edge, StateValue, state_of}
 use Rattle.automaton_model.specs.Registry.{IsKeptState, IsRegistry}
 use Rattle.automaton_model.proofs.LanguageLemmas.{kept-pushed}
 
@@ -27,25 +27,25 @@ edge_decides e f =
     Decides-like (edge_eq e f) (λ same i. record { rank = same.0 i; to = same.1 i }) (λ same. (ap (λ (x : Edge). x.rank) same, ap (λ (x : Edge). x.to) same))
     (Decides-and (e.rank == f.rank) (e.to == f.to) (Decides-eqb e.rank f.rank) (Decides-eqb e.to f.to))
 
-abbrev pub held_eq : HeldState → HeldState → Bool
+abbrev pub held_eq : State → State → Bool
 held_eq s t = beq s.accepts t.accepts && pointwise edge_eq s.edges.items t.edges.items
 
-pub held-decides : (s t : HeldState) → Decides (held_eq s t) (state_of s ≡ state_of t)
+pub held-decides : (s t : State) → Decides (held_eq s t) (state_of s ≡ state_of t)
 held-decides s t =
     Decides-like (held_eq s t) (λ same i. record { accepts = same.0 i; edges = same.1 i })
-    (λ same. (ap (λ (x : State). x.accepts) same, ap (λ (x : State). x.edges) same))
+    (λ same. (ap (λ (x : StateValue). x.accepts) same, ap (λ (x : StateValue). x.edges) same))
     (Decides-and (beq s.accepts t.accepts) (pointwise edge_eq s.edges.items t.edges.items) (booleans_Decides s.accepts t.accepts)
     (slice_eq-Decides edge_decides s.edges.items t.edges.items (pointwise edge_eq s.edges.items t.edges.items) refl))
 
 -- the place where a look-up finds the state
-pub found-at : (s : HeldState) (keys : List HeldState) (i : ℕ) → position (held_eq s) keys ≡ Some i → slice_get (map state_of keys) i ≡ Some (state_of s)
+pub found-at : (s : State) (keys : List State) (i : ℕ) → position (held_eq s) keys ≡ Some i → slice_get (map state_of keys) i ≡ Some (state_of s)
 found-at s keys i found =
     let (inside, passes, first) = position-Some (held_eq s) keys i s found in
     slice_get-mapped_by state_of keys i (get_or keys i s) (slice_get-get_or keys i s inside)
     ∙ ap (λ x. Some x) (sym ((held-decides s (get_or keys i s)).0 passes))
 
 -- where it finds none the state is not there
-pub not-found : (s : HeldState) (keys : List HeldState) → list_any (held_eq s) keys ≡ false → Contains (map state_of keys) (state_of s) → ⊥
+pub not-found : (s : State) (keys : List State) → list_any (held_eq s) keys ≡ false → Contains (map state_of keys) (state_of s) → ⊥
 not-found s [] none held = Contains-none (state_of s) held
 not-found s (k ∷ keys) none held = by (held_eq s k) (held-decides s k) none (λ other later. not-found s keys other later)
   where
@@ -57,7 +57,7 @@ not-found s (k ∷ keys) none held = by (held_eq s k) (held-decides s k) none (�
       | inr later ↦ rest other later
     ]
 
-some-found : (s : HeldState) (keys : List HeldState) → list_any (held_eq s) keys ≡ true → Contains (map state_of keys) (state_of s)
+some-found : (s : State) (keys : List State) → list_any (held_eq s) keys ≡ true → Contains (map state_of keys) (state_of s)
 some-found s [] found = absurd (true≢false (sym found))
 some-found s (k ∷ keys) found = by (held_eq s k) (held-decides s k) found (λ later. some-found s keys later)
   where
@@ -67,16 +67,16 @@ some-found s (k ∷ keys) found = by (held_eq s k) (held-decides s k) found (λ 
     by false decides later rest = Contains-other (state_of k) (map state_of keys) (state_of s) (rest later)
 
 -- a copy of a state that is not there is pushed behind the others
-pub held-pushed : (s copy : HeldState) (keys after : List HeldState) → state_of copy ≡ state_of s → list_any (held_eq s) keys ≡ false
+pub held-pushed : (s copy : State) (keys after : List State) → state_of copy ≡ state_of s → list_any (held_eq s) keys ≡ false
     → after ≡ insert_key held_eq keys copy → map state_of after ≡ map state_of keys ++ state_of s ∷ []
 held-pushed s copy keys after same none are = elim (cases_Bool (list_any (held_eq copy) keys)) [
   | inl there ↦ absurd (not-found s keys none (subst (Contains (map state_of keys)) same (some-found copy keys there)))
   | inr new ↦ (let pushed : after ≡ keys ++ copy ∷ [] = are ∙ ap (λ (b : Bool). if b then keys else keys ++ copy ∷ []) new in
-      ap (map state_of) pushed ∙ map-append state_of keys (copy ∷ []) ∙ ap (λ (x : State). map state_of keys ++ x ∷ []) same)
+      ap (map state_of) pushed ∙ map-append state_of keys (copy ∷ []) ∙ ap (λ (x : StateValue). map state_of keys ++ x ∷ []) same)
 ]
 
 -- the registry with it
-pub registry-grown : (s copy : HeldState) (keys after : List HeldState) → IsRegistry (map state_of keys) → IsKeptState (map state_of keys) (length (map state_of keys)) (state_of s)
+pub registry-grown : (s copy : State) (keys after : List State) → IsRegistry (map state_of keys) → IsKeptState (map state_of keys) (length (map state_of keys)) (state_of s)
     → state_of copy ≡ state_of s → list_any (held_eq s) keys ≡ false → after ≡ insert_key held_eq keys copy → IsRegistry (map state_of after)
 registry-grown s copy keys after registry kept same none are =
     subst IsRegistry (sym (held-pushed s copy keys after same none are))

@@ -4,45 +4,45 @@ use Rattle.std.specs.Prelude.{IsTrue}
 use Rattle.std.specs.List.{Contains, slice_get}
 use Rattle.mine_model.proofs.ListLemmas.{Contains-cases, Contains-none, AllPairs-append}
 use Rattle.mine_model.proofs.ElementLemmas.{get-some, get-left, get_snoc, get_last}
-use Rattle.automaton_model.specs.Automata.{State, Accepts}
+use Rattle.automaton_model.specs.Automata.{StateValue, Accepts}
 use Rattle.automaton_model.specs.Registry.{IsKeptState, IsRegistry}
 use Rattle.automaton_model.specs.Languages.{IsRightLanguageOf, IsStateOf}
 use Rattle.automaton_model.proofs.AutomatonLemmas.{one_of}
 use Rattle.automaton_model.proofs.RegistryLemmas.{registry-same}
 
 -- what is accepted stays accepted
-pub accepts-more : (states more : List State) (ranks : List ℕ) (k : ℕ) → Accepts states k ranks → Accepts (states ++ more) k ranks
+pub accepts-more : (states more : List StateValue) (ranks : List ℕ) (k : ℕ) → Accepts states k ranks → Accepts (states ++ more) k ranks
 accepts-more states more [] k (s, is, accepts) = (s, get-left states more k s is, accepts)
 accepts-more states more (w ∷ ranks) k (s, e, is, held, rank, next) = (s, e, get-left states more k s is, held, rank, accepts-more states more ranks e.to next)
 
 -- a state that may be kept may be kept with one more behind the others
-pub kept-later : (states : List State) (state : State) (number : ℕ) (s : State) → IsKeptState states number s → IsKeptState (states ++ state ∷ []) number s
+pub kept-later : (states : List StateValue) (state : StateValue) (number : ℕ) (s : StateValue) → IsKeptState states number s → IsKeptState (states ++ state ∷ []) number s
 kept-later states state number s kept = record {
   rising = kept.rising;
   back = kept.back;
   alive = λ edge held. (let (ranks, accepts) = kept.alive edge held in (ranks, accepts-more states (state ∷ []) ranks edge.to accepts));
 }
 
-module _ (states : List State) (registry : IsRegistry states) where
+module _ (states : List StateValue) (registry : IsRegistry states) where
   -- and no more is, from the states that were there
-  pub accepts-less : (more : List State) (ranks : List ℕ) (k : ℕ) → k < length states → Accepts (states ++ more) k ranks → Accepts states k ranks
+  pub accepts-less : (more : List StateValue) (ranks : List ℕ) (k : ℕ) → k < length states → Accepts (states ++ more) k ranks → Accepts states k ranks
   accepts-less more [] k below (s, is, accepts) =
       let (t, at) = get-some states k below in
-      (t, at, subst (λ (x : State). IsTrue x.accepts) (one_of s t (slice_get (states ++ more) k) is (get-left states more k t at)) accepts)
+      (t, at, subst (λ (x : StateValue). IsTrue x.accepts) (one_of s t (slice_get (states ++ more) k) is (get-left states more k t at)) accepts)
   accepts-less more (w ∷ ranks) k below (s, e, is, held, rank, next) =
       let (t, at) = get-some states k below in
-      let inside : Contains t.edges e = subst (λ (x : State). Contains x.edges e) (one_of s t (slice_get (states ++ more) k) is (get-left states more k t at)) held in
+      let inside : Contains t.edges e = subst (λ (x : StateValue). Contains x.edges e) (one_of s t (slice_get (states ++ more) k) is (get-left states more k t at)) held in
       let less : e.to < length states = omega (arith, (registry.kept k t at).back e inside, below) in
       (t, e, at, inside, rank, accepts-less more ranks e.to less next)
 
-  pub node-stays : (IsMember : List ℕ → Type 0) (more : List State) (k : ℕ) → k < length states → IsRightLanguageOf IsMember states k → IsRightLanguageOf IsMember (states ++ more) k
+  pub node-stays : (IsMember : List ℕ → Type 0) (more : List StateValue) (k : ℕ) → k < length states → IsRightLanguageOf IsMember states k → IsRightLanguageOf IsMember (states ++ more) k
   node-stays IsMember more k below node = λ ranks. (
     (λ a. (node ranks).0 (accepts-less more ranks k below a)),
     (λ m. accepts-more states more ranks k ((node ranks).1 m)),
   )
 
   -- a state that is not there yet may be pushed where its edges lead back to states that accept something
-  pub kept-pushed : (state : State) → IsKeptState states (length states) state → ((other : State) → Contains states other → other ≢ state)
+  pub kept-pushed : (state : StateValue) → IsKeptState states (length states) state → ((other : StateValue) → Contains states other → other ≢ state)
       → IsRegistry (states ++ state ∷ [])
   kept-pushed state kept new = record {
     kept = λ number s at. elim (get_snoc states state number s at) [
@@ -50,7 +50,7 @@ module _ (states : List State) (registry : IsRegistry states) where
       | inr last ↦ subst (λ n. IsKeptState (states ++ state ∷ []) n s) (sym last.0)
           (subst (IsKeptState (states ++ state ∷ []) (length states)) last.1 (kept-later states state (length states) state kept))
     ];
-    once = AllPairs-append (λ (first : State) second. first ≢ second) states (state ∷ []) registry.once
+    once = AllPairs-append (λ (first : StateValue) second. first ≢ second) states (state ∷ []) registry.once
         (λ i j e less inside. absurd (omega (arith, less, inside)))
         (λ x y held last. elim (Contains-cases state [] y last) [
           | inl same ↦ (λ equal. new x held (equal ∙ same))
@@ -58,17 +58,17 @@ module _ (states : List State) (registry : IsRegistry states) where
         ]);
   }
 
-  module _ (IsMember : List ℕ → Type 0) (state : State) (is : IsStateOf IsMember states state) where
+  module _ (IsMember : List ℕ → Type 0) (state : StateValue) (is : IsStateOf IsMember states state) where
     -- a state that tells the set accepts it, where it stands
-    pub node-here : (all : List State) (k : ℕ) → slice_get all k ≡ Some state
+    pub node-here : (all : List StateValue) (k : ℕ) → slice_get all k ≡ Some state
         → ((ranks : List ℕ) (j : ℕ) → j < length states → Accepts all j ranks ↔ Accepts states j ranks) → IsRightLanguageOf IsMember all k
     node-here all k at same [] = (
-      (λ (s, s_is, accepts). is.accepts.0 (subst (λ (x : State). IsTrue x.accepts) (one_of s state (slice_get all k) s_is at) accepts)),
+      (λ (s, s_is, accepts). is.accepts.0 (subst (λ (x : StateValue). IsTrue x.accepts) (one_of s state (slice_get all k) s_is at) accepts)),
       (λ member. (state, at, is.accepts.1 member)),
     )
     node-here all k at same (w ∷ ranks) = (
       (λ (s, e, s_is, held, rank, next).
-          let edge = is.edge e (subst (λ (x : State). Contains x.edges e) (one_of s state (slice_get all k) s_is at) held) in
+          let edge = is.edge e (subst (λ (x : StateValue). Contains x.edges e) (one_of s state (slice_get all k) s_is at) held) in
           subst (λ r. IsMember (r ∷ ranks)) rank ((edge.node ranks).0 ((same ranks e.to edge.inside).0 next))),
       (λ member.
           let (e, held, rank) = is.all w ranks member in
@@ -93,7 +93,7 @@ module _ (states : List State) (registry : IsRegistry states) where
     }
 
     -- and the registry stays one
-    pub registry-pushed : ((other : State) → Contains states other → other ≢ state) → IsRegistry (states ++ state ∷ [])
+    pub registry-pushed : ((other : StateValue) → Contains states other → other ≢ state) → IsRegistry (states ++ state ∷ [])
     registry-pushed new = kept-pushed state kept_new new
 
   -- equal sets have equal nodes, and nodes that are equal have equal sets

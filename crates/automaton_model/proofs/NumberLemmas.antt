@@ -13,13 +13,13 @@ use Rattle.std.proofs.lemmas.Map.Made.{IsDistinct-from_AllPairs}
 use Rattle.std.proofs.lemmas.Map.Views.{Contains-from_any}
 use Rattle.mine_model.proofs.ListLemmas.{Contains-cases, Contains-first, Contains-other, Contains-none, Contains-from, AllPairs-tail, AllPairs-head}
 use Rattle.mine_model.proofs.ElementLemmas.{get-some}
-use Rattle.automaton_model.specs.Automata.{Edge, State, Accepts, code_of}
+use Rattle.automaton_model.specs.Automata.{Edge, StateValue, Accepts, code_of}
 use Rattle.automaton_model.specs.Codes.{IsCodeOf}
 use Rattle.automaton_model.specs.Registry.{IsRegistry}
 use Rattle.automaton_model.specs.Walks.{Reaches, Path, IsVisited, IsWalk, paths_from, IsRenumberedEdge, IsRenumbered, states_of, number_in, renumbered_edge, renumbered, dead_state}
 use Rattle.automaton_model.proofs.WalkLemmas.{reaches-join, walk-begin, walk-skip, walk-visit, walk-end}
 
-abbrev pub new_states : List State → List ℕ → List ℕ → List State
+abbrev pub new_states : List StateValue → List ℕ → List ℕ → List StateValue
 new_states states visited part = map (λ k. renumbered visited (get_or states k dead_state)) part
 
 visited_decided : (visits : List Path) (state : ℕ) → IsVisited visits state ⊎ (IsVisited visits state → ⊥)
@@ -52,24 +52,24 @@ numbered (first ∷ visits) state (visit, held, same) =
       | inr later ↦ numbered visits state (visit, later, same)
     ])
 
-module _ (states : List State) (registry : IsRegistry states) where
+module _ (states : List StateValue) (registry : IsRegistry states) where
   -- where a path leads to stands a state
-  pub standing_at : (i : ℕ) (s : State) → slice_get states i ≡ Some s → (xs : List ℕ) (j : ℕ) → Reaches states i xs j → (t : State) × (slice_get states j ≡ Some t)
+  pub standing_at : (i : ℕ) (s : StateValue) → slice_get states i ≡ Some s → (xs : List ℕ) (j : ℕ) → Reaches states i xs j → (t : StateValue) × (slice_get states j ≡ Some t)
   standing_at i s is [] j reached = (s, subst (λ n. slice_get states n ≡ Some s) reached is)
   standing_at i s is (w ∷ xs) j (t, e, also, held, rank, next) =
       let (u, u_is) = get-some states e.to (omega (arith, (registry.kept i t also).back e held, slice_get_within states i s is)) in standing_at e.to u u_is xs j next
 
-module _ (states : List State) (registry : IsRegistry states) (root : ℕ) (some : State) (some_is : slice_get states root ≡ Some some) where
+module _ (states : List StateValue) (registry : IsRegistry states) (root : ℕ) (some : StateValue) (some_is : slice_get states root ≡ Some some) where
   module _ (visits : List Path) (walk : IsWalk states root visits []) where
     -- an edge of a visited state leads to a visited one
-    pub target : (visit : Path) → Contains visits visit → (old : State) → slice_get states visit.state ≡ Some old → (e : Edge) → Contains old.edges e → IsVisited visits e.to
+    pub target : (visit : Path) → Contains visits visit → (old : StateValue) → slice_get states visit.state ≡ Some old → (e : Edge) → Contains old.edges e → IsVisited visits e.to
     target visit held old old_is e inside =
         elim (walk.all (visit.prefix ++ e.rank ∷ []) e.to (reaches-join states registry visit.prefix (e.rank ∷ []) root visit.state e.to (walk.visited visit held) (old, e, old_is, inside, refl, refl))) [
           | inl done ↦ done
           | inr ahead ↦ (let (path, more, waits, cut, rest) = ahead in absurd (Contains-none path waits))
         ]
 
-    edges_zip : (visit : Path) → Contains visits visit → (old : State) → slice_get states visit.state ≡ Some old
+    edges_zip : (visit : Path) → Contains visits visit → (old : StateValue) → slice_get states visit.state ≡ Some old
         → (edges : List Edge) → ((e : Edge) → Contains edges e → Contains old.edges e) → AllZip (IsRenumberedEdge visits) edges (map (renumbered_edge (states_of visits)) edges)
     edges_zip visit held old old_is [] among = tt
     edges_zip visit held old old_is (e ∷ edges) among = (
@@ -79,7 +79,7 @@ module _ (states : List State) (registry : IsRegistry states) (root : ℕ) (some
     )
 
     -- a visited state stands in the registry
-    stands_there : (visit : Path) → Contains visits visit → (old : State) × (slice_get states visit.state ≡ Some old)
+    stands_there : (visit : Path) → Contains visits visit → (old : StateValue) × (slice_get states visit.state ≡ Some old)
     stands_there visit held = standing_at states registry root some some_is visit.prefix visit.state (walk.visited visit held)
 
     states_zip : (part : List Path) → ((visit : Path) → Contains part visit → Contains visits visit) → AllZip (IsRenumbered states visits) part (new_states states (states_of visits) (states_of part))
@@ -88,7 +88,7 @@ module _ (states : List State) (registry : IsRegistry states) (root : ℕ) (some
       (let held = among visit (Contains-first visit part) in
           let (old, old_is) = stands_there visit held in
           let same : old ≡ get_or states visit.state dead_state = sym (get_or_from_slice_get states visit.state old dead_state old_is) in
-          subst (λ (s : State). IsRenumbered states visits visit (renumbered (states_of visits) s)) same
+          subst (λ (s : StateValue). IsRenumbered states visits visit (renumbered (states_of visits) s)) same
           (record { old = old; old_is = old_is; accepts = refl; edges = edges_zip visit held old old_is old.edges (λ e inside. inside) })),
       states_zip part (λ v held. among v (Contains-other visit part v held)),
     )

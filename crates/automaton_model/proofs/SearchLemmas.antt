@@ -2,7 +2,7 @@
 use Rattle.std.proofs.Common.{◌≡◌, ℕ, ◌+◌, ◌≤◌, ◌<◌, inl, inr, List, [], ◌∷◌, ◌++◌, sym, ◌∙◌, subst, arith}
 use Rattle.mine_model.specs.Support.{Counts}
 use Rattle.mine_model.proofs.FrequencyLemmas.{Counts-le}
-use Rattle.automaton_model.specs.Automata.{Edge, State, Accepts}
+use Rattle.automaton_model.specs.Automata.{Edge, StateValue, Accepts}
 use Rattle.automaton_model.specs.Registry.{IsRegistry}
 use Rattle.automaton_model.proofs.WalkLemmas.{edge_one}
 use Rattle.automaton_model.specs.declared.groups.Group.{Group}
@@ -22,7 +22,7 @@ too-light groups prefix more n m threshold begun light counted enough =
 
 -- Loads at states of a registry
 
-module _ (states : List State) (registry : IsRegistry states) where
+module _ (states : List StateValue) (registry : IsRegistry states) where
   first : (rank : ℕ) (ranks : List ℕ) (load : Load) (loads : List Load) (edge : Edge) → LeavesBy states load.state rank edge → (others : List Load)
       → ((m : ℕ) → Weigh (λ k. Accepts states k ranks) others m → Weigh (λ k. Accepts states k (rank ∷ ranks)) loads m)
       → (n : ℕ) → Weigh (λ k. Accepts states k ranks) ((record { state = edge.to; weight = load.weight }) ∷ others) n

@@ -12,7 +12,7 @@ use Rattle.indexmap.specs.IndexSet.{insert_key}
 use Rattle.indexmap.proofs.ReorderLemmas.{map-reverse}
 use Rattle.mine_model.proofs.ListLemmas.{Contains-first, Contains-from, Contains-by}
 use Rattle.mine_model.proofs.ElementLemmas.{get-some}
-use Rattle.automaton_model.specs.Automata.{Edge, State, Accepts, state_code, code_of}
+use Rattle.automaton_model.specs.Automata.{Edge, StateValue, Accepts, state_code, code_of}
 use Rattle.automaton_model.specs.Codes.{IsCodeOf}
 use Rattle.automaton_model.specs.Registry.{IsRegistry}
 use Rattle.automaton_model.specs.Walks.{Path, IsVisited, IsWalk, paths_from, states_of, AreVisited, renumbered, dead_state}
@@ -23,7 +23,7 @@ targets_of : (path : Path) (edges : List Edge) → states_of (paths_from path ed
 targets_of path [] = refl
 targets_of path (e ∷ edges) = ap (λ (l : List ℕ). e.to ∷ l) (targets_of path edges)
 
-module _ (states : List State) (registry : IsRegistry states) (root : ℕ) (inside : root < length states) where
+module _ (states : List StateValue) (registry : IsRegistry states) (root : ℕ) (inside : root < length states) where
   pub visited-begin : AreVisited states root [] (root ∷ [])
   visited-begin = ([], (record { prefix = []; state = root }) ∷ [], walk-begin states registry root, refl, refl)
 
@@ -43,7 +43,7 @@ module _ (states : List State) (registry : IsRegistry states) (root : ℕ) (insi
       (visits, stack, walk-skip states registry root visits path stack walk (visit, among, sym same ∙ first), done, others)
 
   -- one that was not is visited, and the states wait to which its edges lead
-  pub visited-next : (visited rest : List ℕ) (number : ℕ) (state : State) → AreVisited states root visited (number ∷ rest) → (Contains visited number → ⊥)
+  pub visited-next : (visited rest : List ℕ) (number : ℕ) (state : StateValue) → AreVisited states root visited (number ∷ rest) → (Contains visited number → ⊥)
       → slice_get states number ≡ Some state → AreVisited states root (visited ++ number ∷ []) (map (λ (edge : Edge). edge.to) state.edges ++ rest)
   visited-next visited rest number state (visits, [], walk, done, waits) fresh is = absurd (cc)
   visited-next visited rest number state (visits, path ∷ stack, walk, done, waits) fresh is =
@@ -90,7 +90,7 @@ module _ (states : List State) (registry : IsRegistry states) (root : ℕ) (insi
       subst (λ (l : List ℕ). AreVisited states root l (reverse rest)) (sym same)
       (visited-pass visited (reverse rest) number are (Contains-from_any (λ x y. eqb-true x y) number visited there))
 
-  pub visits-next : (visited after rest waiting : List ℕ) (number : ℕ) (state : State) → AreVisited states root visited (number ∷ reverse rest)
+  pub visits-next : (visited after rest waiting : List ℕ) (number : ℕ) (state : StateValue) → AreVisited states root visited (number ∷ reverse rest)
       → list_any (λ k. number == k) visited ≡ false → after ≡ insert_key (λ a b. a == b) visited number → slice_get states number ≡ Some state
       → waiting ≡ rest ++ map (λ (edge : Edge). edge.to) (reverse state.edges) → AreVisited states root after (reverse waiting)
   visits-next visited after rest waiting number state are new inserts is waits =
@@ -111,7 +111,7 @@ module _ (states : List State) (registry : IsRegistry states) (root : ℕ) (insi
         subst (λ n. n < length states) (sym same) (stands visit visits stack walk among)
 
     -- the edges of a visited state lead to visited states
-    pub visited-target : (number : ℕ) (state : State) (edge : Edge) → Contains visited number → slice_get states number ≡ Some state → Contains state.edges edge → Contains visited edge.to
+    pub visited-target : (number : ℕ) (state : StateValue) (edge : Edge) → Contains visited number → slice_get states number ≡ Some state → Contains state.edges edge → Contains visited edge.to
     visited-target number state edge held is on = go all
       where
         go : AreVisited states root visited [] → Contains visited edge.to
@@ -134,11 +134,11 @@ module _ (states : List State) (registry : IsRegistry states) (root : ℕ) (insi
             (walk-code states registry root s s_is visits walk)
 
 -- one state more is written
-pub code-step : (states : List State) (visited part : List ℕ) (number : ℕ) (state : State) → slice_get states number ≡ Some state
+pub code-step : (states : List StateValue) (visited part : List ℕ) (number : ℕ) (state : StateValue) → slice_get states number ≡ Some state
     → code_of (new_states states visited (part ++ number ∷ [])) ≡ code_of (new_states states visited part) ++ state_code (renumbered visited state)
 code-step states visited [] number state is =
     append-nil (state_code (renumbered visited (get_or states number dead_state)))
-    ∙ ap (λ (s : State). state_code (renumbered visited s)) (get_or_from_slice_get states number state dead_state is)
+    ∙ ap (λ (s : StateValue). state_code (renumbered visited s)) (get_or_from_slice_get states number state dead_state is)
 code-step states visited (k ∷ part) number state is =
     let first : List ℕ = state_code (renumbered visited (get_or states k dead_state)) in
     ap (λ (l : List ℕ). first ++ l) (code-step states visited part number state is)

@@ -14,7 +14,7 @@ use Rattle.mine_model.proofs.ListLemmas.{Contains-cases, Contains-first, Contain
 use Rattle.mine_model.proofs.ElementLemmas.{get-held}
 use Rattle.std.proofs.lemmas.List.Elements.{Contains-append_left, Contains-append_right, Contains-append_cases}
 use Rattle.std.proofs.lemmas.List.Kept.{AllPairs-cons}
-use Rattle.automaton_model.specs.Automata.{Edge, State, Accepts}
+use Rattle.automaton_model.specs.Automata.{Edge, StateValue, Accepts}
 use Rattle.automaton_model.specs.Codes.{IsEarlier, IsPrefixIn, AreNerodeEquivalent, IsFirstVisit, Leads, IsStateAfter, IsMinimalAutomaton}
 use Rattle.automaton_model.specs.Registry.{IsRegistry}
 use Rattle.automaton_model.specs.Walks.{Reaches, Path, PartsBefore, IsVisited, IsAheadOn, IsWalk, paths_from, IsRenumberedEdge, IsRenumbered}
@@ -68,7 +68,7 @@ cut_off : (common us vs : List ℕ) → common ++ us ≡ common ++ vs → us ≡
 cut_off [] us vs same = same
 cut_off (x ∷ common) us vs same = let rest : common ++ us ≡ common ++ vs = cc in cut_off common us vs rest
 
-module _ (states : List State) (registry : IsRegistry states) where
+module _ (states : List StateValue) (registry : IsRegistry states) where
   -- Paths
 
   pub reaches-join : (xs ys : List ℕ) (i j k : ℕ) → Reaches states i xs j → Reaches states j ys k → Reaches states i (xs ++ ys) k
@@ -80,9 +80,9 @@ module _ (states : List State) (registry : IsRegistry states) where
   reaches-accepts (w ∷ xs) ys i j (s, e, is, held, rank, next) q = (s, e, is, held, rank, reaches-accepts xs ys e.to j next q)
 
   -- one edge for each rank
-  pub edge_one : (i : ℕ) (s t : State) (e f : Edge) → slice_get states i ≡ Some s → slice_get states i ≡ Some t → Contains s.edges e → Contains t.edges f → e.rank ≡ f.rank → e ≡ f
+  pub edge_one : (i : ℕ) (s t : StateValue) (e f : Edge) → slice_get states i ≡ Some s → slice_get states i ≡ Some t → Contains s.edges e → Contains t.edges f → e.rank ≡ f.rank → e ≡ f
   edge_one i s t e f p q here there same =
-      let moved : Contains s.edges f = subst (λ (x : State). Contains x.edges f) (one_of t s (slice_get states i) q p) there in
+      let moved : Contains s.edges f = subst (λ (x : StateValue). Contains x.edges f) (one_of t s (slice_get states i) q p) there in
       rank_same states registry s.edges (registry.kept i s p).rising e f here moved same
 
   accepts-after : (xs ys : List ℕ) (i j : ℕ) → Reaches states i xs j → Accepts states i (xs ++ ys) → Accepts states j ys
@@ -208,7 +208,7 @@ module _ (states : List State) (registry : IsRegistry states) where
           ]
 
       -- A STATE THAT WAS NOT VISITED is visited, and the paths by its edges wait
-      module _ (fresh : IsVisited visits path.state → ⊥) (s : State) (is : slice_get states path.state ≡ Some s) where
+      module _ (fresh : IsVisited visits path.state → ⊥) (s : StateValue) (is : slice_get states path.state ≡ Some s) where
         abbrev kids : List Path
         kids = paths_from path s.edges
 
@@ -339,7 +339,7 @@ module _ (states : List State) (registry : IsRegistry states) where
                 → IsVisited (visits ++ path ∷ []) to ⊎ IsAheadOn states (kids ++ waiting) prefix to
             onward prefix to [] cut rest = inl (path, now_seen, rest)
             onward prefix to (w ∷ more) cut (t, edge, also, inside, rank, next) =
-                let held : Contains s.edges edge = subst (λ (x : State). Contains x.edges edge) (one_of t s (slice_get states path.state) also is) inside in
+                let held : Contains s.edges edge = subst (λ (x : StateValue). Contains x.edges edge) (one_of t s (slice_get states path.state) also is) inside in
                 inr (
                   record { prefix = path.prefix ++ edge.rank ∷ []; state = edge.to },
                   more,
@@ -349,8 +349,8 @@ module _ (states : List State) (registry : IsRegistry states) where
                 )
 
     -- THE END: what was visited, with the numbers of the visits, is the minimal automaton
-    module _ (visits : List Path) (walk : IsWalk states root visits []) (some : State) (some_is : slice_get states root ≡ Some some)
-        (new : List State) (zip : AllZip (IsRenumbered states visits) visits new) where
+    module _ (visits : List Path) (walk : IsWalk states root visits []) (some : StateValue) (some_is : slice_get states root ≡ Some some)
+        (new : List StateValue) (zip : AllZip (IsRenumbered states visits) visits new) where
       abbrev Member : List ℕ → Type 0
       Member ranks = Accepts states root ranks
 
@@ -372,7 +372,7 @@ module _ (states : List State) (registry : IsRegistry states) where
         (λ m. reaches-accepts x more root i p (subst (λ n. Accepts states n more) (sym same) (accepts-after y more root j q m))),
       )
 
-      standing : (x : List ℕ) (i : ℕ) → Reaches states root x i → (s : State) × (slice_get states i ≡ Some s)
+      standing : (x : List ℕ) (i : ℕ) → Reaches states root x i → (s : StateValue) × (slice_get states i ≡ Some s)
       standing [] i p = (some, subst (λ n. slice_get states n ≡ Some some) p some_is)
       standing (w ∷ x) i p = let (more, accepts) = alive-behind w x root i p in stands states i more accepts
 
@@ -445,7 +445,7 @@ module _ (states : List State) (registry : IsRegistry states) where
               let first : f.rank ≡ e.rank = zip.0.rank in
               omega (arith, less, first, is.rank)
 
-      state_after : (visit : Path) → Contains visits visit → (new_state : State) → IsRenumbered states visits visit new_state → IsStateAfter Member prefixes visit.prefix new_state
+      state_after : (visit : Path) → Contains visits visit → (new_state : StateValue) → IsRenumbered states visits visit new_state → IsStateAfter Member prefixes visit.prefix new_state
       state_after visit held new_state is =
           let reached : Reaches states root visit.prefix visit.state = walk.visited visit held in
           record {
@@ -458,7 +458,7 @@ module _ (states : List State) (registry : IsRegistry states) where
           }
         where
           flag_back : Accepts states visit.state [] → IsTrue new_state.accepts
-          flag_back (t, also, accepts) = subst IsTrue (sym is.accepts) (subst (λ (x : State). IsTrue x.accepts) (one_of t is.old (slice_get states visit.state) also is.old_is) accepts)
+          flag_back (t, also, accepts) = subst IsTrue (sym is.accepts) (subst (λ (x : StateValue). IsTrue x.accepts) (one_of t is.old (slice_get states visit.state) also is.old_is) accepts)
 
           on : (e : Edge) → Contains is.old.edges e → Reaches states root (visit.prefix ++ e.rank ∷ []) e.to
           on e inside = reaches-join visit.prefix (e.rank ∷ []) root visit.state e.to (walk.visited visit held) (is.old, e, is.old_is, inside, refl, refl)
@@ -481,7 +481,7 @@ module _ (states : List State) (registry : IsRegistry states) where
           back : (edge : Edge) → Leads Member prefixes visit.prefix edge → Contains new_state.edges edge
           back edge leads =
               let (t, e, also, inside, rank, accepts) = accepts-after visit.prefix (edge.rank ∷ leads.more) root visit.state (walk.visited visit held) leads.begins in
-              let old_one : Contains is.old.edges e = subst (λ (x : State). Contains x.edges e) (one_of t is.old (slice_get states visit.state) also is.old_is) inside in
+              let old_one : Contains is.old.edges e = subst (λ (x : StateValue). Contains x.edges e) (one_of t is.old (slice_get states visit.state) also is.old_is) inside in
               let (f, new_one, renumbered) = zip-first (IsRenumberedEdge visits) is.old.edges new_state.edges is.edges e old_one in
               let (v, v_at, v_is) = visit_at edge.to leads.first leads.numbered in
               let v_reached : Reaches states root leads.first v.state = subst (λ l. Reaches states root l v.state) v_is (walk.visited v (get-held visits edge.to v v_at)) in
@@ -492,7 +492,7 @@ module _ (states : List State) (registry : IsRegistry states) where
               let same : f ≡ edge = (λ i. record { rank = ranks i; to = to i }) in
               subst (Contains new_state.edges) same new_one
 
-      all_after : (part : List Path) (news : List State) → ((visit : Path) → Contains part visit → Contains visits visit) → AllZip (IsRenumbered states visits) part news
+      all_after : (part : List Path) (news : List StateValue) → ((visit : Path) → Contains part visit → Contains visits visit) → AllZip (IsRenumbered states visits) part news
           → AllZip (IsStateAfter Member prefixes) (map (λ (v : Path). v.prefix) part) news
       all_after [] [] among zips = tt
       all_after [] (n ∷ news) among zips = absurd zips

@@ -4,7 +4,7 @@ use Rattle.std.specs.List.{AllPairs, AllByRecursion, Contains}
 use Rattle.std.proofs.lemmas.List.Kept.{AllPairs-cons}
 use Rattle.std.proofs.lemmas.List.Elements.{Contains-get_or}
 use Rattle.mine_model.proofs.ListLemmas.{Contains-none, AllByRecursion-contained, Contains-from}
-use Rattle.automaton_model.specs.Automata.{Edge, State, Accepts}
+use Rattle.automaton_model.specs.Automata.{Edge, StateValue, Accepts}
 use Rattle.automaton_model.specs.Codes.{IsCodeOf}
 use Rattle.automaton_model.specs.Registry.{IsRegistry}
 use Rattle.automaton_model.specs.Languages.{IsRightLanguageOf, IsEdgeOf, IsStateOf}
@@ -32,11 +32,11 @@ abbrev HasHead : List ℕ → List ℕ → Type 0
 HasHead ranks [] = Unit {0}
 HasHead ranks (x ∷ xs) = Contains ranks x
 
-abbrev IsEdgeTold : List (List ℕ) → List State → Edge → Type 0
+abbrev IsEdgeTold : List (List ℕ) → List StateValue → Edge → Type 0
 IsEdgeTold lists states edge =
     (edge.to < length states) × ((more : List ℕ) × Contains lists (edge.rank ∷ more)) × IsRightLanguageOf (Contains (tails edge.rank lists)) states edge.to
 
-edge_told : (lists : List (List ℕ)) (states : List State) (edge : Edge) → IsEdgeTold lists states edge → IsEdgeOf (Contains lists) states edge
+edge_told : (lists : List (List ℕ)) (states : List StateValue) (edge : Edge) → IsEdgeTold lists states edge → IsEdgeOf (Contains lists) states edge
 edge_told lists states edge told = record {
   inside = told.0;
   more = told.1.0;
@@ -48,7 +48,7 @@ edge_told lists states edge told = record {
 }
 
 -- a state, told by what computes
-state_told : (lists : List (List ℕ)) (states : List State) (edges : List Edge) → Rises (ranks_of edges) → AllByRecursion (IsEdgeTold lists states) edges
+state_told : (lists : List (List ℕ)) (states : List StateValue) (edges : List Edge) → Rises (ranks_of edges) → AllByRecursion (IsEdgeTold lists states) edges
     → AllByRecursion (HasHead (ranks_of edges)) lists → IsStateOf (Contains lists) states (record { accepts = has_empty lists; edges = edges })
 state_told lists states edges rises told heads = record {
   accepts = empty-exact lists;
@@ -59,11 +59,11 @@ state_told lists states edges rises told heads = record {
       (edge, inside, sym same));
 }
 
-abbrev AreOther : State → List State → Type 0
-AreOther state states = AllByRecursion (λ (other : State). other ≢ state) states
+abbrev AreOther : StateValue → List StateValue → Type 0
+AreOther state states = AllByRecursion (λ (other : StateValue). other ≢ state) states
 
-not_there : (state : State) (states : List State) → AreOther state states → (other : State) → Contains states other → other ≢ state
-not_there state states others other held = AllByRecursion-contained (λ (s : State). s ≢ state) states other others held
+not_there : (state : StateValue) (states : List StateValue) → AreOther state states → (other : StateValue) → Contains states other → other ≢ state
+not_there state states others other held = AllByRecursion-contained (λ (s : StateValue). s ≢ state) states other others held
 
 not_seen : (visits : List Path) (state : ℕ) → AllByRecursion (λ (v : Path). v.state ≢ state) visits → IsVisited visits state → ⊥
 not_seen visits state others (visit, held, same) = AllByRecursion-contained (λ (v : Path). v.state ≢ state) visits visit others held same
@@ -76,7 +76,7 @@ path_of prefix state = record { prefix = prefix; state = state }
 
 -- No list
 
-abbrev none : List State
+abbrev none : List StateValue
 none = (record { accepts = false; edges = [] }) ∷ []
 
 none_state : IsStateOf (Contains []) [] (record { accepts = false; edges = [] })
@@ -94,10 +94,10 @@ code-of_none = code-also (Accepts none 0) (Contains []) (node-pushed [] no_state
 
 -- The states that both other rows share: of the empty list, and of 1
 
-abbrev last : State
+abbrev last : StateValue
 last = record { accepts = true; edges = [] }
 
-abbrev before : State
+abbrev before : StateValue
 before = record { accepts = false; edges = edge_of 1 0 ∷ [] }
 
 last_state : IsStateOf (Contains ([] ∷ [])) [] last
@@ -109,11 +109,11 @@ last_registry = registry-pushed [] no_states (Contains ([] ∷ [])) last last_st
 last_node : IsRightLanguageOf (Contains ([] ∷ [])) (last ∷ []) 0
 last_node = node-pushed [] no_states (Contains ([] ∷ [])) last last_state
 
-accepts_differ : (s t : State) → s.accepts ≡ true → t.accepts ≡ false → s ≢ t
-accepts_differ s t p q same = true≢false (sym p ∙ ap (λ (x : State). x.accepts) same ∙ q)
+accepts_differ : (s t : StateValue) → s.accepts ≡ true → t.accepts ≡ false → s ≢ t
+accepts_differ s t p q same = true≢false (sym p ∙ ap (λ (x : StateValue). x.accepts) same ∙ q)
 
-edges_differ : (s t : State) → (length s.edges ≡ length t.edges → ⊥) → s ≢ t
-edges_differ s t differ same = differ (ap (λ (x : State). length x.edges) same)
+edges_differ : (s t : StateValue) → (length s.edges ≡ length t.edges → ⊥) → s ≢ t
+edges_differ s t differ same = differ (ap (λ (x : StateValue). length x.edges) same)
 
 before_state : IsStateOf (Contains ((1 ∷ []) ∷ [])) (last ∷ []) before
 before_state = state_told ((1 ∷ []) ∷ []) (last ∷ []) (edge_of 1 0 ∷ []) (tt, tt)
@@ -131,10 +131,10 @@ last_node_later = node-stays (last ∷ []) last_registry (Contains ([] ∷ [])) 
 
 -- 3 1 alone
 
-abbrev first_of_one : State
+abbrev first_of_one : StateValue
 first_of_one = record { accepts = false; edges = edge_of 3 1 ∷ [] }
 
-abbrev one : List State
+abbrev one : List StateValue
 one = last ∷ before ∷ first_of_one ∷ []
 
 abbrev one_list : List (List ℕ)
@@ -148,7 +148,7 @@ ranks_differ : edge_of 1 0 ≡ edge_of 3 1 → ⊥
 ranks_differ same = (let e : 1 ≡ 3 = ap (λ (x : Edge). x.rank) same in absurd (omega (arith, e)))
 
 before_other : before ≢ first_of_one
-before_other same = (let e : edge_of 1 0 ∷ [] ≡ edge_of 3 1 ∷ [] = ap (λ (x : State). x.edges) same in ranks_differ (cc))
+before_other same = (let e : edge_of 1 0 ∷ [] ≡ edge_of 3 1 ∷ [] = ap (λ (x : StateValue). x.edges) same in ranks_differ (cc))
 
 one_registry : IsRegistry one
 one_registry = registry-pushed (last ∷ before ∷ []) before_registry (Contains one_list) first_of_one one_state
@@ -171,16 +171,16 @@ code-of_one = code-also (Accepts one 2) (Contains one_list) (node-pushed (last �
 
 -- 3 1, 3 2 1 and 3 3 1
 
-abbrev middle : State
+abbrev middle : StateValue
 middle = record { accepts = false; edges = edge_of 1 0 ∷ edge_of 2 1 ∷ edge_of 3 1 ∷ [] }
 
-abbrev first_of_three : State
+abbrev first_of_three : StateValue
 first_of_three = record { accepts = false; edges = edge_of 3 2 ∷ [] }
 
-abbrev up_to_middle : List State
+abbrev up_to_middle : List StateValue
 up_to_middle = last ∷ before ∷ middle ∷ []
 
-abbrev three : List State
+abbrev three : List StateValue
 three = last ∷ before ∷ middle ∷ first_of_three ∷ []
 
 abbrev middle_lists : List (List ℕ)
@@ -213,7 +213,7 @@ three_state = state_told three_lists up_to_middle (edge_of 3 2 ∷ []) (tt, tt)
     ((0, omega arith, refl), ((0, omega arith, refl), ((0, omega arith, refl), tt)))
 
 before_other_too : before ≢ first_of_three
-before_other_too same = (let e : edge_of 1 0 ∷ [] ≡ edge_of 3 2 ∷ [] = ap (λ (x : State). x.edges) same in
+before_other_too same = (let e : edge_of 1 0 ∷ [] ≡ edge_of 3 2 ∷ [] = ap (λ (x : StateValue). x.edges) same in
     let f : edge_of 1 0 ≡ edge_of 3 2 = cc in let g : 1 ≡ 3 = ap (λ (x : Edge). x.rank) f in absurd (omega (arith, g)))
 
 three_registry : IsRegistry three

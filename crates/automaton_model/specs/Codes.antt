@@ -5,7 +5,7 @@ use Rattle.std.specs.List.{AllZip}
 use Rattle.std.specs.Ordering.{nat_cmp}
 use Rattle.std.specs.Cmp.Lexicographic.{slice_cmp}
 use Rattle.std.specs.declared.cmp.Ordering.TheVariants.{Less}
-use Rattle.automaton_model.specs.Automata.{Edge, State, code_of}
+use Rattle.automaton_model.specs.Automata.{Edge, StateValue, code_of}
 
 -- the first list comes earlier: rank by rank, a proper prefix first
 abbrev pub IsEarlier : List ℕ → List ℕ → Type 0
@@ -41,14 +41,14 @@ pub record Leads (IsMember : List ℕ → Type 0) (visits : List (List ℕ)) (pr
 -- the state is that of the rest after the prefix, which holds the empty list or not; its edges go by rising
 -- rank
 pub record IsStateAfter (IsMember : List ℕ → Type 0) (visits : List (List ℕ)) (prefix : List ℕ)
-    (state : State) : Type 0 where
+    (state : StateValue) : Type 0 where
   pub accepts : IsTrue state.accepts ↔ IsMember prefix
   pub rising : AllPairs (λ (low : Edge) (high : Edge). low.rank < high.rank) state.edges
   pub exact : (edge : Edge) → Contains state.edges edge ↔ Leads IsMember visits prefix edge
 
 -- The states are those of the minimal automaton of the set, in the order of their first visits: what begins a
 -- member has the rest of one of these visits.
-pub record IsMinimalAutomaton (IsMember : List ℕ → Type 0) (states : List State) : Type 0 where
+pub record IsMinimalAutomaton (IsMember : List ℕ → Type 0) (states : List StateValue) : Type 0 where
   pub visits : List (List ℕ)
   pub rising : AllPairs IsEarlier visits
   pub first : (visit : List ℕ) → Contains visits visit → IsFirstVisit IsMember visit
@@ -58,4 +58,5 @@ pub record IsMinimalAutomaton (IsMember : List ℕ → Type 0) (states : List St
 
 -- the code of the set
 abbrev pub IsCodeOf : (List ℕ → Type 0) → List ℕ → Type 0
-IsCodeOf IsMember code = (states : List State) × IsMinimalAutomaton IsMember states × (code ≡ code_of states)
+IsCodeOf IsMember code =
+    (states : List StateValue) × IsMinimalAutomaton IsMember states × (code ≡ code_of states)

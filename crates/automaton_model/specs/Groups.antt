@@ -10,7 +10,7 @@ use Rattle.mine_model.specs.Ranks.{AreRanked}
 use Rattle.mine_model.specs.Numbered.{PatternsDiffer}
 use Rattle.mine_model.specs.Database.{sequence_at}
 use Rattle.automaton_model.specs.declared.groups.Group.{Group}
-use Rattle.automaton_model.specs.Automata.{State, Accepts, code_of}
+use Rattle.automaton_model.specs.Automata.{StateValue, Accepts, code_of}
 use Rattle.automaton_model.specs.Codes.{IsEarlier}
 use Rattle.automaton_model.specs.Members.{IsPivotCode}
 
@@ -32,7 +32,7 @@ pub record AreGroups (d : Data Item) (order : List Item) (pivot : ℕ) (sequence
 
 -- the ranks are a member of the set that has the code
 abbrev pub LieIn : List ℕ → List ℕ → Type 0
-LieIn ranks code = (states : List State) × (code ≡ code_of states) × Accepts states 0 ranks
+LieIn ranks code = (states : List StateValue) × (code ≡ code_of states) × Accepts states 0 ranks
 
 -- the groups as sequences of a database: a group's code is what it holds, its count what it weighs
 abbrev pub grouped : List Group → List (Sequence ℕ)

@@ -1,14 +1,14 @@
 -- The depth-first walk over the states of a registry that numbers them.
 use Rattle.std.specs.Prelude.{◌≡◌, ◌≢◌, ℕ, ◌<◌, ◌⊎◌, ◌==◌, false, List, [], ◌∷◌, ◌++◌, map, Some, slice_get, AllPairs, Contains}
 use Rattle.std.specs.List.{AllZip, position_or_len}
-use Rattle.automaton_model.specs.Automata.{Edge, State}
+use Rattle.automaton_model.specs.Automata.{Edge, StateValue}
 use Rattle.automaton_model.specs.Codes.{IsEarlier}
 
 -- edges with these ranks lead from the one state to the other
-abbrev pub Reaches : List State → ℕ → List ℕ → ℕ → Type 0
+abbrev pub Reaches : List StateValue → ℕ → List ℕ → ℕ → Type 0
 Reaches states from [] to = from ≡ to
 Reaches states from (rank ∷ ranks) to =
-    (state : State) × (edge : Edge) × (slice_get states from ≡ Some state) × Contains state.edges edge
+    (state : StateValue) × (edge : Edge) × (slice_get states from ≡ Some state) × Contains state.edges edge
     × (edge.rank ≡ rank) × Reaches states edge.to ranks to
 
 -- a path of the walk: the ranks of its edges, and the state to which they lead
@@ -32,14 +32,14 @@ abbrev pub IsVisited : List Path → ℕ → Type 0
 IsVisited visits state = (visit : Path) × Contains visits visit × (visit.state ≡ state)
 
 -- a path that waits is followed by the ranks and leads on to the state
-abbrev pub IsAheadOn : List State → List Path → List ℕ → ℕ → Type 0
+abbrev pub IsAheadOn : List StateValue → List Path → List ℕ → ℕ → Type 0
 IsAheadOn states waiting prefix to =
     (path : Path) × (more : List ℕ) × Contains waiting path × (prefix ≡ path.prefix ++ more)
     × Reaches states path.state more to
 
 -- The walk from the root: paths to the states that were visited, in their order, and the paths that wait, the
 -- next one first. Each state that paths lead to was visited, or is ahead.
-pub record IsWalk (states : List State) (root : ℕ) (visits waiting : List Path) : Type 0 where
+pub record IsWalk (states : List StateValue) (root : ℕ) (visits waiting : List Path) : Type 0 where
   pub order : AllPairs (λ (low : Path) (high : Path). IsEarlier low.prefix high.prefix) visits
   pub once : AllPairs (λ (one : Path) (other : Path). one.state ≢ other.state) visits
   pub ahead : (visit path : Path) → Contains visits visit → Contains waiting path
@@ -65,8 +65,9 @@ pub record IsRenumberedEdge (visits : List Path) (edge : Edge) (new : Edge) : Ty
   pub same : visit.state ≡ edge.to
 
 -- the visited state, whose edges go by the numbers of the visits
-pub record IsRenumbered (states : List State) (visits : List Path) (visit : Path) (new : State) : Type 0 where
-  pub old : State
+pub record IsRenumbered (states : List StateValue) (visits : List Path) (visit : Path) (new : StateValue)
+    : Type 0 where
+  pub old : StateValue
   pub old_is : slice_get states visit.state ≡ Some old
   pub accepts : new.accepts ≡ old.accepts
   pub edges : AllZip (IsRenumberedEdge visits) old.edges new.edges
@@ -76,7 +77,7 @@ abbrev pub states_of : List Path → List ℕ
 states_of paths = map (λ (path : Path). path.state) paths
 
 -- a walk from the root visited these states, in this order, and these wait, the next one first
-abbrev pub AreVisited : List State → ℕ → List ℕ → List ℕ → Type 0
+abbrev pub AreVisited : List StateValue → ℕ → List ℕ → List ℕ → Type 0
 AreVisited states root visited waiting =
     (visits : List Path) × (stack : List Path) × IsWalk states root visits stack
     × (visited ≡ states_of visits) × (waiting ≡ states_of stack)
@@ -90,10 +91,10 @@ abbrev pub renumbered_edge : List ℕ → Edge → Edge
 renumbered_edge visited edge = record { rank = edge.rank; to = number_in visited edge.to }
 
 -- the state with the places of the states to which its edges lead
-abbrev pub renumbered : List ℕ → State → State
+abbrev pub renumbered : List ℕ → StateValue → StateValue
 renumbered visited state =
     record { accepts = state.accepts; edges = map (renumbered_edge visited) state.edges }
 
 -- a state from which nothing is accepted
-abbrev pub dead_state : State
+abbrev pub dead_state : StateValue
 dead_state = record { accepts = false; edges = [] }

@@ -12,7 +12,7 @@ ghost use Rattle.mine_model.specs.Ranks.{Ranking, AreRanks};
 ghost use Rattle.mine_model.specs.Pivots.{IsWithinPivot, IsAliveLabel};
 ghost use Rattle.mine_model.specs.Numbered.{AreFrequent};
 ghost use Rattle.automaton_model.specs.declared.groups.Group.{Group as SetGroup};
-ghost use Rattle.automaton_model.specs.Automata.{State, Accepts};
+ghost use Rattle.automaton_model.specs.Automata.{StateValue, Accepts};
 ghost use Rattle.automaton_model.specs.Codes.{IsMinimalAutomaton, IsCodeOf};
 ghost use Rattle.automaton_model.specs.Members.{IsPivotMember, IsPivotCode};
 ghost use Rattle.automaton_model.specs.Groups.{AreGroups, LieIn, grouped, IsGroupRow, AreGroupRows, AreOfPivot, part_of, AreRowsOfPivot, AreGroupsOfPivot};
@@ -86,26 +86,26 @@ pub fn rows_of_pivots_are_the_answer()
 
 /// States of a registry that accept the same lists are one state.
 pub fn equal_states_are_one()
-    ensures { (states : List State) → IsRegistry states → (i j : ℕ) (s t : State)
+    ensures { (states : List StateValue) → IsRegistry states → (i j : ℕ) (s t : StateValue)
         → slice_get states i ≡ Some s → slice_get states j ≡ Some t → AcceptTheSame states i j → i ≡ j }
 {}
 
 /// A depth-first walk over a registry, with a stack of the paths that wait, numbers the minimal automaton of
 /// what the root accepts.
 pub fn the_walk_numbers_the_minimal_automaton()
-    ensures begin { (states : List State) → IsRegistry states → (root : ℕ)
+    ensures begin { (states : List StateValue) → IsRegistry states → (root : ℕ)
         → IsWalk states root [] (record { prefix = []; state = root } ∷ []) }
-    ensures pass { (states : List State) → IsRegistry states → (root : ℕ) (visits waiting : List Path)
+    ensures pass { (states : List StateValue) → IsRegistry states → (root : ℕ) (visits waiting : List Path)
         (path : Path)
         → IsWalk states root visits (path ∷ waiting) → IsVisited visits path.state
         → IsWalk states root visits waiting }
-    ensures visit { (states : List State) → IsRegistry states → (root : ℕ) (visits waiting : List Path)
-        (path : Path) (state : State) → IsWalk states root visits (path ∷ waiting)
+    ensures visit { (states : List StateValue) → IsRegistry states → (root : ℕ) (visits waiting : List Path)
+        (path : Path) (state : StateValue) → IsWalk states root visits (path ∷ waiting)
         → (IsVisited visits path.state → ⊥) → slice_get states path.state ≡ Some state
         → IsWalk states root (visits ++ path ∷ []) (paths_from path state.edges ++ waiting) }
-    ensures finish { (states : List State) → IsRegistry states → (root : ℕ) (visits : List Path)
-        (state : State)
-        (new : List State) → IsWalk states root visits [] → slice_get states root ≡ Some state
+    ensures finish { (states : List StateValue) → IsRegistry states → (root : ℕ) (visits : List Path)
+        (state : StateValue)
+        (new : List StateValue) → IsWalk states root visits [] → slice_get states root ≡ Some state
         → AllZip (IsRenumbered states visits) visits new → IsMinimalAutomaton (Accepts states root) new }
 {}
 
@@ -118,16 +118,19 @@ pub fn each_finite_set_has_a_code()
 /// registry stays one with the state behind the others, and there the set is its right language. States are
 /// one exactly where their right languages are equal.
 pub fn a_registry_grows()
-    ensures found { (states : List State) → IsRegistry states → (lists : List (List ℕ)) (state : State)
+    ensures found { (states : List StateValue) → IsRegistry states → (lists : List (List ℕ))
+        (state : StateValue)
         → IsStateOf (Contains lists) states state → (number : ℕ) → slice_get states number ≡ Some state
         → IsRightLanguageOf (Contains lists) states number }
-    ensures pushed { (states : List State) → IsRegistry states → (lists : List (List ℕ)) (state : State)
+    ensures pushed { (states : List StateValue) → IsRegistry states → (lists : List (List ℕ))
+        (state : StateValue)
         → IsStateOf (Contains lists) states state
         → IsRightLanguageOf (Contains lists) (states ++ state ∷ []) (length states) }
-    ensures stays { (states : List State) → IsRegistry states → (lists : List (List ℕ)) (state : State)
+    ensures stays { (states : List StateValue) → IsRegistry states → (lists : List (List ℕ))
+        (state : StateValue)
         → IsStateOf (Contains lists) states state
-        → ((other : State) → Contains states other → other ≢ state) → IsRegistry (states ++ state ∷ []) }
-    ensures same { (states : List State) → IsRegistry states → (first second : List (List ℕ)) (i j : ℕ)
+        → ((other : StateValue) → Contains states other → other ≢ state) → IsRegistry (states ++ state ∷ []) }
+    ensures same { (states : List StateValue) → IsRegistry states → (first second : List (List ℕ)) (i j : ℕ)
         → i < length states → j < length states → IsRightLanguageOf (Contains first) states i
         → IsRightLanguageOf (Contains second) states j
         → (i ≡ j) ↔ ((ranks : List ℕ) → Contains first ranks ↔ Contains second ranks) }
@@ -167,11 +170,11 @@ pub fn worked_codes()
 /// Loads at states of a registry, as groups are searched for rows: those that go along the edges by a rank
 /// weigh what the loads weigh behind the rank, and loads at one state may be added up.
 pub fn loads_go_along_edges()
-    ensures moved { (states : List State) → IsRegistry states → (rank : ℕ) (ranks : List ℕ)
+    ensures moved { (states : List StateValue) → IsRegistry states → (rank : ℕ) (ranks : List ℕ)
         (loads others : List Load) → AreMoved states rank loads others
         → (n : ℕ) → Weigh (λ k. Accepts states k ranks) others n
         → Weigh (λ k. Accepts states k (rank ∷ ranks)) loads n }
-    ensures added { (states : List State) (ranks : List ℕ) (state a b : ℕ) (loads : List Load) (n : ℕ)
+    ensures added { (states : List StateValue) (ranks : List ℕ) (state a b : ℕ) (loads : List Load) (n : ℕ)
         → Weigh (λ k. Accepts states k ranks) ((record { state = state; weight = a })
         ∷ (record { state = state; weight = b }) ∷ loads) n
         → Weigh (λ k. Accepts states k ranks) ((record { state = state; weight = a + b }) ∷ loads) n }

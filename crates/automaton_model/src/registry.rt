@@ -21,10 +21,10 @@ pub struct Registry {
 
 impl Model for Registry {
     ghost use Rattle.std.specs.Prelude.{List, ◌<◌, ◌^◌, map, length};
-    ghost use Rattle.automaton_model.specs.Automata.{State as SeenState, state_of};
+    ghost use Rattle.automaton_model.specs.Automata.{StateValue, state_of};
     ghost use Rattle.automaton_model.specs.Registry.{IsRegistry};
 
-    ghost Value = { List SeenState };
+    ghost Value = { List StateValue };
 
     ghost view = { λ r. map state_of r.states.keys };
 

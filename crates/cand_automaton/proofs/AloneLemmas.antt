@@ -9,7 +9,7 @@ use Rattle.mine_model.proofs.RankLemmas.{HasRank-most}
 use Rattle.mine_model.proofs.RankedLemmas.{item_rank}
 use Rattle.mining_job.specs.Problems.{Problem, data_of, items_of}
 use Rattle.snapshot_project.specs.Extensions.{GeneratesWithin}
-use Rattle.automaton_model.specs.Automata.{State, Accepts}
+use Rattle.automaton_model.specs.Automata.{StateValue, Accepts}
 use Rattle.automaton_model.specs.Members.{IsPivotMember}
 use Rattle.candidate_graph.specs.Graphs.{Node}
 use Rattle.candidate_graph.specs.Paths.{Accepts as IsPath}
@@ -97,7 +97,7 @@ module _ (problem : Problem) (once : AllPairs (λ v w. v ≢ w) problem.ranking.
   )
 
   -- THE STATE made from the whole graph is that of the candidates with the pivot
-  pub root-alone : (nodes : List Node) (states : List State) (root : ℕ)
+  pub root-alone : (nodes : List Node) (states : List StateValue) (root : ℕ)
       → ((list : List ℕ) → IsPath nodes 0 list ↔ ((list ≢ []) × GeneratesWithin (part_alone problem seq) list (items_of problem seq)))
       → IsPivotRootOf nodes pivot states root → IsRootFor (data_of problem) problem.ranking.order pivot (items_of problem seq) states root
   root-alone nodes states root paths is = record {

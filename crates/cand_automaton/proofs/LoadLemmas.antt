@@ -9,7 +9,7 @@ use Rattle.mine_model.specs.Database.{sequence_at}
 use Rattle.mine_model.specs.Support.{Sequence, Counts}
 use Rattle.mine_model.specs.Answer.{Data}
 use Rattle.mine_model.proofs.ListLemmas.{Contains-cases, Contains-none, Contains-first, Contains-other, AllPairs-append, AllPairs-tail, AllPairs-head}
-use Rattle.automaton_model.specs.Automata.{State, Accepts}
+use Rattle.automaton_model.specs.Automata.{StateValue, Accepts}
 use Rattle.automaton_model.specs.Groups.{part_of}
 use Rattle.automaton_model.specs.Members.{IsPivotMember}
 use Rattle.automaton_model.specs.Registry.{IsRegistry}
@@ -165,14 +165,14 @@ module _ (d : Data Item) (order : List Item) (pivot : ℕ) where
   Member ranks items = IsPivotMember d order pivot items ranks
 
   -- a root stays one in a registry that grows
-  pub root-stays : (items : List Item) (states more : List State) (root : ℕ) → IsRegistry states → IsRootFor d order pivot items states root
+  pub root-stays : (items : List Item) (states more : List StateValue) (root : ℕ) → IsRegistry states → IsRootFor d order pivot items states root
       → IsRootFor d order pivot items (states ++ more) root
   root-stays items states more root registry is = record {
     inside = omega (arith, is.inside, length-append states more);
     language = node-stays states registry (IsPivotMember d order pivot items) more root is.inside is.language;
   }
 
-  pub loads-none : (states : List State) → AreLoadsOf d order pivot [] states []
+  pub loads-none : (states : List StateValue) → AreLoadsOf d order pivot [] states []
   loads-none states = record {
     once = λ i j e less inside. absurd (omega (arith, inside));
     each = λ load held. absurd (Contains-none load held);
@@ -182,7 +182,7 @@ module _ (d : Data Item) (order : List Item) (pivot : ℕ) where
   }
 
   -- the loads of the same sequences in a registry that grows
-  pub loads-stay : (sequences : List (Sequence Item)) (states more : List State) (loads : List Load) → IsRegistry states
+  pub loads-stay : (sequences : List (Sequence Item)) (states more : List StateValue) (loads : List Load) → IsRegistry states
       → AreLoadsOf d order pivot sequences states loads → AreLoadsOf d order pivot sequences (states ++ more) loads
   loads-stay sequences states more loads registry are = record {
     once = are.once;
@@ -195,7 +195,7 @@ module _ (d : Data Item) (order : List Item) (pivot : ℕ) where
   }
 
   -- the loads of one sequence more, of which some stood at its state already or none
-  pub loads-more : (sequences : List (Sequence Item)) (one : Sequence Item) (states : List State) (root : ℕ) (loads after : List Load)
+  pub loads-more : (sequences : List (Sequence Item)) (one : Sequence Item) (states : List StateValue) (root : ℕ) (loads after : List Load)
       → AreLoadsOf d order pivot sequences states loads → IsRootFor d order pivot one.items states root
       → IsLoaded loads root one.weight after → AreLoadsOf d order pivot (sequences ++ one ∷ []) states after
   loads-more sequences one states root loads after are is loaded = record {

@@ -22,7 +22,7 @@ use Rattle.mine_model.proofs.FrequencyLemmas.{Counts-by, Counts-most}
 use Rattle.mine_model.proofs.AboveLemmas.{pattern-shorter}
 use Rattle.mine_model.proofs.RankedLemmas.{ranked-same, ranked-length, ranked-bounds}
 use Rattle.mine_model.proofs.AliveLemmas.{Counts-part}
-use Rattle.automaton_model.specs.Automata.{State, Accepts}
+use Rattle.automaton_model.specs.Automata.{StateValue, Accepts}
 use Rattle.automaton_model.specs.Codes.{IsCodeOf}
 use Rattle.automaton_model.specs.Members.{IsPivotMember, IsPivotCode}
 use Rattle.automaton_model.specs.Groups.{AreOfPivot, part_of, AreRowsOfPivot}
@@ -88,7 +88,7 @@ module _ (d : Data Item) (order : List Item) (pivot : ℕ) (numbers : List ℕ) 
       Counts-part (Member ranks) d.sequences numbers of_pivot.rising within
       (λ i below member. (of_pivot.exact i).1 (below, (member.pattern, member.generated, member.within))) n
 
-  module _ (states : List State) (registry : IsRegistry states) (loads : List Load) (are : AreLoadsOf d order pivot (part_of d numbers) states loads) where
+  module _ (states : List StateValue) (registry : IsRegistry states) (loads : List Load) (are : AreLoadsOf d order pivot (part_of d numbers) states loads) where
     abbrev At : List ℕ → ℕ → Type 0
     At ranks state = Accepts states state ranks
 

@@ -12,7 +12,7 @@ use Rattle.mining_job.specs.Problems.{Problem, data_of, items_of}
 use Rattle.sequence_grids.specs.Grids.{GridList, items_at}
 use Rattle.snapshot_project.specs.Snapshots.{bound_of}
 use Rattle.snapshot_project.specs.Extensions.{GeneratesWithin}
-use Rattle.automaton_model.specs.Automata.{State, Accepts}
+use Rattle.automaton_model.specs.Automata.{StateValue, Accepts}
 use Rattle.automaton_model.specs.Codes.{IsCodeOf}
 use Rattle.automaton_model.specs.Members.{IsPivotMember, IsPivotCode}
 use Rattle.automaton_model.proofs.AutomatonLemmas.{code-also}
@@ -56,7 +56,7 @@ member-within part items pivot least bound list = (
     no_items (x ∷ xs) none = absurd (omega (arith, none))
 
 -- the state of a graph's root
-pub root-within : (part : GridList) (items : List Item) (nodes : List Node) (states : List State) (root : ℕ)
+pub root-within : (part : GridList) (items : List Item) (nodes : List Node) (states : List StateValue) (root : ℕ)
     → ((list : List ℕ) → IsPath nodes 0 list ↔ ((list ≢ []) × GeneratesWithin part list items)) → IsRootOf nodes states root → IsRootWithin part items states root
 root-within part items nodes states root paths is = λ pivot least bound. record {
   inside = is.inside;
@@ -67,7 +67,7 @@ root-within part items nodes states root paths is = λ pivot least bound. record
 }
 
 -- the code of what a root accepts
-pub code-within : (part : GridList) (items : List Item) (states : List State) (root : ℕ) (code : List ℕ) → IsRootWithin part items states root
+pub code-within : (part : GridList) (items : List Item) (states : List StateValue) (root : ℕ) (code : List ℕ) → IsRootWithin part items states root
     → IsCodeOf (Accepts states root) code → IsCodeWithin part items code
 code-within part items states root code is coded = λ pivot least bound.
     code-also (Accepts states root) (IsPivotMember (data_of part.problem) part.problem.ranking.order (pivot_of pivot) items) (is pivot least bound).language code coded

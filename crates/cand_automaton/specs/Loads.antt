@@ -7,7 +7,7 @@ use Rattle.mining_job.specs.Problems.{data_of}
 use Rattle.mining_job.specs.Parts.{pivot_of}
 use Rattle.sequence_grids.specs.Grids.{GridList}
 use Rattle.snapshot_project.specs.Snapshots.{bound_of}
-use Rattle.automaton_model.specs.Automata.{State, Accepts}
+use Rattle.automaton_model.specs.Automata.{StateValue, Accepts}
 use Rattle.automaton_model.specs.Members.{IsPivotMember}
 use Rattle.automaton_model.specs.Searches.{Load, Weigh}
 use Rattle.cand_automaton.specs.Roots.{IsRootFor}
@@ -23,7 +23,7 @@ IsLoaded before state weight after =
 
 -- the load stands at the state of one of the sequences
 pub record IsLoadOf (d : Data Item) (order : List Item) (pivot : ℕ) (sequences : List (Sequence Item))
-    (states : List State) (load : Load) : Type 0 where
+    (states : List StateValue) (load : Load) : Type 0 where
   pub one : Sequence Item
   pub held : Contains sequences one
   pub root : IsRootFor d order pivot one.items states load.state
@@ -31,7 +31,7 @@ pub record IsLoadOf (d : Data Item) (order : List Item) (pivot : ℕ) (sequences
 -- the loads are those of the sequences: each sequence has one, and they weigh at the candidates what the
 -- sequences that have them count
 pub record AreLoadsOf (d : Data Item) (order : List Item) (pivot : ℕ) (sequences : List (Sequence Item))
-    (states : List State) (loads : List Load) : Type 0 where
+    (states : List StateValue) (loads : List Load) : Type 0 where
   pub once : AllPairs (λ (first : Load) second. first.state ≢ second.state) loads
   pub each : (load : Load) → Contains loads load → IsLoadOf d order pivot sequences states load
   pub all : (sequence : Sequence Item) → Contains sequences sequence
@@ -42,7 +42,8 @@ pub record AreLoadsOf (d : Data Item) (order : List Item) (pivot : ℕ) (sequenc
       ≡ sum_by (λ (sequence : Sequence Item). sequence.weight) sequences
 
 -- where the loads were those of some sequences, they are those of this one as well
-abbrev pub AreLoadedWith : GridList → Sequence Item → List State → List Load → List State → List Load → Type 0
+abbrev pub AreLoadedWith : GridList → Sequence Item → List StateValue → List Load → List StateValue
+    → List Load → Type 0
 AreLoadedWith part sequence states loads later after =
     (pivot : Option ℕ) (sequences : List (Sequence Item)) → IfSome pivot (λ rank. 1 ≤ rank)
     → part.bound ≡ bound_of (length part.problem.ranking.order) pivot

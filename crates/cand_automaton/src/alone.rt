@@ -5,7 +5,7 @@
 ghost use Rattle.std.specs.Prelude.{◌≡◌, ◌≤◌, ◌<◌, ◌++◌, ◌∷◌, [], true, false, List, Option, Some, None, Ok, length, IfOk, IfSome, OnOk};
 ghost use Rattle.std.specs.List.{AllByRecursion};
 ghost use Rattle.mining_job.specs.Problems.{data_of, items_of};
-ghost use Rattle.automaton_model.specs.Automata.{State as SeenState};
+ghost use Rattle.automaton_model.specs.Automata.{StateValue};
 ghost use Rattle.automaton_model.specs.Registry.{IsRegistry};
 ghost use Rattle.cand_automaton.specs.declared.alone.Alone.TheVariants.{Nothing};
 ghost use Rattle.cand_automaton.specs.Roots.{IsRootFor};
@@ -154,13 +154,13 @@ pub(crate) fn pivot_root(
 ) -> Result<u32, NoMemory>
     requires least { 1 ≤ pivot }
     requires whole { IsWholeOf job.now candidates.now order.now seq }
-    ensures grows { (more : List SeenState) × (registry.new ≡ registry.old ++ more) }
+    ensures grows { (more : List StateValue) × (registry.new ≡ registry.old ++ more) }
     ensures registry { IsRegistry registry.new }
     ensures root { IfOk result (λ root. IsRootFor (data_of job.now) job.now.ranking.order pivot
         (items_of job.now seq) registry.new root) }
 {
     // For the proof alone: no item has two ranks.
-    let _support = job.support();
+    let _threshold = job.threshold();
     whole_graphs_accept_the_patterns();
     pivot_state(candidates.graph(), order, pivot, registry, room)
 }

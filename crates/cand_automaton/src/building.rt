@@ -3,7 +3,7 @@
 ghost use Rattle.std.specs.Prelude.{◌≡◌, ◌≤◌, ◌<◌, ◌++◌, List, length, IfOk, OnOk};
 ghost use Rattle.mining_job.specs.Problems.{data_of, items_of};
 ghost use Rattle.sequence_grids.specs.Grids.{items_at};
-ghost use Rattle.automaton_model.specs.Automata.{State as SeenState};
+ghost use Rattle.automaton_model.specs.Automata.{StateValue};
 ghost use Rattle.automaton_model.specs.Members.{IsPivotCode};
 ghost use Rattle.automaton_model.specs.Registry.{IsRegistry};
 ghost use Rattle.cand_automaton.specs.Roots.{IsRootWithin, IsCodeWithin};
@@ -76,7 +76,7 @@ pub(crate) fn root_of(
 ) -> Result<u32, NoMemory>
     requires { index < length candidates.old.part.sequences }
     ensures part { candidates.new.part ≡ candidates.old.part }
-    ensures grows { OnOk result ((more : List SeenState) × (registry.new ≡ registry.old ++ more)) }
+    ensures grows { OnOk result ((more : List StateValue) × (registry.new ≡ registry.old ++ more)) }
     ensures registry { OnOk result (IsRegistry registry.new) }
     ensures inside { IfOk result (λ root. root < length registry.new) }
     ensures root { IfOk result (λ root. IsRootWithin candidates.old.part

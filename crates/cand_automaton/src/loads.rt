@@ -21,14 +21,14 @@ pub(crate) struct Loads {
 impl Model for Loads {
     ghost use Rattle.std.specs.Prelude.{◌≡◌, List, map};
     ghost use Rattle.automaton_model.specs.Searches.{Load};
-    ghost use Rattle.group_search.specs.declared.loads.LoadedState.{LoadedState as Held};
+    ghost use Rattle.group_search.specs.declared.loads.LoadedState.{LoadedState};
     ghost use Rattle.group_search.specs.Found.{load_of};
 
     ghost Value = { List Load };
 
     ghost view = { λ l. map load_of l.held.items };
 
-    ghost invariant = { λ l. l.states.keys ≡ map (λ (held : Held). held.state) l.held.items };
+    ghost invariant = { λ l. l.states.keys ≡ map (λ (held : LoadedState). held.state) l.held.items };
 }
 
 impl Loads {

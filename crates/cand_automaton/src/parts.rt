@@ -90,7 +90,7 @@ pub(crate) fn mine_part(
     let Some(sets) = done.sets.checked_add(loads.len() as u64) else {
         return Err(NoMemory);
     };
-    let mut rows = rows_of(alloc, job.ranks(), &room.registry, loads, job.support())?;
+    let mut rows = rows_of(alloc, job.ranks(), &room.registry, loads, job.threshold())?;
     done.rows.append(&mut rows)?;
     done.sets = sets;
     Ok(())

@@ -10,7 +10,7 @@ use mine_model::{NoMemory, Row};
 use mining_job::Job;
 use std::alloc::Global;
 
-/// The patterns that lie in groups which weigh at least the support together, each once, with what these
+/// The patterns that lie in groups which weigh at least the threshold together, each once, with what these
 /// weigh, in any order. The groups are those of a part of the job.
 pub fn rows(alloc: Global, job: &Job, groups: &[Group]) -> Result<Vec<Row>, NoMemory>
     requires { (pivot : ℕ) × AreGroupsOfPivot (data_of job.now) job.now.ranking.order pivot groups.now }
@@ -20,5 +20,5 @@ pub fn rows(alloc: Global, job: &Job, groups: &[Group]) -> Result<Vec<Row>, NoMe
     // For the proof alone: no weights add up to 2^64.
     let _sequences = job.db().sequences();
     groups_are_searched();
-    group_search::rows(alloc, job.ranks(), groups, job.support())
+    group_search::rows(alloc, job.ranks(), groups, job.threshold())
 }

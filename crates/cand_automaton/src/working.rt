@@ -72,7 +72,7 @@ fn work_with<G: Gate>(
         (λ place. place % workers ≡ worker) done.new.rows.items done.new.sets) }
 {
     // For the proof alone: no item has two ranks.
-    let _support = job.support();
+    let _threshold = job.threshold();
     for number in 0..seeds.len() {
         if number % workers as usize != worker as usize {
             continue;

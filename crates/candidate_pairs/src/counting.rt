@@ -32,7 +32,7 @@ pub fn count_candidates(
         → IsTold (HasCandidates (data_of job.now) (items_at candidates.old.part index)) told) }
 {
     // For the proof alone: exactly the frequent items have ranks, each one.
-    let _support = job.support();
+    let _threshold = job.threshold();
     candidates.expand_all()?;
     whole_graphs_accept_the_patterns();
     count_paths(candidates.graph(), room)

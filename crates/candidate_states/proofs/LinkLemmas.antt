@@ -8,7 +8,7 @@ use Rattle.std.proofs.lemmas.List.Quantifiers.{all_pairs_push}
 use Rattle.std.proofs.lemmas.Option.{same_Some, slice_get_within}
 use Rattle.mine_model.proofs.ListLemmas.{Contains-cases, Contains-first, Contains-none}
 use Rattle.automaton_model.specs.declared.state.Edge.{Edge}
-use Rattle.automaton_model.specs.Automata.{State, Accepts as IsAccepted}
+use Rattle.automaton_model.specs.Automata.{StateValue, Accepts as IsAccepted}
 use Rattle.automaton_model.specs.Registry.{IsKeptState, IsRegistry}
 use Rattle.automaton_model.proofs.AutomatonLemmas.{one_of}
 use Rattle.automaton_model.proofs.LanguageLemmas.{node-stays}
@@ -26,7 +26,7 @@ use Rattle.candidate_states.proofs.StageLemmas.{completes-root}
 
 -- ---- what stays
 
-pub numbered-stay : (nodes : List Node) (pivot : ℕ) (states more : List State) (numbers : List Numbers) → IsRegistry states → AreNumbered nodes pivot states numbers
+pub numbered-stay : (nodes : List Node) (pivot : ℕ) (states more : List StateValue) (numbers : List Numbers) → IsRegistry states → AreNumbered nodes pivot states numbers
     → AreNumbered nodes pivot (states ++ more) numbers
 numbered-stay nodes pivot states more numbers registry are node stage number is =
     let at = are node stage number is in
@@ -73,7 +73,7 @@ module _ (before now : List Numbers) (node : ℕ) (stage : Stage) (number : ℕ)
     | inr stays ↦ sym stays ∙ none
   ]
 
-  pub entered-numbered : (nodes : List Node) (pivot : ℕ) (states : List State) → AreNumbered nodes pivot states before → IsStageAt nodes pivot states node stage number
+  pub entered-numbered : (nodes : List Node) (pivot : ℕ) (states : List StateValue) → AreNumbered nodes pivot states before → IsStageAt nodes pivot states node stage number
       → AreNumbered nodes pivot states now
   entered-numbered nodes pivot states are new other flag own is = elim (entered.others other flag) [
     | inl (here, same) ↦
@@ -170,12 +170,12 @@ module _ (numbers : List Numbers) (pivot : ℕ) (stage : Stage) where
 
 -- ---- the state of a node at a stage
 
-module _ (nodes : List Node) (pivot : ℕ) (states : List State) (asked : List Asked) (numbers : List Numbers) (are : AreNumbered nodes pivot states numbers) (node : ℕ) (stage : Stage)
+module _ (nodes : List Node) (pivot : ℕ) (states : List StateValue) (asked : List Asked) (numbers : List Numbers) (are : AreNumbered nodes pivot states numbers) (node : ℕ) (stage : Stage)
     (is : IsTrue (asked_in asked node stage)) (closed : IsClosed nodes pivot asked node)
     (targets : (rank : ℕ) (step : Step) → HasEdge nodes node rank step → IsSettled nodes pivot asked numbers step.next) (steps : List Step)
     (exact : (step : Step) → Contains steps step ↔ (HasEdge nodes node step.rank step × (step.rank ≤ pivot))) (edges : List Edge)
     (linked : AreLinked numbers pivot stage steps edges) where
-  abbrev state' : State
+  abbrev state' : StateValue
   state' = record { accepts = can_end stage; edges = edges }
 
   held-step : (rank : ℕ) (step : Step) → HasEdge nodes node rank step → rank ≤ pivot → Contains steps step × (step.rank ≡ rank)
@@ -223,11 +223,11 @@ module _ (nodes : List Node) (pivot : ℕ) (states : List State) (asked : List A
   }
 
   -- where it stands it accepts what completes
-  module _ (alive : can_end stage ≡ false → length edges ≡ 0 → ⊥) (later : List State) (still : AreNumbered nodes pivot later numbers) (place : ℕ) (at : slice_get later place ≡ Some state') where
+  module _ (alive : can_end stage ≡ false → length edges ≡ 0 → ⊥) (later : List StateValue) (still : AreNumbered nodes pivot later numbers) (place : ℕ) (at : slice_get later place ≡ Some state') where
     forth : (ranks : List ℕ) → IsAccepted later place ranks → Completes nodes pivot node stage ranks
-    forth [] (s, s_is, accepts) = subst (λ (x : State). IsTrue x.accepts) (one_of s state' (slice_get later place) s_is at) accepts
+    forth [] (s, s_is, accepts) = subst (λ (x : StateValue). IsTrue x.accepts) (one_of s state' (slice_get later place) s_is at) accepts
     forth (rank ∷ rest) (s, edge, s_is, held, rank_is, more) =
-        let inside : Contains edges edge = subst (λ (x : State). Contains x.edges edge) (one_of s state' (slice_get later place) s_is at) held in
+        let inside : Contains edges edge = subst (λ (x : StateValue). Contains x.edges edge) (one_of s state' (slice_get later place) s_is at) held in
         let (step, there, same, found) = linked.each edge inside in
         let (has, most) = (exact step).0 there in
         let one : step.rank ≡ rank = sym same ∙ rank_is in (
@@ -270,7 +270,7 @@ stages-settled nodes pivot asked two three four node second third before going e
 
 -- ---- the root
 
-pub root-there : (nodes : List Node) (pivot : ℕ) (states : List State) (root : ℕ) → IsStageAt nodes pivot states 0 Before root → IsPivotRootOf nodes pivot states root
+pub root-there : (nodes : List Node) (pivot : ℕ) (states : List StateValue) (root : ℕ) → IsStageAt nodes pivot states 0 Before root → IsPivotRootOf nodes pivot states root
 root-there nodes pivot states root at = record {
   inside = at.inside;
   language = λ ranks. (
@@ -280,17 +280,17 @@ root-there nodes pivot states root at = record {
 }
 
 -- a state without edges that does not accept is that of no candidates
-abbrev pub dead : State
+abbrev pub dead : StateValue
 dead = record { accepts = false; edges = [] }
 
-pub dead-kept : (states : List State) → IsKeptState states (length states) dead
+pub dead-kept : (states : List StateValue) → IsKeptState states (length states) dead
 dead-kept states = record {
   rising = λ i j d less within. absurd (omega (arith, within));
   back = λ edge held. absurd (Contains-none edge held);
   alive = λ edge held. absurd (Contains-none edge held);
 }
 
-pub root-dead : (nodes : List Node) (pivot : ℕ) (states : List State) (root : ℕ) → slice_get states root ≡ Some dead → ((list : List ℕ) → Completes nodes pivot 0 Before list → ⊥)
+pub root-dead : (nodes : List Node) (pivot : ℕ) (states : List StateValue) (root : ℕ) → slice_get states root ≡ Some dead → ((list : List ℕ) → Completes nodes pivot 0 Before list → ⊥)
     → IsPivotRootOf nodes pivot states root
 root-dead nodes pivot states root at never = record {
   inside = slice_get_within states root dead at;
@@ -298,9 +298,9 @@ root-dead nodes pivot states root at never = record {
 }
   where
     none : (ranks : List ℕ) → IsAccepted states root ranks → ⊥
-    none [] (s, s_is, accepts) = true≢false (sym (subst (λ (x : State). IsTrue x.accepts) (one_of s dead (slice_get states root) s_is at) accepts))
-    none (rank ∷ rest) (s, edge, s_is, held, rank_is, _) = Contains-none edge (subst (λ (x : State). Contains x.edges edge) (one_of s dead (slice_get states root) s_is at) held)
+    none [] (s, s_is, accepts) = true≢false (sym (subst (λ (x : StateValue). IsTrue x.accepts) (one_of s dead (slice_get states root) s_is at) accepts))
+    none (rank ∷ rest) (s, edge, s_is, held, rank_is, _) = Contains-none edge (subst (λ (x : StateValue). Contains x.edges edge) (one_of s dead (slice_get states root) s_is at) held)
 
-pub none-numbered : (nodes : List Node) (pivot : ℕ) (states : List State) (numbers : List Numbers) → ((node : ℕ) (stage : Stage) → number_in numbers node stage ≡ None)
+pub none-numbered : (nodes : List Node) (pivot : ℕ) (states : List StateValue) (numbers : List Numbers) → ((node : ℕ) (stage : Stage) → number_in numbers node stage ≡ None)
     → AreNumbered nodes pivot states numbers
 none-numbered nodes pivot states numbers none node stage number is = (let never : number_in numbers node stage ≡ None = none node stage in absurd (cc))

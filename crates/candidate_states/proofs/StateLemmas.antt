@@ -7,7 +7,7 @@ use Rattle.std.proofs.lemmas.List.{take_more}
 use Rattle.std.proofs.lemmas.Slice.Zip.{AllZip-long}
 use Rattle.mine_model.proofs.ElementLemmas.{get-some}
 use Rattle.automaton_model.specs.declared.state.Edge.{Edge}
-use Rattle.automaton_model.specs.Automata.{State, Accepts as IsAccepted}
+use Rattle.automaton_model.specs.Automata.{StateValue, Accepts as IsAccepted}
 use Rattle.automaton_model.specs.Registry.{IsKeptState, IsRegistry}
 use Rattle.automaton_model.proofs.AutomatonLemmas.{one_of}
 use Rattle.automaton_model.proofs.LanguageLemmas.{node-stays}
@@ -25,7 +25,7 @@ use Rattle.candidate_states.specs.Kept.{state_in, IsEntered, Follows, IsStateAt,
 -- ---- what stays
 
 -- states stay right where the registry grows
-pub states-stay : (nodes : List Node) (states more : List State) (made : List Made) → IsRegistry states → AreStates nodes states made → AreStates nodes (states ++ more) made
+pub states-stay : (nodes : List Node) (states more : List StateValue) (made : List Made) → IsRegistry states → AreStates nodes states made → AreStates nodes (states ++ more) made
 states-stay nodes states more made registry are node ends number is =
     let at = are node ends number is in
     record {
@@ -48,7 +48,7 @@ module _ (before now : List Made) (node : ℕ) (ends : Bool) (state : ℕ) (ente
     | inr stays ↦ stays ∙ is
   ]
 
-  pub entered-states : (nodes : List Node) (states : List State) → AreStates nodes states before → IsStateAt nodes states node ends state → AreStates nodes states now
+  pub entered-states : (nodes : List Node) (states : List StateValue) → AreStates nodes states before → IsStateAt nodes states node ends state → AreStates nodes states now
   entered-states nodes states are new other flag number is = elim (entered.others other flag) [
     | inl (here, same) ↦
         let there : state_in now node ends ≡ Some number = ap (state_in now node) (sym same) ∙ ap (λ (n : ℕ). state_in now n flag) (sym here) ∙ is in
@@ -90,9 +90,9 @@ pub ahead : (nodes : List Node) (node : ℕ) (ends : Bool) (ranks : List ℕ) �
 ahead nodes node ends [] either = elim either [ inl (none, yes') ↦ yes' | inr none ↦ absurd none ]
 ahead nodes node ends (rank ∷ ranks) either = elim either [ inl (none, yes') ↦ absurd (cc) | inr accepts ↦ accepts ]
 
-module _ (nodes : List Node) (states : List State) (made : List Made) (are : AreStates nodes states made) (number : ℕ) (node : Node) (steps : List Step)
+module _ (nodes : List Node) (states : List StateValue) (made : List Made) (are : AreStates nodes states made) (number : ℕ) (node : Node) (steps : List Step)
     (at : slice_get nodes number ≡ Some node) (known : node.edges ≡ Some steps) (ends : Bool) (edges : List Edge) (moved : AllZip (IsMoved made) steps edges) where
-  abbrev state' : State
+  abbrev state' : StateValue
   state' = record { accepts = ends; edges = edges }
 
   has-edge : (step : Step) → Contains steps step → HasEdge nodes number step.rank step
@@ -117,9 +117,9 @@ module _ (nodes : List Node) (states : List State) (made : List Made) (are : Are
   -- where it stands it accepts what follows
   module _ (place : ℕ) (is : slice_get states place ≡ Some state') where
     forth : (ranks : List ℕ) → IsAccepted states place ranks → Follows nodes number ends ranks
-    forth [] (s, s_is, accepts) = subst (λ (x : State). IsTrue x.accepts) (one_of s state' (slice_get states place) s_is is) accepts
+    forth [] (s, s_is, accepts) = subst (λ (x : StateValue). IsTrue x.accepts) (one_of s state' (slice_get states place) s_is is) accepts
     forth (rank ∷ rest) (s, edge, s_is, held, rank_is, more) =
-        let inside : Contains edges edge = subst (λ (x : State). Contains x.edges edge) (one_of s state' (slice_get states place) s_is is) held in
+        let inside : Contains edges edge = subst (λ (x : StateValue). Contains x.edges edge) (one_of s state' (slice_get states place) s_is is) held in
         let (step, there, moved_is) = zip-second (IsMoved made) steps edges moved edge inside in
         let follows : Follows nodes step.next step.ends rest = ((are step.next step.ends edge.to moved_is.to).language rest).0 more in
         (step, (node, steps, at, known, there, sym moved_is.rank ∙ rank_is), behind nodes step.next step.ends rest follows)
@@ -176,11 +176,11 @@ made-more steps i before now state keeps each new k step below at = elim (cases_
 
 -- ---- the whole
 
-pub grows-more : (one two three : List State) → ((more : List State) × (two ≡ one ++ more)) → ((more : List State) × (three ≡ two ++ more)) → (more : List State) × (three ≡ one ++ more)
+pub grows-more : (one two three : List StateValue) → ((more : List StateValue) × (two ≡ one ++ more)) → ((more : List StateValue) × (three ≡ two ++ more)) → (more : List StateValue) × (three ≡ one ++ more)
 grows-more one two three (first, is) (second, also) =
-    (first ++ second, also ∙ ap (λ (l : List State). l ++ second) is ∙ append_assoc one first second)
+    (first ++ second, also ∙ ap (λ (l : List StateValue). l ++ second) is ∙ append_assoc one first second)
 
-pub root-right : (nodes : List Node) (states : List State) (root : ℕ) → IsStateAt nodes states 0 false root → IsRootOf nodes states root
+pub root-right : (nodes : List Node) (states : List StateValue) (root : ℕ) → IsStateAt nodes states 0 false root → IsRootOf nodes states root
 root-right nodes states root at = record {
   inside = at.inside;
   language = λ ranks. ((λ accepts. forth ranks ((at.language ranks).0 accepts)), (λ accepts. (at.language ranks).1 (follows-of nodes 0 false ranks accepts)));

@@ -1,7 +1,7 @@
 -- What is kept while the states of nodes are made.
 use Rattle.std.specs.Prelude.{◌≡◌, ℕ, ◌<◌, ◌⊎◌, Bool, IsTrue, if◌then◌else◌, Option, Some, None, List, [], ◌∷◌, length, slice_index_or}
 use Rattle.automaton_model.specs.declared.state.Edge.{Edge}
-use Rattle.automaton_model.specs.Automata.{State}
+use Rattle.automaton_model.specs.Automata.{StateValue}
 use Rattle.automaton_model.specs.Languages.{IsRightLanguageOf}
 use Rattle.candidate_graph.specs.declared.edge.Edge.{Edge as Step}
 use Rattle.candidate_graph.specs.Graphs.{Node}
@@ -33,13 +33,13 @@ Follows nodes node ends [] = IsTrue ends
 Follows nodes node ends (rank ∷ ranks) = Accepts nodes node (rank ∷ ranks)
 
 -- the state with this number accepts just that
-pub record IsStateAt (nodes : List Node) (states : List State) (node : ℕ) (ends : Bool) (number : ℕ)
+pub record IsStateAt (nodes : List Node) (states : List StateValue) (node : ℕ) (ends : Bool) (number : ℕ)
     : Type 0 where
   pub inside : number < length states
   pub language : IsRightLanguageOf (Follows nodes node ends) states number
 
 -- what was made is right
-abbrev pub AreStates : List Node → List State → List Made → Type 0
+abbrev pub AreStates : List Node → List StateValue → List Made → Type 0
 AreStates nodes states made =
     (node : ℕ) (ends : Bool) (number : ℕ) → state_in made node ends ≡ Some number
     → IsStateAt nodes states node ends number

@@ -1,7 +1,7 @@
 -- States of a registry for a sequence's candidates.
 use Rattle.std.specs.Prelude.{ℕ, ◌≤◌, ◌<◌, ◌⊎◌, IsTrue, List, length, Contains}
 use Rattle.std.specs.List.{AllByRecursion}
-use Rattle.automaton_model.specs.Automata.{State}
+use Rattle.automaton_model.specs.Automata.{StateValue}
 use Rattle.automaton_model.specs.Languages.{IsRightLanguageOf}
 use Rattle.candidate_graph.specs.declared.edge.Edge.{Edge}
 use Rattle.candidate_graph.specs.Graphs.{Node}
@@ -14,7 +14,7 @@ IsTrim nodes =
     → IsTrue edge.ends ⊎ ((ranks : List ℕ) × Accepts nodes edge.next ranks)
 
 -- the state with this number accepts exactly the candidates, of which the empty list is none
-pub record IsRootOf (nodes : List Node) (states : List State) (root : ℕ) : Type 0 where
+pub record IsRootOf (nodes : List Node) (states : List StateValue) (root : ℕ) : Type 0 where
   pub inside : root < length states
   pub language : IsRightLanguageOf (Accepts nodes 0) states root
 
@@ -24,6 +24,6 @@ pub record HasPivot (pivot : ℕ) (ranks : List ℕ) : Type 0 where
   pub held : Contains ranks pivot
 
 -- the state with this number accepts exactly the candidates with the pivot
-pub record IsPivotRootOf (nodes : List Node) (pivot : ℕ) (states : List State) (root : ℕ) : Type 0 where
+pub record IsPivotRootOf (nodes : List Node) (pivot : ℕ) (states : List StateValue) (root : ℕ) : Type 0 where
   pub inside : root < length states
   pub language : IsRightLanguageOf (λ ranks. Accepts nodes 0 ranks × HasPivot pivot ranks) states root

@@ -1,7 +1,7 @@
 -- What is kept while the states of nodes are made for the candidates with one pivot.
 use Rattle.std.specs.Prelude.{◌≡◌, ℕ, ◌≤◌, ◌<◌, ◌==◌, ◌⊎◌, Bool, true, false, IsTrue, if◌then◌else◌, Option, Some, None, List, [], ◌∷◌, length, AllPairs, Contains, slice_index_or}
 use Rattle.automaton_model.specs.declared.state.Edge.{Edge}
-use Rattle.automaton_model.specs.Automata.{State}
+use Rattle.automaton_model.specs.Automata.{StateValue}
 use Rattle.automaton_model.specs.Languages.{IsRightLanguageOf}
 use Rattle.candidate_graph.specs.declared.edge.Edge.{Edge as Step}
 use Rattle.candidate_graph.specs.Graphs.{Node}
@@ -99,14 +99,14 @@ pub record IsNumbered (before now : List Numbers) (node : ℕ) (stage : Stage) (
       ⊎ (number_in now other flag ≡ number_in before other flag)
 
 -- the state with this number accepts just what completes, which is something
-pub record IsStageAt (nodes : List Node) (pivot : ℕ) (states : List State) (node : ℕ) (stage : Stage)
+pub record IsStageAt (nodes : List Node) (pivot : ℕ) (states : List StateValue) (node : ℕ) (stage : Stage)
     (number : ℕ) : Type 0 where
   pub inside : number < length states
   pub language : IsRightLanguageOf (Completes nodes pivot node stage) states number
   pub some : (list : List ℕ) × Completes nodes pivot node stage list
 
 -- what has a number is right
-abbrev pub AreNumbered : List Node → ℕ → List State → List Numbers → Type 0
+abbrev pub AreNumbered : List Node → ℕ → List StateValue → List Numbers → Type 0
 AreNumbered nodes pivot states numbers =
     (node : ℕ) (stage : Stage) (number : ℕ) → number_in numbers node stage ≡ Some number
     → IsStageAt nodes pivot states node stage number

@@ -2,7 +2,7 @@
 
 ghost use Rattle.std.specs.Prelude.{◌≡◌, ℕ, ◌<◌, ◌++◌, Some, List, length, slice_get, Contains, IfOk, OnOk};
 ghost use Rattle.std.specs.List.{AllZip};
-ghost use Rattle.automaton_model.specs.Automata.{State as SeenState};
+ghost use Rattle.automaton_model.specs.Automata.{StateValue};
 ghost use Rattle.automaton_model.specs.Registry.{IsRegistry};
 ghost use Rattle.candidate_graph.specs.declared.edge.Edge.{Edge as Edged};
 ghost use Rattle.candidate_graph.specs.Graphs.{IsWhole};
@@ -32,7 +32,7 @@ pub(crate) fn make_all(
     requires long { length made.old.items ≡ length graph.now.nodes }
     requires states { AreStates graph.now.nodes registry.old made.old.items }
     requires registry { IsRegistry registry.old }
-    ensures grows { (more : List SeenState) × (registry.new ≡ registry.old ++ more) }
+    ensures grows { (more : List StateValue) × (registry.new ≡ registry.old ++ more) }
     ensures registry { IsRegistry registry.new }
     ensures long { length made.new.items ≡ length graph.now.nodes }
     ensures states { AreStates graph.now.nodes registry.new made.new.items }
@@ -62,7 +62,7 @@ fn make_targets(
     requires long { length made.old.items ≡ length graph.now.nodes }
     requires states { AreStates graph.now.nodes registry.old made.old.items }
     requires registry { IsRegistry registry.old }
-    ensures grows { (more : List SeenState) × (registry.new ≡ registry.old ++ more) }
+    ensures grows { (more : List StateValue) × (registry.new ≡ registry.old ++ more) }
     ensures registry { IsRegistry registry.new }
     ensures long { length made.new.items ≡ length graph.now.nodes }
     ensures keeps { Keeps made.old.items made.new.items }
@@ -93,7 +93,7 @@ pub(crate) fn make_state(
     requires long { length made.old.items ≡ length graph.now.nodes }
     requires states { AreStates graph.now.nodes registry.old made.old.items }
     requires registry { IsRegistry registry.old }
-    ensures grows { (more : List SeenState) × (registry.new ≡ registry.old ++ more) }
+    ensures grows { (more : List StateValue) × (registry.new ≡ registry.old ++ more) }
     ensures registry { IsRegistry registry.new }
     ensures long { length made.new.items ≡ length graph.now.nodes }
     ensures keeps { Keeps made.old.items made.new.items }

@@ -1,7 +1,7 @@
 //! The state of the empty prefix for the candidates with a pivot.
 
 ghost use Rattle.std.specs.Prelude.{◌≡◌, ◌<◌, ◌++◌, List, length, IfOk};
-ghost use Rattle.automaton_model.specs.Automata.{State as SeenState};
+ghost use Rattle.automaton_model.specs.Automata.{StateValue};
 ghost use Rattle.automaton_model.specs.Registry.{IsRegistry};
 ghost use Rattle.candidate_graph.specs.Graphs.{IsWhole};
 ghost use Rattle.graph_order.specs.Orders.{IsSomeGraph, AreInOrder};
@@ -33,7 +33,7 @@ pub fn pivot_state(
     requires order { AreInOrder graph.now.nodes order.now }
     requires root { 0 < length graph.now.nodes }
     ensures root { IfOk result (λ root. IsPivotRootOf graph.now.nodes pivot registry.new root) }
-    ensures grows { (more : List SeenState) × (registry.new ≡ registry.old ++ more) }
+    ensures grows { (more : List StateValue) × (registry.new ≡ registry.old ++ more) }
     ensures registry { IsRegistry registry.new }
 {
     // It is a registry, also where memory is wanting.

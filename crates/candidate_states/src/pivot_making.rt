@@ -1,7 +1,7 @@
 //! States of nodes for the candidates with a pivot.
 
 ghost use Rattle.std.specs.Prelude.{◌≡◌, ℕ, ◌≤◌, ◌<◌, ◌++◌, IsTrue, List, length, AllPairs, Contains, OnOk};
-ghost use Rattle.automaton_model.specs.Automata.{State as SeenState};
+ghost use Rattle.automaton_model.specs.Automata.{StateValue};
 ghost use Rattle.automaton_model.specs.Registry.{IsRegistry};
 ghost use Rattle.candidate_graph.specs.declared.edge.Edge.{Edge as Edged};
 ghost use Rattle.candidate_graph.specs.Graphs.{IsWhole};
@@ -38,7 +38,7 @@ pub(crate) fn number_all(
     requires long { length numbers.old.items ≡ length graph.now.nodes }
     requires states { AreNumbered graph.now.nodes pivot registry.old numbers.old.items }
     requires registry { IsRegistry registry.old }
-    ensures grows { (more : List SeenState) × (registry.new ≡ registry.old ++ more) }
+    ensures grows { (more : List StateValue) × (registry.new ≡ registry.old ++ more) }
     ensures registry { IsRegistry registry.new }
     ensures long { length numbers.new.items ≡ length graph.now.nodes }
     ensures states { AreNumbered graph.now.nodes pivot registry.new numbers.new.items }
@@ -71,7 +71,7 @@ fn number_node(
     requires long { length numbers.old.items ≡ length graph.now.nodes }
     requires states { AreNumbered graph.now.nodes pivot registry.old numbers.old.items }
     requires registry { IsRegistry registry.old }
-    ensures grows { (more : List SeenState) × (registry.new ≡ registry.old ++ more) }
+    ensures grows { (more : List StateValue) × (registry.new ≡ registry.old ++ more) }
     ensures registry { IsRegistry registry.new }
     ensures long { length numbers.new.items ≡ length graph.now.nodes }
     ensures keeps { KeepsNumbers numbers.old.items numbers.new.items }
@@ -132,7 +132,7 @@ fn number_at(
     requires long { length numbers.old.items ≡ length graph.now.nodes }
     requires states { AreNumbered graph.now.nodes pivot registry.old numbers.old.items }
     requires registry { IsRegistry registry.old }
-    ensures grows { (more : List SeenState) × (registry.new ≡ registry.old ++ more) }
+    ensures grows { (more : List StateValue) × (registry.new ≡ registry.old ++ more) }
     ensures registry { IsRegistry registry.new }
     ensures long { length numbers.new.items ≡ length graph.now.nodes }
     ensures keeps { KeepsNumbers numbers.old.items numbers.new.items }

@@ -1,4 +1,4 @@
--- The words --support DIGITS --merge FILE .. say a merge, and a merge says nothing but the support and the files.
+-- The words --support DIGITS --merge FILE .. say a merge, and a merge says nothing but the threshold and the files.
 use Rattle.std.proofs.Common.{◌≡◌, ◌≤◌, refl, sym, ap, subst, arith, ℕ, inl, inr, true, false, Bool, List, [], ◌∷◌, ◌++◌, codes, fold, length, map, None}
 use Rattle.std.specs.List.{AllByRecursion}
 use Rattle.std.proofs.lemmas.List.{append_assoc, append-nil}
@@ -20,7 +20,7 @@ use Rattle.command_line.proofs.AnyRows.{all_uses, placed}
 use Rattle.command_line.proofs.AnyCommand.{lacks}
 use Rattle.command_line.proofs.LineCommand.{line_is_said, no_flag, plain_mode, plain_workers}
 
--- a command with this support and this merge alone is said where these are given
+-- a command with this threshold and this merge alone is said where these are given
 module _ (given : List Row) (n : ℕ) (files : List Text) (support : GivesSupport given n) (m : GivesMerge given files) where
   mode : GivesMode given Dfs None None
   mode = plain_mode given m.alone.engine m.alone.simulate m.alone.split

@@ -16,7 +16,7 @@ use Rattle.command_line.proofs.AnyRows.{all_uses}
 use Rattle.command_line.proofs.AnyCommand.{lacks}
 use Rattle.command_line.proofs.LineCommand.{line_is_said, no_flag, plain_mode, plain_workers}
 
--- the digits of a support, an expression and a file were given, and no option that says how they are mined
+-- the digits of a threshold, an expression and a file were given, and no option that says how they are mined
 record IsBare (given : List Row) (digits expression file : Text) : Type 0 where
   pub support : first_of (codes "support") given ≡ Some digits
   pub named : first_of (codes "expression") given ≡ Some expression

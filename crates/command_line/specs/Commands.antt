@@ -20,7 +20,7 @@ task_said (Check proof) = check (string_bytes proof)
 
 abbrev pub command_said : ReadCommand → Command
 command_said said = record {
-  threshold = said.support;
+  threshold = said.threshold;
   source = source_said said.source;
   hierarchy = option_map string_bytes said.hierarchy;
   weighted = said.weighted;

@@ -27,7 +27,7 @@ abbrev pub IsUse : Text → Text → Type 0
 IsUse name word =
     (word ≡ codes "--" ++ name) ⊎ ((value : Text) × (word ≡ codes "--" ++ name ++ codes "=" ++ value))
 
--- the command of this support and source, where no other option is given
+-- the command of this threshold and source, where no other option is given
 abbrev pub plain_command : ℕ → Source → Command
 plain_command threshold source = record {
   threshold = threshold;

@@ -49,7 +49,7 @@ pub record IsNumber (least most : ℕ) (digits : Text) (n : ℕ) : Type 0 where
 abbrev pub IsGiven : List Row → Text → Type 0
 IsGiven found name = first_of name found ≡ Some (codes "true")
 
--- this support was given
+-- this threshold was given
 abbrev pub GivesSupport : List Row → ℕ → Type 0
 GivesSupport found n =
     (digits : Text) × (first_of (codes "support") found ≡ Some digits) × IsNumber 1 most_support digits n
@@ -179,7 +179,7 @@ GivesTask found mine = (IsGiven found (codes "proof") → ⊥) × IsAway found (
 GivesTask found prove = IsGiven found (codes "proof") × IsAway found (codes "check") × IsProvable found
 GivesTask found (check proof) = GivesCheck found proof
 
--- no option was given but the support and the one that asks for a merge
+-- no option was given but the threshold and the one that asks for a merge
 pub record HasNoOther (found : List Row) : Type 0 where
   pub generated : IsAway found (codes "generated")
   pub rule : HasNoRule found

@@ -45,7 +45,7 @@ pub fn made_input_names_no_file()
         → (1 ≤ count) × (count ≤ most_made) × (command.hierarchy ≡ None) × (command.weighted ≡ false) }
 {}
 
-/// A merge names 1 to 64 files, and its words say nothing else but the support.
+/// A merge names 1 to 64 files, and its words say nothing else but the threshold.
 pub fn a_merge_stands_alone()
     ensures { (words : List Text) (command : Command) (files : List Text)
         → IsCommand words command → command.source ≡ merge files

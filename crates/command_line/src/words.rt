@@ -16,7 +16,7 @@ use gap_front::GapRule;
 use mine_model::NoMemory;
 use std::alloc::Global;
 
-/// The greatest support that may be asked for.
+/// The greatest threshold that may be asked for.
 const MOST_SUPPORT: u64 = 1_000_000_000_000_000_000;
 
 /// The most workers that may be asked for.
@@ -100,7 +100,7 @@ pub enum Task {
 #[derive(Debug, Drop)]
 pub struct Command {
     /// The least support of a pattern of the answer, 1 to 1,000,000,000,000,000,000.
-    pub support: u64,
+    pub threshold: u64,
     /// What is mined, and in which sequences, or which files are merged.
     pub source: Source,
     /// The name of the file of the hierarchy, `-` for standard input.
@@ -153,7 +153,7 @@ fn is_given(matches: &ArgMatches<'_>, name: &str) -> bool
     given(matches, name) == Some("true")
 }
 
-/// The support that was given. None where none was, or the value is no support.
+/// The threshold that was given. None where none was, or the value is no threshold.
 fn given_support(matches: &ArgMatches<'_>) -> Option<u64>
     ensures { MatchOption result
         ((n : ℕ) → GivesSupport (rows_of (found_of matches.now)) n → ⊥)
@@ -434,7 +434,7 @@ fn has_no_output(matches: &ArgMatches<'_>) -> bool
     !is_given(matches, "stats") && !is_given(matches, "proof") && given(matches, "check").is_none()
 }
 
-/// Whether no option was given but the support and the one that asks for a merge.
+/// Whether no option was given but the threshold and the one that asks for a merge.
 fn has_no_other(matches: &ArgMatches<'_>) -> bool
     ensures { IsTrue result ↔ HasNoOther (rows_of (found_of matches.now)) }
 {
@@ -563,8 +563,8 @@ fn said(alloc: Global, matches: &ArgMatches<'_>) -> Result<Option<Command>, NoMe
         (λ command. KeepsRules (rows_of (found_of matches.now))
         × Says (rows_of (found_of matches.now)) (command_said command))) }
 {
-    let support = match given_support(matches) {
-        Some(support) => support,
+    let threshold = match given_support(matches) {
+        Some(threshold) => threshold,
         None => return Ok(None),
     };
     let mode = match given_mode(matches) {
@@ -584,7 +584,7 @@ fn said(alloc: Global, matches: &ArgMatches<'_>) -> Result<Option<Command>, NoMe
         None => return Ok(None),
     };
     Ok(Some(Command {
-        support,
+        threshold,
         source,
         hierarchy: given_text(alloc, matches, "hierarchy")?,
         weighted: is_given(matches, "weighted"),

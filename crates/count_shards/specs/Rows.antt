@@ -16,12 +16,12 @@ pub record Appends (IsNew : Row → Type 0) (old new : List Row) : Type 0 where
   pub once : PatternsDiffer added
   pub exact : (row : Row) → Contains added row ↔ IsNew row
 
--- the row is the pattern with the ranks of a list and the sum of that list, which reaches the support
-pub record IsCountedRow (tally : Tally) (order : List Item) (support : ℕ) (row : Row) : Type 0 where
+-- the row is the pattern with the ranks of a list and the sum of that list, which reaches the threshold
+pub record IsCountedRow (tally : Tally) (order : List Item) (threshold : ℕ) (row : Row) : Type 0 where
   pub list : List ℕ
   pub ranked : AreRanked order row.pattern list
   pub counted : sum_of tally list ≡ row.support
-  pub enough : support ≤ row.support
+  pub enough : threshold ≤ row.support
 
 -- the row is a pattern whose ranks have this home, with its count, which reaches the threshold
 pub record IsRowOf (problem : Problem) (home : ℕ) (row : Row) : Type 0 where

@@ -6,24 +6,24 @@ use mine_model::{NoMemory, Ranks, Row, pattern_of};
 use pattern_counts::PatternCounts;
 use std::alloc::Global;
 
-/// Appends the rows of the lists whose sums reach the support.
+/// Appends the rows of the lists whose sums reach the threshold.
 pub(crate) fn append_rows(
     alloc: Global,
     counts: &PatternCounts,
     ranks: &Ranks,
-    support: u64,
+    threshold: u64,
     rows: &mut Vec<Row>,
 ) -> Result<(), NoMemory>
-    requires support { 1 ≤ support }
+    requires threshold { 1 ≤ threshold }
     requires different { AllPairs (λ v w. v ≢ w) ranks.now.order }
     requires ranked { (list : List ℕ) → 1 ≤ sum_of counts.now list
         → All (λ rank. (1 ≤ rank) × (rank ≤ length ranks.now.order)) list }
-    ensures { OnOk result (Appends (IsCountedRow counts.now ranks.now.order support)
+    ensures { OnOk result (Appends (IsCountedRow counts.now ranks.now.order threshold)
         rows.old.items rows.new.items) }
 {
     for number in 0..counts.len() {
         let sum = counts.sum(number);
-        if sum < support {
+        if sum < threshold {
             continue;
         }
         let pattern = pattern_of(alloc, ranks, counts.list(number))?;

@@ -115,7 +115,7 @@ impl Shard {
             (map entry_of (range_with_len 0 (block_count job.now))) }
         ensures { OnOk result (Appends (IsRowOf job.now self.now.home) rows.old.items rows.new.items) }
     {
-        append_rows(alloc, &self.counts, job.ranks(), job.support(), rows)
+        append_rows(alloc, &self.counts, job.ranks(), job.threshold(), rows)
     }
 }
 

@@ -16,7 +16,7 @@ use Rattle.proof_names.specs.Numberings.{IsNumbering, fault_of}
 use Rattle.proof_names.proofs.NumberedLemmas.{good-named, refused-named}
 use Rattle.command_line.specs.Words.{Task, check, Command, IsCommand, IsOfFile}
 use Rattle.desq_run.specs.Said.{checked_text}
-use Rattle.desq_run.specs.Ends.{Input, IsInput, bytes_named, checked_in, known_names, data_of, RefusesProof, IsAccepted, HasGoodProof, IsTextOf, IsAnswerText, IsOfKind, HoldsData, Ends}
+use Rattle.desq_run.specs.Ends.{Input, IsInput, bytes_named, checked_in, known_names, input_data, RefusesProof, IsAccepted, HasGoodProof, IsTextOf, IsAnswerText, IsOfKind, HoldsData, Ends}
 use Rattle.desq_run.specs.Ends as ends
 use Rattle.desq_run.specs.Inputs.{IsJobFor}
 use Rattle.desq_run.specs.Tasks.{IsDone, IsJudged}
@@ -57,14 +57,14 @@ module _ (words : List (List ℕ)) (holds : List ℕ → Option (List ℕ)) (c :
     held_here : HoldsData holds c input
     held_here = held words holds c (said, job.source) input is
 
-    numbers : IsNumbering (data_of input (job_tree words holds c said names problem job)) (known_names input) names problem
+    numbers : IsNumbering (input_data input (job_tree words holds c said names problem job)) (known_names input) names problem
     numbers = job-numbers words holds c said names problem job input held_here of_file
 
     refused_here : (fault : ProofFault) → IfSome (holds file) (λ bytes. IsProofRefusal problem names bytes fault) → RefusesProof input.command.task input (fault_of fault)
     refused_here fault refused = subst (λ (t : Task). RefusesProof t input (fault_of fault)) (sym task_here) (
       job_tree words holds c said names problem job,
       job-says words holds c said names problem job input held_here,
-      (refused-named (data_of input (job_tree words holds c said names problem job)) (known_names input) names problem numbers input.proof).0 fault
+      (refused-named (input_data input (job_tree words holds c said names problem job)) (known_names input) names problem numbers input.proof).0 fault
           (IfSome-at (λ bytes. IsProofRefusal problem names bytes fault) (holds file) input.proof refused told),
     )
 
@@ -77,17 +77,17 @@ module _ (words : List (List ℕ)) (holds : List ℕ → Option (List ℕ)) (c :
     accepted_here (bytes, were, none) fault (inr last) =
         let (tree, says, refusal) = subst (λ (t : Task). RefusesProof t input fault) task_here last.1 in
         let one = says-unique input.command.source tree (job_tree words holds c said names problem job) says (job-says words holds c said names problem job input held_here) in
-        let there : IsProofFileRefusal (data_of input (job_tree words holds c said names problem job)) (known_names input) input.proof fault =
-        subst (λ t. IsProofFileRefusal (data_of input t) (known_names input) input.proof fault) one refusal in
+        let there : IsProofFileRefusal (input_data input (job_tree words holds c said names problem job)) (known_names input) input.proof fault =
+        subst (λ t. IsProofFileRefusal (input_data input t) (known_names input) input.proof fault) one refusal in
         let (cause, is_cause, refuses) =
-        (refused-named (data_of input (job_tree words holds c said names problem job)) (known_names input) names problem numbers input.proof).1 fault there in
+        (refused-named (input_data input (job_tree words holds c said names problem job)) (known_names input) names problem numbers input.proof).1 fault there in
         none cause (subst (λ b. IsProofRefusal problem names b cause) (sym (bytes_here bytes were.same)) refuses)
 
     good_here : (count : ℕ) → OfBytes (holds file) (λ bytes. IsGood problem names (lines_of bytes) count) → HasGoodProof input count
     good_here count (bytes, were, good) = (
       job_tree words holds c said names problem job,
       job-says words holds c said names problem job input held_here,
-      (good-named (data_of input (job_tree words holds c said names problem job)) (known_names input) names problem numbers (lines_of input.proof) count).0
+      (good-named (input_data input (job_tree words holds c said names problem job)) (known_names input) names problem numbers (lines_of input.proof) count).0
           (subst (λ b. IsGood problem names (lines_of b) count) (bytes_here bytes were.same) good),
     )
 

@@ -25,7 +25,7 @@ use Rattle.command_line.proofs.CommandLemmas.{task_suits}
 use Rattle.desq_run.specs.Sources.{IsSourceRefusal, IsUnknownIn, SaysTree}
 use Rattle.desq_run.specs.Said.{names_said, links_said, sequences_said, RefusesHierarchy, RefusesSequences, checked_text}
 use Rattle.desq_run.specs.Merged.{RefusesMerged}
-use Rattle.desq_run.specs.Ends.{Input, known_names, hierarchy_names, IsDataRefusal, RefusesProof, data_of, IsAccepted, IsAnswerTo, AreRowsTo, IsTextOf, IsAnswerText}
+use Rattle.desq_run.specs.Ends.{Input, known_names, hierarchy_names, IsDataRefusal, RefusesProof, input_data, IsAccepted, IsAnswerTo, AreRowsTo, IsTextOf, IsAnswerText}
 use Rattle.desq_run.specs.Checked.{IsCheckRun}
 use Rattle.desq_run.proofs.KnownLemmas.{known-files, says-unique}
 use Rattle.desq_run.proofs.LeafCountLemmas.{leaves_few}
@@ -77,7 +77,7 @@ module _ (words : List (List ℕ)) (input : Input) (said : IsCommand words input
       (sequence_weight input.command.weighted (names_said (read of_file.expression of_file.file) input.hierarchy) input.sequences
       (subst (λ source. Nothing (RefusesSequences source input.command.weighted (names_said source input.hierarchy) input.sequences)) of_file.source none_behind)))
 
-  known : AreKnown (known_names input) (data_of input tree)
+  known : AreKnown (known_names input) (input_data input tree)
   known = record {
     parents = AllByRecursion-from (λ (link : Link (List ℕ)). Contains (known_names input) link.parent) (links_said input.command.source input.hierarchy) (λ link held.
         Contains-front (names_said input.command.source input.hierarchy) (items_of (sequences_said input.command.source input.command.weighted input.sequences)) link.parent
@@ -90,36 +90,36 @@ module _ (words : List (List ℕ)) (input : Input) (said : IsCommand words input
   }
 
   -- a proof of the answer is good
-  pub proof-passes : (answer : List NamedRow) (text : List ℕ) → IsAnswer (data_of input tree) answer → IsProofText (data_of input tree) answer text
-      → IsGoodProof (data_of input tree) (known_names input) (lines_of text) (length answer)
+  pub proof-passes : (answer : List NamedRow) (text : List ℕ) → IsAnswer (input_data input tree) answer → IsProofText (input_data input tree) answer text
+      → IsGoodProof (input_data input tree) (known_names input) (lines_of text) (length answer)
   proof-passes answer text is proof =
-      answer-good (data_of input tree) short light few (known_names input) (known-files input) known said.says.support.2.within.0 answer text is proof
+      answer-good (input_data input tree) short light few (known_names input) (known-files input) known said.says.support.2.within.0 answer text is proof
 
   no_made : (count : ℕ) (expression : List ℕ) → input.command.source ≡ make count expression → ⊥
   no_made count expression own = let other : read of_file.expression of_file.file ≡ make count expression = sym of_file.source ∙ own in cc
 
   -- and its lines are sound
-  pub proof-sound : (answer : List NamedRow) (text : List ℕ) → IsAnswer (data_of input tree) answer → IsProofText (data_of input tree) answer text
+  pub proof-sound : (answer : List NamedRow) (text : List ℕ) → IsAnswer (input_data input tree) answer → IsProofText (input_data input tree) answer text
       → AllByRecursion IsSoundLine (lines_of text)
   proof-sound answer text is proof =
       let (names, sound, held) = distinct-names (known_names input) (known-files input) in
       let least : 1 ≤ input.command.threshold = said.says.support.2.within.0 in
       let limits = within-limits input no_made least accepted tree answer says is in
       subst (λ b. AllByRecursion IsSoundLine (lines_of b)) (sym proof.written)
-      (rows-sound (data_of input tree) short few (known_names input) names sound held proof.rows
-      (AllByRecursion-from (IsFit (data_of input tree) short few (known_names input) names sound held) proof.rows (λ row inside.
+      (rows-sound (input_data input tree) short few (known_names input) names sound held proof.rows
+      (AllByRecursion-from (IsFit (input_data input tree) short few (known_names input) names sound held) proof.rows (λ row inside.
       let there : Contains answer row.row = subst (λ l. Contains l row.row) proof.same (Contains-by (λ (r : ProofRow). r.row) proof.rows row inside) in
-      let frequent : IsFrequent (data_of input tree) row.row.pattern row.row.support = (is.frequent row.row).0 there in
+      let frequent : IsFrequent (input_data input tree) row.row.pattern row.row.support = (is.frequent row.row).0 there in
       record {
-        named = frequent-known (known_names input) (data_of input tree) known least row.row.pattern row.row.support frequent;
+        named = frequent-known (known_names input) (input_data input tree) known least row.row.pattern row.row.support frequent;
         output = AllByRecursion-contained (IsOutputRow input.command.threshold) answer row.row limits.outputs there;
         short = AllByRecursion-weaker (λ name. Contains limits.known name × (length name ≤ most_name_bytes)) (λ name. length name ≤ most_name_bytes) (λ name both. both.1)
             row.row.pattern (AllByRecursion-contained (IsKnownRow limits.known) answer row.row limits.names there);
-        each = (AllByRecursion-contained (IsFullRow (data_of input tree)) proof.rows row proof.full inside).each;
+        each = (AllByRecursion-contained (IsFullRow (input_data input tree)) proof.rows row proof.full inside).each;
       })))
 
 module _ (input checking : Input) (text : List ℕ) (run : IsCheckRun input text checking) where
-  same_data : (tree : Tree (List ℕ)) → data_of input tree ≡ data_of checking tree
+  same_data : (tree : Tree (List ℕ)) → input_data input tree ≡ input_data checking tree
   same_data tree = λ i. record {
     links = links_said (sym run.source i) (sym run.hierarchy i);
     sequences = sequences_said (sym run.source i) (sym run.weighted i) (sym run.sequences i);
@@ -131,7 +131,7 @@ module _ (input checking : Input) (text : List ℕ) (run : IsCheckRun input text
   same_known = λ i. names_said (sym run.source i) (sym run.hierarchy i) ++ items_of (sequences_said (sym run.source i) (sym run.weighted i) (sym run.sequences i))
 
   -- what is good for the one run is good for the other
-  pub good-there : (tree : Tree (List ℕ)) (count : ℕ) → SaysTree input.command.source tree → IsGoodProof (data_of input tree) (known_names input) (lines_of text) count
+  pub good-there : (tree : Tree (List ℕ)) (count : ℕ) → SaysTree input.command.source tree → IsGoodProof (input_data input tree) (known_names input) (lines_of text) count
       → IsAnswerText checking (checked_text count)
   good-there tree count says good =
       subst (λ (t : Task). IsTextOf t checking (checked_text count)) (sym run.task) (
@@ -139,8 +139,8 @@ module _ (input checking : Input) (text : List ℕ) (run : IsCheckRun input text
         (
           tree,
           subst (λ source. SaysTree source tree) (sym run.source) says,
-          subst (λ bytes. IsGoodProof (data_of checking tree) (known_names checking) (lines_of bytes) count) (sym run.bytes)
-              (subst (λ names. IsGoodProof (data_of checking tree) names (lines_of text) count) same_known
+          subst (λ bytes. IsGoodProof (input_data checking tree) (known_names checking) (lines_of bytes) count) (sym run.bytes)
+              (subst (λ names. IsGoodProof (input_data checking tree) names (lines_of text) count) same_known
               (subst (λ d. IsGoodProof d (known_names input) (lines_of text) count) (same_data tree) good)),
         ),
         refl,
@@ -156,19 +156,19 @@ module _ (input checking : Input) (text : List ℕ) (run : IsCheckRun input text
 
   -- where nothing of the one run is refused, and its proof is good and of sound lines, nothing of the other is
   pub free-there : (tree : Tree (List ℕ)) (count : ℕ) → SaysTree input.command.source tree → IsOfFile input.command → IsAccepted input
-      → length text ≤ most_file_bytes → AllByRecursion IsSoundLine (lines_of text) → IsGoodProof (data_of input tree) (known_names input) (lines_of text) count → IsAccepted checking
+      → length text ≤ most_file_bytes → AllByRecursion IsSoundLine (lines_of text) → IsGoodProof (input_data input tree) (known_names input) (lines_of text) count → IsAccepted checking
   free-there tree count says whole accepted size sound good fault (inl (inl refused)) = accepted fault (inl (inl (data-there fault refused)))
   free-there tree count says whole accepted size sound good fault (inl (inr (none, refused))) =
       subst (λ source. RefusesMerged source checking.command.threshold checking.merged fault) (run.source ∙ whole.source) refused
   free-there tree count says whole accepted size sound good fault (inr (none, refused)) =
       let (other, also, refusal) = subst (λ (t : Task). RefusesProof t checking fault) run.task refused in
       let one : other ≡ tree = says-unique input.command.source other tree (subst (λ source. SaysTree source other) run.source also) says in
-      let here : IsProofFileRefusal (data_of input tree) (known_names input) text fault =
-      subst (λ bytes. IsProofFileRefusal (data_of input tree) (known_names input) bytes fault) run.bytes
-      (subst (λ names. IsProofFileRefusal (data_of input tree) names checking.proof fault) (sym same_known)
+      let here : IsProofFileRefusal (input_data input tree) (known_names input) text fault =
+      subst (λ bytes. IsProofFileRefusal (input_data input tree) (known_names input) bytes fault) run.bytes
+      (subst (λ names. IsProofFileRefusal (input_data input tree) names checking.proof fault) (sym same_known)
       (subst (λ d. IsProofFileRefusal d (known_names checking) checking.proof fault) (sym (same_data tree))
-      (subst (λ t. IsProofFileRefusal (data_of checking t) (known_names checking) checking.proof fault) one refusal))) in
-      good-unrefused (data_of input tree) (known_names input) (known-files input) text count size sound good fault here
+      (subst (λ t. IsProofFileRefusal (input_data checking t) (known_names checking) checking.proof fault) one refusal))) in
+      good-unrefused (input_data input tree) (known_names input) (known-files input) text count size sound good fault here
 
 module _ (words : List (List ℕ)) (input checking : Input) (text : List ℕ) (said : IsCommand words input.command) (task : input.command.task ≡ prove)
     (accepted : IsAccepted input) (is : IsAnswerText input text) (run : IsCheckRun input text checking) where
@@ -181,10 +181,10 @@ module _ (words : List (List ℕ)) (input checking : Input) (text : List ℕ) (s
   answer : IsAnswerTo input.command.source input written.0
   answer = subst (λ share. AreRowsTo share input.command.source input written.0) whole.share written.1
 
-  own : IsAnswer (data_of input written.2.0) written.0
+  own : IsAnswer (input_data input written.2.0) written.0
   own = answer-from input.command.source input written.0 written.2.0 refl (has-ranges words input.command said) written.2.1 answer
 
-  good : IsGoodProof (data_of input written.2.0) (known_names input) (lines_of text) (length written.0)
+  good : IsGoodProof (input_data input written.2.0) (known_names input) (lines_of text) (length written.0)
   good = proof-passes words input said task accepted written.2.0 written.2.1 written.0 text own written.2.2
 
   -- a proof that is written is good

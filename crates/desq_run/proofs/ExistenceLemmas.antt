@@ -9,7 +9,7 @@ use Rattle.answer_laws.proofs.AcceptedLemmas.{accepted}
 use Rattle.gap_front.specs.Embedding.{tree_of_rule}
 use Rattle.command_line.specs.Words.{Source, read, embed, make, merge, merged_in, IsCommand}
 use Rattle.desq_run.specs.Sources.{IsSourceRefusal, SaysTree}
-use Rattle.desq_run.specs.Ends.{Input, IsAccepted, data_of, IsAnswerTo}
+use Rattle.desq_run.specs.Ends.{Input, IsAccepted, input_data, IsAnswerTo}
 use Rattle.desq_run.specs.Inputs.{IsMinedBy}
 use Rattle.desq_run.proofs.SourceLemmas.{named-merged, has-ranges, answer-to}
 
@@ -25,5 +25,5 @@ pub accepted-answered : (words : List (List ℕ)) (input : Input) → IsCommand 
 accepted-answered words input said no_files none =
     let mined : IsMinedBy input.command.source = named-merged words input.command said no_files in
     let (tree, says) = says-tree input.command.source mined (λ fault refused. none fault (inl (inl (inl refused)))) in
-    let (answer, is) = answered (data_of input tree) said.says.support.2.within.0 in
+    let (answer, is) = answered (input_data input tree) said.says.support.2.within.0 in
     (answer, answer-to input.command.source input tree answer refl (has-ranges words input.command said) says is)

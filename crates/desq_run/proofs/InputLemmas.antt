@@ -20,7 +20,7 @@ use Rattle.command_line.specs.declared.share.Share.{Share}
 use Rattle.command_line.specs.declared.words.Engine.TheVariants.{Count, Dfs, Pivot, Cand}
 use Rattle.mine_model.specs.PartitionWork.{IsPartitionWork, IsBytewiseBefore, IsNamedBefore}
 use Rattle.desq_run.specs.Said.{links_said}
-use Rattle.desq_run.specs.Ends.{Input, data_of, IsWorkOf}
+use Rattle.desq_run.specs.Ends.{Input, input_data, IsWorkOf}
 use Rattle.desq_run.specs.Parts.{IsPartBy, IsShareWork}
 use Rattle.desq_run.specs.Inputs.{IsHierarchySaid, IsDatabaseSaid, AreLinksWithin, AreFound}
 use Rattle.desq_run.proofs.LinkLemmas.{names-rename}
@@ -42,7 +42,7 @@ pub rows-answer : (input : Input) (tree : Tree (List ℕ)) (known added : List (
     → 1 ≤ input.command.threshold
     → ((row : Row) → Contains rows row ↔ IsFrequent (record { links = h.links; sequences = db; expression = e; threshold = input.command.threshold }) row.pattern row.support)
     → Rises (map (named_row (known ++ added)) rows)
-    → IsAnswer (data_of input tree) (map (named_row (known ++ added)) rows)
+    → IsAnswer (input_data input tree) (map (named_row (known ++ added)) rows)
 rows-answer input tree known added h db e rows distinct read within is_db numbered same_tree named some frequent rises =
     let names : List (List ℕ) = known ++ added in
     let d : Data Item = record { links = h.links; sequences = db; expression = e; threshold = input.command.threshold } in
@@ -67,7 +67,7 @@ pub work-answer : (input : Input) (tree : Tree (List ℕ)) (known added : List (
     → tree_by (name_of (known ++ added)) e ≡ tree
     → AllByRecursion (HasName (known ++ added)) (named_in e) → 1 ≤ input.command.threshold
     → IsWorkOf (IsNamedBefore (known ++ added)) share engine (record { links = h.links; sequences = db; expression = e; threshold = input.command.threshold }) work
-    → IsWorkOf IsBytewiseBefore share engine (data_of input tree) work
+    → IsWorkOf IsBytewiseBefore share engine (input_data input tree) work
 work-answer input tree known added h db e None Count work distinct read within is_db numbered same_tree named some is =
     let names : List (List ℕ) = known ++ added in
     let d : Data Item = record { links = h.links; sequences = db; expression = e; threshold = input.command.threshold } in
@@ -129,7 +129,7 @@ pub found-answer : (input : Input) (tree : Tree (List ℕ)) (known added : List 
     → AllByRecursion (HasName (known ++ added)) (named_in e) → 1 ≤ input.command.threshold
     → AreFound (IsNamedBefore (known ++ added)) share (record { links = h.links; sequences = db; expression = e; threshold = input.command.threshold }) rows
     → Rises (map (named_row (known ++ added)) rows)
-    → AreRowsOf share (data_of input tree) (map (named_row (known ++ added)) rows)
+    → AreRowsOf share (input_data input tree) (map (named_row (known ++ added)) rows)
 found-answer input tree known added h db e None rows distinct read within is_db numbered same_tree named some found rises =
     rows-answer input tree known added h db e rows distinct read within is_db numbered same_tree named some found rises
 found-answer input tree known added h db e (Some share) rows distinct read within is_db numbered same_tree named some found rises =

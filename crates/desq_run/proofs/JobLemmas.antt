@@ -13,14 +13,14 @@ use Rattle.mine_model.specs.Text.{lines_of}
 use Rattle.mine_model.proofs.ListLemmas.{AllByRecursion-from}
 use Rattle.mine_model.proofs.NumberingLemmas.{Renames}
 use Rattle.patex_parser.specs.Parsing.{named_tree}
-use Rattle.mining_job.specs.Problems.{Problem, data_of as problem_data}
+use Rattle.mining_job.specs.Problems.{Problem, data_of}
 use Rattle.pattern_proof.specs.ProofLines.{AreFileNames}
 use Rattle.pattern_proof.proofs.FieldLemmas.{file-names}
 use Rattle.proof_names.specs.Numberings.{IsNumbering}
 use Rattle.command_line.specs.Words.{Source, read, Command, IsCommand, IsOfFile}
 use Rattle.desq_run.specs.Sources.{SaysTree}
 use Rattle.desq_run.specs.Said.{names_said, links_said, sequences_said}
-use Rattle.desq_run.specs.Ends.{Input, IsInput, IsRowsRefusal, known_names, data_of, HasSource, AcceptsHierarchy, HoldsData, AcceptsData}
+use Rattle.desq_run.specs.Ends.{Input, IsInput, IsRowsRefusal, known_names, input_data, HasSource, AcceptsHierarchy, HoldsData, AcceptsData}
 use Rattle.desq_run.specs.Inputs.{IsHierarchySaid, IsJobFor}
 use Rattle.desq_run.proofs.EndLemmas.{read_at, hierarchy-accepted, found_at, names_same, data-accepted, nothing-refused}
 use Rattle.desq_run.proofs.LinkLemmas.{names-rename, links-among, Contains-both, Contains-front}
@@ -79,14 +79,14 @@ module _ (words : List (List ℕ)) (holds : List ℕ → Option (List ℕ)) (c :
         (λ (link : Link Item). HasName names link.child × HasName names link.parent)
         (λ link both. (let bound = few in (omega (arith, both.0, bound), omega (arith, both.1, bound)))) job.inputs.before.links job.inputs.within))
 
-    all_named : AreNamed names (problem_data problem)
+    all_named : AreNamed names (data_of problem)
     all_named = subst (AreNamed names) (sym job.job.sets) (record { links = links_named; sequences = job.numbered; expression = job.job.named })
 
     links_are : problem.hierarchy.links ≡ job.inputs.before.links
     links_are = ap (λ (d : Data Item). d.links) job.job.sets ∙ job.inputs.links
 
     -- the job is that of the data of the input, by the numbers of the names
-    pub job-numbers : IsOfFile c → IsNumbering (data_of input job_tree) (known_names input) names problem
+    pub job-numbers : IsOfFile c → IsNumbering (input_data input job_tree) (known_names input) names problem
     job-numbers of_file = record {
       files = file_names of_file;
       held = λ name. ((same_names name).1, (same_names name).0);

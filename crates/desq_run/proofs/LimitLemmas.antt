@@ -26,7 +26,7 @@ use Rattle.split_merge.specs.Merging.{IsNameText, IsOutputRow, IsKnownRow, AreWi
 use Rattle.split_merge.proofs.FormLemmas.{pieces-named, texts-named}
 use Rattle.desq_run.specs.Sources.{IsSourceRefusal, SaysTree}
 use Rattle.desq_run.specs.Said.{names_said, RefusesHierarchy, RefusesSequences}
-use Rattle.desq_run.specs.Ends.{Input, IsDataRefusal, IsRowsRefusal, IsAccepted, data_of}
+use Rattle.desq_run.specs.Ends.{Input, IsDataRefusal, IsRowsRefusal, IsAccepted, input_data}
 use Rattle.desq_run.proofs.SourceLemmas.{data_by}
 use Rattle.desq_run.proofs.HierarchyLemmas.{all-of}
 use Rattle.desq_run.proofs.LinkLemmas.{links-among, Contains-both, Contains-front, Contains-back}
@@ -266,7 +266,7 @@ module _ (weighted : Bool) (hierarchy sequences : List ℕ) (threshold : ℕ) (s
 
 -- THE ROWS of an accepted input of files keep within the limits
 pub within-limits : (input : Input) → ((count : ℕ) (expression : List ℕ) → input.command.source ≡ make count expression → ⊥) → 1 ≤ input.command.threshold
-    → IsAccepted input → (tree : Tree (List ℕ)) (answer : List NamedRow) → SaysTree input.command.source tree → IsAnswer (data_of input tree) answer → AreWithinLimits input.command.threshold answer
+    → IsAccepted input → (tree : Tree (List ℕ)) (answer : List NamedRow) → SaysTree input.command.source tree → IsAnswer (input_data input tree) answer → AreWithinLimits input.command.threshold answer
 within-limits input file some accepted tree answer says is = by input.command.source refl
   where
     from : (source : Source) → source ≡ input.command.source → Nothing (RefusesHierarchy source input.hierarchy)

@@ -14,13 +14,13 @@ use Rattle.mine_model.specs.Names.{HasName, AreDistinct, named_row}
 use Rattle.mine_model.specs.Ancestry.{Ancestry}
 use Rattle.mine_model.specs.Refusal.{IsUnknown}
 use Rattle.patex_parser.specs.Parsing.{named_tree}
-use Rattle.mining_job.specs.Problems.{Problem, data_of as problem_data}
+use Rattle.mining_job.specs.Problems.{Problem, data_of}
 use Rattle.command_line.specs.Words.{Command, IsCommand, file_of}
 use Rattle.mine_model.specs.declared.mined.Work.{Work}
 use Rattle.command_line.specs.declared.share.Share.{Share}
 use Rattle.mine_model.specs.PartitionWork.{IsBytewiseBefore, IsNamedBefore}
 use Rattle.desq_run.specs.Sources.{SaysTree}
-use Rattle.desq_run.specs.Ends.{bytes_named, data_of, HasSource, AreRowsTo, IsWorkOf}
+use Rattle.desq_run.specs.Ends.{bytes_named, input_data, HasSource, AreRowsTo, IsWorkOf}
 use Rattle.desq_run.specs.Inputs.{IsHierarchySaid, IsDatabaseSaid, AreLinksWithin, AreInputs, HasRanges, IsRead, AreFound, AreRows, AreOrdered, IsJobFor, IsMined}
 use Rattle.desq_run.proofs.HierarchyLemmas.{all-of}
 use Rattle.desq_run.proofs.EndLemmas.{same_command, held, read_at, found_at, nothing-refused, hierarchy-accepted, data-accepted}
@@ -91,7 +91,7 @@ module _ (words : List (List ℕ)) (holds : List ℕ → Option (List ℕ)) (c :
         let same : c ≡ input.command = same_command words holds c has input is in (
           named_tree uses tree,
           subst (λ (d : Command). SaysTree d.source (named_tree uses tree)) same is_read.says,
-          subst (λ (d : Command). IsWorkOf IsBytewiseBefore d.share d.engine (data_of input (named_tree uses tree)) work) same
+          subst (λ (d : Command). IsWorkOf IsBytewiseBefore d.share d.engine (input_data input (named_tree uses tree)) work) same
               (work-answer input (named_tree uses tree) known added before db are.expression c.share c.engine work distinct
               (read_at words holds c has known before read input (held words holds c has input is)) within
               (found_at words holds c has known before read (known ++ added) db found input (held words holds c has input is)) numbered are.same are.named
@@ -128,8 +128,8 @@ module _ (words : List (List ℕ)) (holds : List ℕ → Option (List ℕ)) (c :
 
 -- what was found by the job of a command, in order, is mined
 pub job-mined : (words : List (List ℕ)) (holds : List ℕ → Option (List ℕ)) (c : Command) → IsCommand words c → (names : List (List ℕ)) (problem : Problem)
-    → IsJobFor holds c names problem → HasRanges c.source → 1 ≤ c.threshold → (rows : List Row) (work : Work) → AreOrdered names c.share (problem_data problem) rows
-    → IsWorkOf (IsNamedBefore names) c.share c.engine (problem_data problem) work → IsMined words holds c names rows work
+    → IsJobFor holds c names problem → HasRanges c.source → 1 ≤ c.threshold → (rows : List Row) (work : Work) → AreOrdered names c.share (data_of problem) rows
+    → IsWorkOf (IsNamedBefore names) c.share c.engine (data_of problem) work → IsMined words holds c names rows work
 job-mined words holds c said names problem job ranges some rows work ordered counted =
     mined words holds c (said, job.source) job.inputs.known job.inputs.before job.db job.uses job.tree rows work names job.h job.inputs refl refl job.read ranges some
     job.distinct job.numbered job.known (record {

@@ -14,7 +14,7 @@ use Rattle.command_line.specs.declared.share.Share.{Share}
 use Rattle.patex_parser.specs.Parsing.{use_at, IsParsed}
 use Rattle.command_line.specs.Options.{rows}
 use Rattle.command_line.specs.Words.{Source, read, embed, make, merge, mine, Command, IsCommand, GivesSource, GivesShare, files_in, merged_in}
-use Rattle.desq_run.specs.Ends.{Input, data_of, IsAnswerTo, IsPartTo, AreRowsTo, IsTextOf}
+use Rattle.desq_run.specs.Ends.{Input, input_data, IsAnswerTo, IsPartTo, AreRowsTo, IsTextOf}
 use Rattle.split_merge.specs.Shares.{IsRowOfShare}
 use Rattle.split_merge.proofs.ShareLemmas.{one_list, one_merge}
 use Rattle.desq_run.specs.Parts.{IsPartBy}
@@ -72,14 +72,14 @@ has-share words c is = by c.share is.says.mode.shared
     by (Some share) (text, given, is_text) = (is_text.index.within.0, is_text.index.within.1)
 
 expression-answer : (input : Input) (expression : List ℕ) (tree : Tree (List ℕ)) (answer : List NamedRow)
-    → ((uses : Tree Use) × ReadsAs expression uses × (tree ≡ tree_by (λ (u : Use). u.name) uses)) → IsAnswer (data_of input tree) answer
-    → (uses : Tree Use) × ReadsAs expression uses × IsAnswer (data_of input (tree_by (λ (u : Use). u.name) uses)) answer
+    → ((uses : Tree Use) × ReadsAs expression uses × (tree ≡ tree_by (λ (u : Use). u.name) uses)) → IsAnswer (input_data input tree) answer
+    → (uses : Tree Use) × ReadsAs expression uses × IsAnswer (input_data input (tree_by (λ (u : Use). u.name) uses)) answer
 expression-answer input expression tree answer (uses, reads, same) is =
-    (uses, reads, subst (λ t. IsAnswer (data_of input t) answer) same is)
+    (uses, reads, subst (λ t. IsAnswer (input_data input t) answer) same is)
 
 -- the answer to the tree of a source is that of the source
 pub answer-to : (source : Source) (input : Input) (tree : Tree (List ℕ)) (answer : List NamedRow) → source ≡ input.command.source → HasRanges source
-    → SaysTree source tree → IsAnswer (data_of input tree) answer → IsAnswerTo source input answer
+    → SaysTree source tree → IsAnswer (input_data input tree) answer → IsAnswerTo source input answer
 answer-to (read expression file) input tree answer own ranges says is = expression-answer input expression tree answer says is
 answer-to (embed rule file) input tree answer own ranges same is =
     let told : IsAnswer (data_by (embed rule file) input tree) answer = subst (λ source. IsAnswer (data_by source input tree) answer) (sym own) is in
@@ -90,11 +90,11 @@ answer-to (merge files) input tree answer own ranges says is = absurd says
 
 expression-part : (input : Input) (expression : List ℕ) (share : Share) (tree : Tree (List ℕ)) (part : List NamedRow)
     → ((uses : Tree Use) × ReadsAs expression uses × (tree ≡ tree_by (λ (u : Use). u.name) uses))
-    → IsPartBy (λ row. IsFrequent (data_of input tree) row.pattern row.support) (data_of input tree) share part
-    → (uses : Tree Use) × ReadsAs expression uses × IsPartBy (λ row. IsFrequent (data_of input (tree_by (λ (u : Use). u.name) uses)) row.pattern row.support)
-    (data_of input (tree_by (λ (u : Use). u.name) uses)) share part
+    → IsPartBy (λ row. IsFrequent (input_data input tree) row.pattern row.support) (input_data input tree) share part
+    → (uses : Tree Use) × ReadsAs expression uses × IsPartBy (λ row. IsFrequent (input_data input (tree_by (λ (u : Use). u.name) uses)) row.pattern row.support)
+    (input_data input (tree_by (λ (u : Use). u.name) uses)) share part
 expression-part input expression share tree part (uses, reads, same) is =
-    (uses, reads, subst (λ t. IsPartBy (λ row. IsFrequent (data_of input t) row.pattern row.support) (data_of input t) share part) same is)
+    (uses, reads, subst (λ t. IsPartBy (λ row. IsFrequent (input_data input t) row.pattern row.support) (input_data input t) share part) same is)
 
 -- rows with a property are those with another one that is the same
 part-alike : (One Other : NamedRow → Type 0) → ((row : NamedRow) → One row ↔ Other row) → (d : Data (List ℕ)) (share : Share) (part : List NamedRow)
@@ -111,36 +111,36 @@ part-alike One Other same d share part is = record {
 
 -- the part of the answer to the tree of a source is that of the source
 part-to : (share : Share) (source : Source) (input : Input) (tree : Tree (List ℕ)) (part : List NamedRow) → source ≡ input.command.source → HasRanges source
-    → SaysTree source tree → IsPartBy (λ row. IsFrequent (data_of input tree) row.pattern row.support) (data_of input tree) share part
+    → SaysTree source tree → IsPartBy (λ row. IsFrequent (input_data input tree) row.pattern row.support) (input_data input tree) share part
     → IsPartTo source input share part
 part-to share (read expression file) input tree part own ranges says is = expression-part input expression share tree part says is
 part-to share (make count expression) input tree part own ranges says is = expression-part input expression share tree part says is
 part-to share (merge files) input tree part own ranges says is = absurd says
 part-to share (embed rule file) input tree part own ranges same is =
-    let told : IsPartBy (λ row. IsFrequent (data_of input (tree_of_rule rule)) row.pattern row.support) (data_of input (tree_of_rule rule)) share part =
-    subst (λ t. IsPartBy (λ row. IsFrequent (data_of input t) row.pattern row.support) (data_of input t) share part) same is in
-    part-alike (λ row. IsFrequent (data_of input (tree_of_rule rule)) row.pattern row.support)
+    let told : IsPartBy (λ row. IsFrequent (input_data input (tree_of_rule rule)) row.pattern row.support) (input_data input (tree_of_rule rule)) share part =
+    subst (λ t. IsPartBy (λ row. IsFrequent (input_data input t) row.pattern row.support) (input_data input t) share part) same is in
+    part-alike (λ row. IsFrequent (input_data input (tree_of_rule rule)) row.pattern row.support)
     (λ row. IsFrequentlyEmbedded (links_of input.hierarchy) rule (sequences_of input.command.weighted input.sequences) input.command.threshold row.pattern row.support)
     (λ row. subst (λ source. IsFrequent (data_by source input (tree_of_rule rule)) row.pattern row.support
     ↔ IsFrequentlyEmbedded (links_of input.hierarchy) rule (sequences_of input.command.weighted input.sequences) input.command.threshold row.pattern row.support) own
     (same_rows rule (links_of input.hierarchy) (sequences_of input.command.weighted input.sequences) input.command.threshold
     ranges.0.least ranges.0.some row.pattern row.support))
-    (data_of input (tree_of_rule rule)) share part told
+    (input_data input (tree_of_rule rule)) share part told
 
 -- so of the rows that a run is to find
 pub rows-to : (share : Option Share) (source : Source) (input : Input) (tree : Tree (List ℕ)) (rows : List NamedRow) → source ≡ input.command.source → HasRanges source
-    → SaysTree source tree → AreRowsOf share (data_of input tree) rows → AreRowsTo share source input rows
+    → SaysTree source tree → AreRowsOf share (input_data input tree) rows → AreRowsTo share source input rows
 rows-to None source input tree rows own ranges says is = answer-to source input tree rows own ranges says is
 rows-to (Some share) source input tree rows own ranges says is = part-to share source input tree rows own ranges says is
 
 expression-unique : (input : Input) (expression : List ℕ) (first second : List NamedRow)
-    → ((tree : Tree Use) × ReadsAs expression tree × IsAnswer (data_of input (tree_by (λ (u : Use). u.name) tree)) first)
-    → ((tree : Tree Use) × ReadsAs expression tree × IsAnswer (data_of input (tree_by (λ (u : Use). u.name) tree)) second)
+    → ((tree : Tree Use) × ReadsAs expression tree × IsAnswer (input_data input (tree_by (λ (u : Use). u.name) tree)) first)
+    → ((tree : Tree Use) × ReadsAs expression tree × IsAnswer (input_data input (tree_by (λ (u : Use). u.name) tree)) second)
     → first ≡ second
 expression-unique input expression first second (tree, reads, is) (tree', reads', is') =
     let same : tree' ≡ tree = ReadsAs-unique expression tree' tree reads' reads in
-    IsAnswer-unique (data_of input (tree_by (λ (u : Use). u.name) tree)) first second is
-    (subst (λ (t : Tree Use). IsAnswer (data_of input (tree_by (λ (u : Use). u.name) t)) second) same is')
+    IsAnswer-unique (input_data input (tree_by (λ (u : Use). u.name) tree)) first second is
+    (subst (λ (t : Tree Use). IsAnswer (input_data input (tree_by (λ (u : Use). u.name) t)) second) same is')
 
 pub answer-unique : (source : Source) (input : Input) (first second : List NamedRow) → IsAnswerTo source input first
     → IsAnswerTo source input second → first ≡ second
@@ -166,8 +166,8 @@ expression-part-unique : (input : Input) (expression : List ℕ) (share : Share)
 expression-part-unique input expression share first second (tree, reads, is) (tree', reads', is') =
     let same : tree' ≡ tree = ReadsAs-unique expression tree' tree reads' reads in
     let by_name : Tree Use → Tree (List ℕ) = tree_by (λ (u : Use). u.name) in
-    part-unique (λ row. IsFrequent (data_of input (by_name tree)) row.pattern row.support) (data_of input (by_name tree)) share first second is
-    (subst (λ (t : Tree Use). IsPartBy (λ row. IsFrequent (data_of input (by_name t)) row.pattern row.support) (data_of input (by_name t)) share second) same is')
+    part-unique (λ row. IsFrequent (input_data input (by_name tree)) row.pattern row.support) (input_data input (by_name tree)) share first second is
+    (subst (λ (t : Tree Use). IsPartBy (λ row. IsFrequent (input_data input (by_name t)) row.pattern row.support) (input_data input (by_name t)) share second) same is')
 
 -- a run is to find one list of rows
 pub rows-unique : (share : Option Share) (source : Source) (input : Input) (first second : List NamedRow) → AreRowsTo share source input first
@@ -194,7 +194,7 @@ summary-forth input count expression text own whole (rows, is, same) =
 pub summary-back : (input : Input) (count : ℕ) (expression text : List ℕ) → input.command.source ≡ make count expression
     → input.command.share ≡ None → IsSummary count expression input.command.threshold text → IsTextOf mine input text
 summary-back input count expression text own whole (tree, reads, rows, answer, same) =
-    let here : IsAnswer (data_of input (tree_by (λ (u : Use). u.name) tree)) rows =
+    let here : IsAnswer (input_data input (tree_by (λ (u : Use). u.name) tree)) rows =
     subst (λ source. IsAnswer (data_by source input (tree_by (λ (u : Use). u.name) tree)) rows) (sym own) answer in (
       rows,
       subst (λ share. AreRowsTo share input.command.source input rows) (sym whole) (subst (λ source. IsAnswerTo source input rows) (sym own) (tree, reads, here)),

@@ -16,7 +16,7 @@ use Rattle.mine_model.proofs.OnceLemmas.{same_list_or_not}
 use Rattle.answer_laws.proofs.ListingLemmas.{lists-discrete, listing-decides}
 use Rattle.answer_laws.proofs.OutputLemmas.{patterns}
 use Rattle.mine_model.specs.declared.mined.Work.{Work}
-use Rattle.mining_job.specs.Problems.{Problem, data_of as problem_data}
+use Rattle.mining_job.specs.Problems.{Problem, data_of}
 use Rattle.pattern_proof.specs.Writings.{AreOfAnswer, GainsProof, GainsPart}
 use Rattle.proof_names.specs.NamedProofs.{IsGoodProof, IsProofText}
 use Rattle.proof_names.specs.Numberings.{IsNumbering, IsFileName}
@@ -27,7 +27,7 @@ use Rattle.command_line.specs.declared.share.Share.{Share}
 use Rattle.command_line.specs.Words.{read, merge, Task, mine, prove, check, Command, IsCommand, IsOfFile, SuitsTask, merged_in}
 use Rattle.desq_run.specs.Sources.{SaysTree}
 use Rattle.desq_run.specs.Said.{output_of, checked_text}
-use Rattle.desq_run.specs.Ends.{Input, IsInput, checked_in, known_names, data_of, IsAccepted, AreRowsTo, IsTextOf, IsAnswerText, HoldsData}
+use Rattle.desq_run.specs.Ends.{Input, IsInput, checked_in, known_names, input_data, IsAccepted, AreRowsTo, IsTextOf, IsAnswerText, HoldsData}
 use Rattle.desq_run.specs.Inputs.{HasRanges, IsMinedBy, AreFound, IsJobFor, IsMined}
 use Rattle.desq_run.specs.Tasks.{IsDone, Gains, GainsFirst}
 use Rattle.desq_run.proofs.EndLemmas.{rows-accepted, same_command, held}
@@ -43,9 +43,9 @@ text-unique mine input first second other (rows, is, text) (rows', is', text') =
 text-unique prove input first second other is is' = absurd (other refl)
 text-unique (check file) input first second other (count, (tree, says, good), text) (count', (tree', says', good'), text') =
     let clean = AllByRecursion-weaker IsFileName (Each is_name_byte true) (λ name is. is.1) (known_names input) (known-files input) in
-    let also : IsGoodProof (data_of input tree) (known_names input) (lines_of input.proof) count' =
-    subst (λ t. IsGoodProof (data_of input t) (known_names input) (lines_of input.proof) count') (says-unique input.command.source tree' tree says' says) good' in
-    text ∙ ap checked_text (count-unique (known_names input) clean (data_of input tree) (lines_of input.proof) count count' good also) ∙ sym text'
+    let also : IsGoodProof (input_data input tree) (known_names input) (lines_of input.proof) count' =
+    subst (λ t. IsGoodProof (input_data input t) (known_names input) (lines_of input.proof) count') (says-unique input.command.source tree' tree says' says) good' in
+    text ∙ ap checked_text (count-unique (known_names input) clean (input_data input tree) (lines_of input.proof) count count' good also) ∙ sym text'
 
 -- it is decided of a sequence whether it has a pattern
 decided : (d : Data (List ℕ)) (items pattern : List (List ℕ)) → IsPatternOf d.links d.expression items pattern ⊎ (IsPatternOf d.links d.expression items pattern → ⊥)
@@ -64,7 +64,7 @@ answer-text words input said mined none rows are mine unchecked = (output_of inp
 answer-text words input said mined none rows are (check file) unchecked = absurd (none-some file (sym unchecked))
 answer-text words input said mined none rows are prove unchecked =
     let (tree, says) = says-tree input.command.source (named-merged words input.command said mined) (λ fault refused. none fault (inl (inl (inl refused)))) in
-    let (text, is) = proof-of (data_of input tree) rows in
+    let (text, is) = proof-of (input_data input tree) rows in
     (text, (rows, are, (tree, says, is)))
 
 -- rows with names
@@ -77,17 +77,17 @@ named-rows names rows named =
 -- A proof that was written by the numbers of names is one of the answer
 
 module _ (input : Input) (tree : Tree (List ℕ)) (says : SaysTree input.command.source tree) (names : List (List ℕ)) (problem : Problem)
-    (numbering : IsNumbering (data_of input tree) (known_names input) names problem) (rows : List Row)
+    (numbering : IsNumbering (input_data input tree) (known_names input) names problem) (rows : List Row)
     (named : All (λ (row : Row). All (HasName names) row.pattern) rows)
     (are : AreRowsTo input.command.share input.command.source input (map (named_row names) rows)) where
   some_proof : (text : List ℕ) × IsTextOf prove input text
-  some_proof = let (text, is) = proof-of (data_of input tree) (map (named_row names) rows) in (text, (map (named_row names) rows, are, (tree, says, is)))
+  some_proof = let (text, is) = proof-of (input_data input tree) (map (named_row names) rows) in (text, (map (named_row names) rows, are, (tree, says, is)))
 
   pub proof-gained : (before after : Option (List ℕ)) → GainsProof problem names rows before after → Gains (IsTextOf prove input) before after
   proof-gained None after gains = (some_proof.0, some_proof.1, tt)
   proof-gained (Some told) after (bytes, proof, same) = (
     bytes,
-    (map (named_row names) rows, are, (tree, says, text-is-named (data_of input tree) (known_names input) names problem numbering rows bytes (named-rows names rows named) proof)),
+    (map (named_row names) rows, are, (tree, says, text-is-named (input_data input tree) (known_names input) names problem numbering rows bytes (named-rows names rows named) proof)),
     same,
   )
 
@@ -95,7 +95,7 @@ module _ (input : Input) (tree : Tree (List ℕ)) (says : SaysTree input.command
   part-gained None after gains = (some_proof.0, some_proof.1, tt)
   part-gained (Some told) after (bytes, proof, n, less, same) = (
     bytes,
-    (map (named_row names) rows, are, (tree, says, text-is-named (data_of input tree) (known_names input) names problem numbering rows bytes (named-rows names rows named) proof)),
+    (map (named_row names) rows, are, (tree, says, text-is-named (input_data input tree) (known_names input) names problem numbering rows bytes (named-rows names rows named) proof)),
     (n, less, same),
   )
 
@@ -150,7 +150,7 @@ pub file-ranges : (c : Command) → IsOfFile c → HasRanges c.source
 file-ranges c of_file = subst HasRanges (sym of_file.source) tt
 
 -- the rows of an answer, or of its part, are frequent
-pub found-frequent : (Ties : Item → Item → Type 0) (share : Option Share) (problem : Problem) (rows : List Row) → AreFound Ties share (problem_data problem) rows → AreOfAnswer problem rows
+pub found-frequent : (Ties : Item → Item → Type 0) (share : Option Share) (problem : Problem) (rows : List Row) → AreFound Ties share (data_of problem) rows → AreOfAnswer problem rows
 found-frequent Ties None problem rows found = λ row held. (found row).0 held
 found-frequent Ties (Some share) problem rows (order, list, found) = λ row held. ((found row).0 held).0
 

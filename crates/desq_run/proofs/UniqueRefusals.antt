@@ -21,7 +21,7 @@ use Rattle.split_merge.specs.Merging.{FileFault}
 use Rattle.split_merge.proofs.RefusalLemmas.{merge-unique}
 use Rattle.desq_run.specs.Said.{RefusesHierarchy, RefusesSequences}
 use Rattle.desq_run.specs.Merged.{fault_in, RefusesMerged}
-use Rattle.desq_run.specs.Ends.{Input, known_names, data_of, RefusesProof}
+use Rattle.desq_run.specs.Ends.{Input, known_names, input_data, RefusesProof}
 use Rattle.desq_run.proofs.KnownLemmas.{says-unique, known-files}
 
 IsTextRefusal-unique : (file : Which) (line : ℕ) (text : List ℕ) → AtMostOne (IsTextRefusal file line text)
@@ -92,5 +92,5 @@ proof-once mine input = λ f g p q. absurd p
 proof-once prove input = λ f g p q. absurd p
 proof-once (check file) input = λ f g (tree, says, refused) (other, also, as_well).
     file-unique (known_names input) (AllByRecursion-weaker IsFileName (Each is_name_byte true) (λ name is. is.1) (known_names input) (known-files input))
-    (data_of input tree) input.proof f g refused
-    (subst (λ t. IsProofFileRefusal (data_of input t) (known_names input) input.proof g) (says-unique input.command.source other tree also says) as_well)
+    (input_data input tree) input.proof f g refused
+    (subst (λ t. IsProofFileRefusal (input_data input t) (known_names input) input.proof g) (says-unique input.command.source other tree also says) as_well)

@@ -85,8 +85,8 @@ IsRowsRefusal input = FirstOf (IsDataRefusal input)
     (RefusesMerged input.command.source input.command.threshold input.merged)
 
 -- the data of the input, with a tree over names
-abbrev pub data_of : Input → Tree (List ℕ) → Data (List ℕ)
-data_of input tree = record {
+abbrev pub input_data : Input → Tree (List ℕ) → Data (List ℕ)
+input_data input tree = record {
   links = links_said input.command.source input.hierarchy;
   sequences = sequences_in input;
   expression = tree;
@@ -99,7 +99,7 @@ abbrev pub RefusesProof : Task → Input → Fault → Type 0
 RefusesProof mine input fault = ⊥
 RefusesProof prove input fault = ⊥
 RefusesProof (check file) input fault = (tree : Tree (List ℕ)) × SaysTree input.command.source tree
-    × IsProofFileRefusal (data_of input tree) (known_names input) input.proof fault
+    × IsProofFileRefusal (input_data input tree) (known_names input) input.proof fault
 
 -- the first refusal: of what the rows are found in, and last of the proof that is checked
 abbrev pub IsFirstRefusal : Input → Fault → Type 0
@@ -113,19 +113,19 @@ IsAccepted input = (fault : Fault) → IsFirstRefusal input fault → ⊥
 -- lengths what is embedded in them. Of a merge they are the rows of all lines.
 abbrev pub IsAnswerTo : Source → Input → List NamedRow → Type 0
 IsAnswerTo (read expression file) input answer = (tree : Tree Use) × ReadsAs expression tree
-    × IsAnswer (data_of input (tree_by (λ (u : Use). u.name) tree)) answer
+    × IsAnswer (input_data input (tree_by (λ (u : Use). u.name) tree)) answer
 IsAnswerTo (embed rule file) input answer = IsEmbeddedAnswer (links_of input.hierarchy) rule
     (sequences_of input.command.weighted input.sequences) input.command.threshold answer
 IsAnswerTo (make count expression) input answer = (tree : Tree Use) × ReadsAs expression tree
-    × IsAnswer (data_of input (tree_by (λ (u : Use). u.name) tree)) answer
+    × IsAnswer (input_data input (tree_by (λ (u : Use). u.name) tree)) answer
 IsAnswerTo (merge files) input answer = IsMerge input.command.threshold input.merged answer
 
 -- the rows are those of the answer to the expression whose pivot is in the share, in order
 abbrev pub IsPartOf : List ℕ → Input → Share → List NamedRow → Type 0
 IsPartOf expression input share rows = (tree : Tree Use) × ReadsAs expression tree
     × IsPartBy (λ row.
-    IsFrequent (data_of input (tree_by (λ (u : Use). u.name) tree)) row.pattern row.support)
-    (data_of input (tree_by (λ (u : Use). u.name) tree)) share rows
+    IsFrequent (input_data input (tree_by (λ (u : Use). u.name) tree)) row.pattern row.support)
+    (input_data input (tree_by (λ (u : Use). u.name) tree)) share rows
 
 -- they are those of the answer of the source
 abbrev pub IsPartTo : Source → Input → Share → List NamedRow → Type 0
@@ -133,7 +133,7 @@ IsPartTo (read expression file) input share rows = IsPartOf expression input sha
 IsPartTo (embed rule file) input share rows = IsPartBy (λ row.
     IsFrequentlyEmbedded (links_of input.hierarchy) rule
     (sequences_of input.command.weighted input.sequences) input.command.threshold row.pattern row.support)
-    (data_of input (tree_of_rule rule)) share rows
+    (input_data input (tree_of_rule rule)) share rows
 IsPartTo (make count expression) input share rows = IsPartOf expression input share rows
 IsPartTo (merge files) input share rows = ⊥
 
@@ -145,12 +145,12 @@ AreRowsTo (Some share) source input rows = IsPartTo source input share rows
 -- the text is a proof of the rows, over the data of the input
 abbrev pub IsProofOfRows : Input → List NamedRow → List ℕ → Type 0
 IsProofOfRows input rows text = (tree : Tree (List ℕ)) × SaysTree input.command.source tree
-    × IsProofText (data_of input tree) rows text
+    × IsProofText (input_data input tree) rows text
 
 -- the proof that is checked is good, over the data and with the names of the input, and has so many rows
 abbrev pub HasGoodProof : Input → ℕ → Type 0
 HasGoodProof input count = (tree : Tree (List ℕ)) × SaysTree input.command.source tree
-    × IsGoodProof (data_of input tree) (known_names input) (lines_of input.proof) count
+    × IsGoodProof (input_data input tree) (known_names input) (lines_of input.proof) count
 
 -- The text is what a run with this task writes: what is written of the answer, or of its part; or in place of
 -- it a proof of the answer; or of a proof that is checked how many rows it has.
@@ -179,7 +179,7 @@ IsWorkOf Ties None Cand d work = IsCandidateSetWork Ties d work
 -- the work is that of the command on its input, where items of one frequency rank by their names
 abbrev pub IsWork : Input → Work → Type 0
 IsWork input work = (tree : Tree (List ℕ)) × SaysTree input.command.source tree
-    × IsWorkOf IsBytewiseBefore input.command.share input.command.engine (data_of input tree) work
+    × IsWorkOf IsBytewiseBefore input.command.share input.command.engine (input_data input tree) work
 
 -- the command names a file of this kind; the files of a merge count from 1
 abbrev pub NamesKind : Command → Which → Type 0

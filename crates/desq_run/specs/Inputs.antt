@@ -14,7 +14,7 @@ use Rattle.mine_model.specs.Support.{Sequence}
 use Rattle.mine_model.specs.Answer.{Data, IsFrequent, Rises}
 use Rattle.mine_model.specs.Names.{name_of, HasName, AreDistinct, sequence_by, named_row}
 use Rattle.mine_model.specs.Ranks.{AreTiesByName}
-use Rattle.mining_job.specs.Problems.{Problem, data_of as problem_data}
+use Rattle.mining_job.specs.Problems.{Problem, data_of}
 use Rattle.mine_model.specs.Ancestry.{Ancestry}
 use Rattle.item_hierarchy.specs.declared.edges.EdgeRow.{EdgeRow}
 use Rattle.item_hierarchy.specs.declared.hierarchy_fault.CloseFault.{CloseFault}
@@ -197,7 +197,7 @@ pub record IsJobOf (names : List (List ℕ)) (h : Ancestry) (db : List (Sequence
   pub expression : Tree Item
   pub same : tree_by (name_of names) expression ≡ tree
   pub named : AllByRecursion (HasName names) (named_in expression)
-  pub sets : problem_data problem
+  pub sets : data_of problem
       ≡ record { links = h.links; sequences = db; expression = expression; threshold = threshold }
   pub items : problem.hierarchy.items ≡ length names
   pub ties : AreTiesByName names problem.ranking

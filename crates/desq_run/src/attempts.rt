@@ -52,7 +52,7 @@ fn mine_input<R: Threads + Wait + Sync, F: Files, G: Gate>(
 ) -> Result<Answer, Fault>
     requires may { (file : List ℕ) → NamesFile (command_said command.now) file
         → IsTrue (F.may files.old file) }
-    requires support { 1 ≤ command.now.support }
+    requires threshold { 1 ≤ command.now.threshold }
     requires workers { 1 ≤ command.now.workers }
     requires few { command.now.workers ≤ most_workers }
     requires mined { IsMinedBy (source_said command.now.source) }
@@ -119,7 +119,7 @@ fn merge_input<F: Files>(
     ensures same_files { F.holds files.new ≡ F.holds files.old }
     ensures never_falls { F.faults files.old ≤ F.faults files.new }
 {
-    let Merged { names, rows } = merge_outputs(alloc, command.support, file_names, files)?;
+    let Merged { names, rows } = merge_outputs(alloc, command.threshold, file_names, files)?;
     Ok(Answer {
         names,
         rows,
@@ -141,7 +141,7 @@ fn find_rows<R: Threads + Wait + Sync, F: Files, G: Gate>(
 ) -> Result<Answer, Fault>
     requires may { (file : List ℕ) → NamesFile (command_said command.now) file
         → IsTrue (F.may files.old file) }
-    requires support { 1 ≤ command.now.support }
+    requires threshold { 1 ≤ command.now.threshold }
     requires workers { 1 ≤ command.now.workers }
     requires few { command.now.workers ≤ most_workers }
     requires ranges { HasRanges (source_said command.now.source) }
@@ -272,7 +272,7 @@ fn give_answer<R: Threads + Wait + Sync, F: Files, O: Sink, G: Gate>(
 ) -> Result<Work, Fault>
     requires may { (file : List ℕ) → NamesFile (command_said command.now) file
         → IsTrue (F.may files.old file) }
-    requires support { 1 ≤ command.now.support }
+    requires threshold { 1 ≤ command.now.threshold }
     requires workers { 1 ≤ command.now.workers }
     requires few { command.now.workers ≤ most_workers }
     requires ranges { HasRanges (source_said command.now.source) }
@@ -313,7 +313,7 @@ fn carry_out<R: Threads + Wait + Sync, F: Files, O: Sink, G: Gate>(
 ) -> Result<Work, Fault>
     requires may { (file : List ℕ) → NamesFile (command_said command.now) file
         → IsTrue (F.may files.old file) }
-    requires support { 1 ≤ command.now.support }
+    requires threshold { 1 ≤ command.now.threshold }
     requires workers { 1 ≤ command.now.workers }
     requires few { command.now.workers ≤ most_workers }
     requires ranges { HasRanges (source_said command.now.source) }

@@ -82,7 +82,7 @@ fn judge<R: Threads + Sync, F: Files>(
 ) -> Result<u64, Fault>
     requires may { (file : List ℕ) → NamesFile (command_said command.now) file
         → IsTrue (F.may files.old file) }
-    requires support { 1 ≤ command.now.support }
+    requires threshold { 1 ≤ command.now.threshold }
     requires task { task_said command.now.task ≡ to_check proof.now }
     requires suits { SuitsTask (task_said command.now.task) (command_said command.now) }
     ensures judged { (words : List (List ℕ)) → IsCommand words (command_said command.now)
@@ -135,7 +135,7 @@ pub(crate) fn check<R: Threads + Sync, F: Files, O: Sink>(
 ) -> Result<Work, Fault>
     requires may { (file : List ℕ) → NamesFile (command_said command.now) file
         → IsTrue (F.may files.old file) }
-    requires support { 1 ≤ command.now.support }
+    requires threshold { 1 ≤ command.now.threshold }
     requires task { task_said command.now.task ≡ to_check proof.now }
     requires suits { SuitsTask (task_said command.now.task) (command_said command.now) }
     ensures done { (words : List (List ℕ)) → IsCommand words (command_said command.now)

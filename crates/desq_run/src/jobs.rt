@@ -41,10 +41,10 @@ fn job_of<R: Threads + Sync>(
     hierarchy: Hierarchy,
     db: Db,
     expression: &Expr,
-    support: u64,
+    threshold: u64,
     workers: u32,
 ) -> Result<Job, NoMemory>
-    requires support { 1 ≤ support }
+    requires threshold { 1 ≤ threshold }
     requires items { hierarchy.items ≡ length names.now }
     requires sequences { AllByRecursion (λ s. AllByRecursion (HasName names.now) s.items) db }
     requires named { AllByRecursion (HasName names.now) (named_in (tree_of expression.now)) }
@@ -53,14 +53,14 @@ fn job_of<R: Threads + Sync>(
       links = hierarchy.links;
       sequences = db;
       expression = tree_of expression.now;
-      threshold = support;
+      threshold = threshold;
     }) }
     ensures items { IfOk result (λ job. job.hierarchy.items ≡ hierarchy.items) }
     ensures ties { IfOk result (λ job. AreTiesByName names.now job.ranking) }
 {
-    let ranks = count(rt, alloc, &hierarchy, &db, support, names, workers)?;
+    let ranks = count(rt, alloc, &hierarchy, &db, threshold, names, workers)?;
     let fst = compile(alloc, expression)?;
-    Ok(Job::new(hierarchy, db, fst, ranks, support))
+    Ok(Job::new(hierarchy, db, fst, ranks, threshold))
 }
 
 /// The names of items, to look up those of an expression.
@@ -83,17 +83,17 @@ fn job_by<R: Threads + Sync>(
     hierarchy: Hierarchy,
     db: Db,
     parsed: &Parsed,
-    support: u64,
+    threshold: u64,
     workers: u32,
 ) -> Result<Job, Fault>
-    requires support { 1 ≤ support }
+    requires threshold { 1 ≤ threshold }
     requires items { hierarchy.items ≡ length names.now }
     requires sequences { AllByRecursion (λ s. AllByRecursion (HasName names.now) s.items) db }
     requires within { AreWithin (length (map use_view parsed.now.uses.items))
         (named_in (tree_of parsed.now.tree)) }
     requires leaves { unfolded_leaves (tree_of parsed.now.tree) ≤ most_leaves }
     ensures job { IfOk result (λ job. IsJobOf names.now hierarchy db
-        (named_tree (map use_view parsed.now.uses.items) (tree_of parsed.now.tree)) support job) }
+        (named_tree (map use_view parsed.now.uses.items) (tree_of parsed.now.tree)) threshold job) }
     ensures known { OnOk result ((fault : Fault)
         → ¬ IsUnknown names.now (map use_view parsed.now.uses.items) fault) }
     ensures refused { IfErr result (λ fault. (fault ≡ OutOfMemory)
@@ -107,7 +107,7 @@ fn job_by<R: Threads + Sync>(
         hierarchy,
         db,
         &expression,
-        support,
+        threshold,
         workers,
     )?)
 }
@@ -128,7 +128,7 @@ pub(crate) fn read_job<R: Threads + Sync, F: Files>(
 ) -> Result<NamedJob, Fault>
     requires may { (file : List ℕ) → NamesFile (command_said command.now) file
         → IsTrue (F.may files.old file) }
-    requires support { 1 ≤ command.now.support }
+    requires threshold { 1 ≤ command.now.threshold }
     requires mined { IsMinedBy (source_said command.now.source) }
     requires ranges { HasRanges (source_said command.now.source) }
     ensures job { IfOk result (λ read.
@@ -157,7 +157,7 @@ pub(crate) fn read_job<R: Threads + Sync, F: Files>(
         hierarchy,
         db,
         &parsed,
-        command.support,
+        command.threshold,
         command.workers,
     )?;
     Ok(NamedJob { names, job })

@@ -12,7 +12,7 @@ ghost use Rattle.command_line.specs.declared.share.Share.{Share};
 ghost use Rattle.split_merge.specs.Shares.{IsPart};
 ghost use Rattle.split_merge.specs.Merging.{IsMerge, AreAllNumbers, FileFault, IsMergeRefusal};
 ghost use Rattle.desq_run.specs.Sources.{SaysTree};
-ghost use Rattle.desq_run.specs.Ends.{Input, checked_in, known_names, IsFirstRefusal, IsAccepted, IsAnswerTo, IsPartTo, IsAnswerText, data_of};
+ghost use Rattle.desq_run.specs.Ends.{Input, checked_in, known_names, IsFirstRefusal, IsAccepted, IsAnswerTo, IsPartTo, IsAnswerText, input_data};
 ghost use Rattle.desq_run.specs.Said.{checked_text};
 ghost use Rattle.desq_run.specs.Shared.{AreShareRuns, IsMergeRun};
 ghost use Rattle.desq_run.specs.Checked.{IsCheckRun};
@@ -57,7 +57,7 @@ pub fn a_share_finds_its_part_of_the_answer()
     ensures { (input : Input) (share : Share) (answer part : List NamedRow)
         → IsAnswerTo input.command.source input answer → IsPartTo input.command.source input share part
         → (tree : Tree (List ℕ)) × SaysTree input.command.source tree
-        × IsPart (data_of input tree) share.index share.of answer part }
+        × IsPart (input_data input tree) share.index share.of answer part }
 {}
 
 /// The outputs of the runs of all shares, in any order of the files, are not refused where none is too large,
@@ -96,7 +96,7 @@ pub fn a_checked_proof_shows_its_rows()
         × (rows : List ProofRow) × SayRows (known_names input) (lines_of input.proof) rows
         × (text ≡ checked_text (length rows))
         × ((row : ProofRow) → Contains rows row → (row.row.pattern ≢ [])
-        × ((n : ℕ) → HasSupport (data_of input tree).links tree (data_of input tree).sequences
+        × ((n : ℕ) → HasSupport (input_data input tree).links tree (input_data input tree).sequences
         row.row.pattern n → row.row.support ≤ n)) }
 {}
 

@@ -42,7 +42,7 @@ fn fault_of(file: Which, fault: MergeFault) -> Fault
 /// Reads the rows of the files of these names, one file after another.
 fn read_outputs<F: Files>(
     alloc: Global,
-    support: u64,
+    threshold: u64,
     file_names: &[String],
     files: &mut F,
     names: &mut Names,
@@ -51,11 +51,11 @@ fn read_outputs<F: Files>(
     requires may { (name : List ℕ) → Contains (map string_bytes file_names.now) name
         → IsTrue (F.may files.old name) }
     requires few { length file_names.now ≤ most_merged }
-    requires none { AreRowsOfLines support [] names.old held.old }
-    ensures taken { OnOk result (WereTaken support (F.holds files.old) (map string_bytes file_names.now)
+    requires none { AreRowsOfLines threshold [] names.old held.old }
+    ensures taken { OnOk result (WereTaken threshold (F.holds files.old) (map string_bytes file_names.now)
         names.new held.new) }
     ensures cut { IfErr result (λ fault.
-        IsCutShort support (F.holds files.old) (map string_bytes file_names.now) fault) }
+        IsCutShort threshold (F.holds files.old) (map string_bytes file_names.now) fault) }
     ensures read_fault { (file : Which) → result ≡ Err (Read file)
         → Rose (F.faults files.old) (F.faults files.new) }
     ensures no_write { result ≢ Err Write }
@@ -64,7 +64,7 @@ fn read_outputs<F: Files>(
     ensures never_falls { F.faults files.old ≤ F.faults files.new }
 {
     for (at, name) in file_names.iter().enumerate() {
-        match read_rows(alloc, files, name.as_str(), support, names, held) {
+        match read_rows(alloc, files, name.as_str(), threshold, names, held) {
             Ok(()) => {}
             Err(fault) => return Err(fault_of(Which::Merged(at as u32 + 1), fault)),
         }
@@ -76,19 +76,19 @@ fn read_outputs<F: Files>(
 /// an answer.
 pub(crate) fn merge_outputs<F: Files>(
     alloc: Global,
-    support: u64,
+    threshold: u64,
     file_names: &[String],
     files: &mut F,
 ) -> Result<Merged, Fault>
     requires may { (name : List ℕ) → Contains (map string_bytes file_names.now) name
         → IsTrue (F.may files.old name) }
     requires few { length file_names.now ≤ most_merged }
-    ensures merged { IfOk result (λ merged. WereMerged support (F.holds files.old)
+    ensures merged { IfOk result (λ merged. WereMerged threshold (F.holds files.old)
         (map string_bytes file_names.now) (map (named_row merged.names) merged.rows.items)) }
     ensures named { IfOk result (λ merged. All
         (λ row. All (HasName merged.names) row.pattern) merged.rows.items) }
     ensures fails { IfErr result (λ fault. (fault ≡ OutOfMemory)
-        ⊎ IsCutShort support (F.holds files.old) (map string_bytes file_names.now) fault) }
+        ⊎ IsCutShort threshold (F.holds files.old) (map string_bytes file_names.now) fault) }
     ensures read_fault { (file : Which) → result ≡ Err (Read file)
         → Rose (F.faults files.old) (F.faults files.new) }
     ensures no_write { result ≢ Err Write }
@@ -100,7 +100,7 @@ pub(crate) fn merge_outputs<F: Files>(
     rows_read_in_order_are_the_merge();
     let mut names = Names::new(alloc)?;
     let mut held = MergedRows::new(alloc);
-    read_outputs(alloc, support, file_names, files, &mut names, &mut held)?;
+    read_outputs(alloc, threshold, file_names, files, &mut names, &mut held)?;
     let mut rows = held.into_rows()?;
     order(rows.as_mut_slice(), &names);
     Ok(Merged { names, rows })

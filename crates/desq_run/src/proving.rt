@@ -63,7 +63,7 @@ pub(crate) fn prove<R: Threads + Wait + Sync, F: Files, O: Sink, G: Gate>(
 ) -> Result<Work, Fault>
     requires may { (file : List ℕ) → NamesFile (command_said command.now) file
         → IsTrue (F.may files.old file) }
-    requires support { 1 ≤ command.now.support }
+    requires threshold { 1 ≤ command.now.threshold }
     requires workers { 1 ≤ command.now.workers }
     requires few { command.now.workers ≤ most_workers }
     requires share { HasShare command.now.share }

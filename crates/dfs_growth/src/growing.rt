@@ -73,7 +73,7 @@ fn row_of(
         IsRowOf (data_of job.now) job.now.ranking.order prefix.pivot prefix.ranks row) }
 {
     let support = support(part, snapshots);
-    if support < job.support() {
+    if support < job.threshold() {
         return Ok(None);
     }
     let pattern = pattern_of(alloc, job.ranks(), &label[1..])?;
@@ -97,7 +97,7 @@ fn kids_of<'a>(
     ensures kids { IfOk result (λ kids. let prefix = prefix_at job.now label.now in
         AreKids (data_of job.now) job.now.ranking.order prefix.pivot prefix.ranks (map label_at kids.items)) }
 {
-    let grown = grow(alloc, part, snapshots, job.support(), room)?;
+    let grown = grow(alloc, part, snapshots, job.threshold(), room)?;
     let longer = grown.longer;
     nodes(alloc, job, label, part, grown.next.as_slice(), longer)
 }

@@ -23,7 +23,7 @@ use std::alloc::Global;
 use std::sync::Arc;
 use std::thread::Threads;
 
-/// The nodes of these seeds whose sequences weigh at least the support, in their order.
+/// The nodes of these seeds whose sequences weigh at least the threshold, in their order.
 pub fn roots<'a>(
     alloc: Global,
     job: &'a Job,
@@ -34,11 +34,11 @@ pub fn roots<'a>(
     ensures roots { IfOk result (λ nodes. AreRootsOf (data_of job.now) job.now.ranking.order
         (map (λ (seed : Seed). pivot_of seed.pivot) seeds.items) (map label_at nodes.items)) }
 {
-    let support = job.support();
+    let threshold = job.threshold();
     let alphabet = Arc::new(alloc, alphabet_of_seeds(alloc, job, seeds.as_slice())?)?;
     let mut nodes = Vec::new(alloc);
     'seeds: for seed in seeds {
-        if weight(job, seed.sequences.as_slice()) >= support {
+        if weight(job, seed.sequences.as_slice()) >= threshold {
             nodes.push(root(alloc, job, seed, alphabet.clone()?)?)?;
         }
     }
@@ -46,34 +46,34 @@ pub fn roots<'a>(
 }
 
 // What items may do under the bound of all ranks: those that occur in sequences of seeds that weigh at least
-// the support, or all that occur where these are as many as all sequences.
+// the threshold, or all that occur where these are as many as all sequences.
 fn alphabet_of_seeds(alloc: Global, job: &Job, seeds: &[PartSeed]) -> Result<Alphabet, NoMemory>
     requires complete { All (IsComplete job.now) seeds.now }
     ensures { IfOk result (IsWholeAlphabet job.now) }
 {
-    let support = job.support();
+    let threshold = job.threshold();
     if heavy_sequences(job, seeds) >= u64::from(job.db().sequences()) {
         return whole_alphabet(alloc, job);
     }
     let mut all = empty_alphabet(alloc, job)?;
     'seeds: for seed in seeds {
         let sequences = seed.sequences.as_slice();
-        if weight(job, sequences) >= support {
+        if weight(job, sequences) >= threshold {
             meet_items_of(alloc, job, &mut all, sequences)?;
         }
     }
     Ok(all)
 }
 
-// How many sequences those of these seeds have together that weigh at least the support.
+// How many sequences those of these seeds have together that weigh at least the threshold.
 fn heavy_sequences(job: &Job, seeds: &[PartSeed]) -> u64
     requires { All (IsComplete job.now) seeds.now }
 {
-    let support = job.support();
+    let threshold = job.threshold();
     let mut count: u64 = 0;
     'seeds: for seed in seeds {
         let sequences = seed.sequences.as_slice();
-        if weight(job, sequences) >= support {
+        if weight(job, sequences) >= threshold {
             count = count.saturating_add(sequences.len() as u64);
         }
     }
@@ -81,7 +81,8 @@ fn heavy_sequences(job: &Job, seeds: &[PartSeed]) -> u64
 }
 
 /// The root of the search without pivots, where the sequences that have a pattern of frequent items weigh at
-/// least the support. They are found by so many threads; where no item has a rank, no sequence is looked at.
+/// least the threshold. They are found by so many threads; where no item has a rank, no sequence is looked
+/// at.
 pub fn whole_roots<'a, R: Threads + Sync>(
     rt: &R,
     workers: u32,
@@ -114,7 +115,7 @@ pub fn whole_roots_alone<'a>(alloc: Global, job: &'a Job) -> Result<Vec<Node<'a>
 }
 
 // The node of the empty prefix, of which this is kept, where the sequences of the part weigh at least the
-// support.
+// threshold.
 fn roots_at<'a>(
     alloc: Global,
     job: &'a Job,
@@ -129,7 +130,7 @@ fn roots_at<'a>(
 {
     // There are so few sequences that those of the part are a seed.
     let _count = job.db().sequences();
-    if weight(job, part.sequences()) < job.support() {
+    if weight(job, part.sequences()) < job.threshold() {
         return Ok(Vec::new(alloc));
     }
     let label = root_label(alloc, None)?;

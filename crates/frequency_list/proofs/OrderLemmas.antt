@@ -24,18 +24,18 @@ use Rattle.frequency_list.specs.Order.{item_cmp, ComesBefore}
 
 -- Which items are frequent
 
--- the items with numbers below the count whose frequency reaches the support
+-- the items with numbers below the count whose frequency reaches the threshold
 abbrev pub AreFrequentBelow : ℕ → ℕ → List ℕ → List Item → Type 0
-AreFrequentBelow count support frequencies items =
-    (w : Item) → Contains items w ↔ ((w.0 < count) × (support ≤ slice_index frequencies w.0))
+AreFrequentBelow count threshold frequencies items =
+    (w : Item) → Contains items w ↔ ((w.0 < count) × (threshold ≤ slice_index frequencies w.0))
 
-module _ (support : ℕ) (frequencies : List ℕ) (n : ℕ) (items : List Item) (are : AreFrequentBelow n support frequencies items) where
-  pub frequent-more : support ≤ slice_index frequencies n → AreFrequentBelow (n + 1) support frequencies (items ++ item_at n ∷ [])
+module _ (threshold : ℕ) (frequencies : List ℕ) (n : ℕ) (items : List Item) (are : AreFrequentBelow n threshold frequencies items) where
+  pub frequent-more : threshold ≤ slice_index frequencies n → AreFrequentBelow (n + 1) threshold frequencies (items ++ item_at n ∷ [])
   frequent-more enough w = (
     λ held. (elim (Contains-append_cases items (item_at n ∷ []) w held) [
       | inl earlier ↦ let both = (are w).0 earlier in (omega (arith, both.0), both.1)
       | inr last ↦ elim (Contains-cases (item_at n) [] w last) [
-        | inl same ↦ let e : w.0 ≡ n = ap (λ (v : Item). v.0) same in (omega arith, subst (λ k. support ≤ slice_index frequencies k) (sym e) enough)
+        | inl same ↦ let e : w.0 ≡ n = ap (λ (v : Item). v.0) same in (omega arith, subst (λ k. threshold ≤ slice_index frequencies k) (sym e) enough)
         | inr no' ↦ absurd (Contains-none w no')
       ]
     ]),
@@ -45,7 +45,7 @@ module _ (support : ℕ) (frequencies : List ℕ) (n : ℕ) (items : List Item) 
     ]),
   )
 
-  pub frequent-skip : slice_index frequencies n < support → AreFrequentBelow (n + 1) support frequencies items
+  pub frequent-skip : slice_index frequencies n < threshold → AreFrequentBelow (n + 1) threshold frequencies items
   frequent-skip few w = (
     λ held. (let both = (are w).0 held in (omega (arith, both.0), both.1)),
     λ both. (elim (cases_eq w.0 n) [

@@ -40,12 +40,12 @@ module _ (frequencies : List ℕ) (names : List (List ℕ)) where
     pub AreTiesByName-sorted : AreTiesByName names (record { order = order; frequencies = frequencies })
     AreTiesByName-sorted i j d less within = comes_by_name (get_or order i d) (get_or order j d) (sorted i j d less within)
 
-    pub AreRanks-sorted : (links : List (Link Item)) (sequences : List (Sequence Item)) (support : ℕ)
+    pub AreRanks-sorted : (links : List (Link Item)) (sequences : List (Sequence Item)) (threshold : ℕ)
         → All (λ link. (link.child.0 < length frequencies) × (link.parent.0 < length frequencies)) links
-        → AllByRecursion (λ s. AllByRecursion (λ t. t.0 < length frequencies) s.items) sequences → 1 ≤ support → AreFrequencies links sequences frequencies
-        → ((w : Item) → Contains order w ↔ ((w.0 < length frequencies) × (support ≤ slice_index frequencies w.0)))
-        → AreRanks links sequences support (record { order = order; frequencies = frequencies })
-    AreRanks-sorted links sequences support ends within least are frequent = record {
+        → AllByRecursion (λ s. AllByRecursion (λ t. t.0 < length frequencies) s.items) sequences → 1 ≤ threshold → AreFrequencies links sequences frequencies
+        → ((w : Item) → Contains order w ↔ ((w.0 < length frequencies) × (threshold ≤ slice_index frequencies w.0)))
+        → AreRanks links sequences threshold (record { order = order; frequencies = frequencies })
+    AreRanks-sorted links sequences threshold ends within least are frequent = record {
       exact = are;
       frequent = λ w. (
         (λ held. let both = (frequent w).0 held in record { frequency = slice_index frequencies w.0; exact = are w both.0; enough = both.1 }),

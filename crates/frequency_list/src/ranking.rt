@@ -10,35 +10,35 @@ use mine_model::{Item, NoMemory};
 use std::alloc::Global;
 use std::cmp::Ordering;
 
-/// The items whose frequency reaches the support, in the order of their ranks.
+/// The items whose frequency reaches the threshold, in the order of their ranks.
 pub(crate) fn ranked(
     alloc: Global,
     frequencies: &[u64],
-    support: u64,
+    threshold: u64,
     names: &Names,
 ) -> Result<Vec<Item>, NoMemory>
     requires { length frequencies.now ≤ length names.now }
     ensures frequent { IfOk result (λ order. (w : Item) → Contains order.items w
-        ↔ ((w.0 < length frequencies.now) × (support ≤ slice_index frequencies.now w.0))) }
+        ↔ ((w.0 < length frequencies.now) × (threshold ≤ slice_index frequencies.now w.0))) }
     ensures sorted { IfOk result (λ order. AllPairs (ComesBefore frequencies.now names.now) order.items) }
 {
     // For the proof alone: names differ, so no two items have the same name.
     let _count = names.count();
-    let mut order = frequent(alloc, frequencies, support)?;
+    let mut order = frequent(alloc, frequencies, threshold)?;
     order.sort_unstable_by(|first, second| compare(frequencies, names, *first, *second));
     Ok(order)
 }
 
-/// The items whose frequency reaches the support, by their numbers.
-fn frequent(alloc: Global, frequencies: &[u64], support: u64) -> Result<Vec<Item>, NoMemory>
+/// The items whose frequency reaches the threshold, by their numbers.
+fn frequent(alloc: Global, frequencies: &[u64], threshold: u64) -> Result<Vec<Item>, NoMemory>
     requires { length frequencies.now ≤ 2 ^ 32 }
     ensures exact { IfOk result (λ items. (w : Item) → Contains items.items w
-        ↔ ((w.0 < length frequencies.now) × (support ≤ slice_index frequencies.now w.0))) }
+        ↔ ((w.0 < length frequencies.now) × (threshold ≤ slice_index frequencies.now w.0))) }
     ensures rises { IfOk result (λ items. AllPairs (λ v w. v.0 < w.0) items.items) }
 {
     let mut items = Vec::new(alloc);
     for (number, frequency) in frequencies.iter().enumerate() {
-        if *frequency >= support {
+        if *frequency >= threshold {
             items.push(Item(number as u32))?;
         }
     }

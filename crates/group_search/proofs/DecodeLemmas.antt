@@ -11,7 +11,7 @@ use Rattle.mine_model.proofs.ListLemmas.{Contains-cases, Contains-first, Contain
 use Rattle.mine_model.proofs.AncestryLemmas.{slice_range-behind}
 use Rattle.automaton_model.specs.declared.groups.Group.{Group}
 use Rattle.automaton_model.specs.declared.state.Edge.{Edge}
-use Rattle.automaton_model.specs.Automata.{State, Accepts, edge_code, state_code, code_of}
+use Rattle.automaton_model.specs.Automata.{StateValue, Accepts, edge_code, state_code, code_of}
 use Rattle.automaton_model.specs.Groups.{LieIn}
 use Rattle.automaton_model.specs.Searches.{Load}
 use Rattle.automaton_model.proofs.AutomatonLemmas.{code-same}
@@ -73,13 +73,13 @@ behind-two xs = let long = length-drop 2 xs in take_all (length xs - 2) (drop 2 
 
 -- so much of the code was read
 pub record IsReading (base : ℕ) (code : List ℕ) (heads : List Head) (edges : List Edge) (left : List ℕ) (all_heads : List Head) (all_edges : List Edge) : Type 0 where
-  pub done : List State
-  pub rest : List State
+  pub done : List StateValue
+  pub rest : List StateValue
   pub cut : code ≡ code_of (done ++ rest)
   pub left_is : left ≡ code_of rest
   pub added : IsAdded base done heads edges all_heads all_edges
 
-pub reading-first : (base : ℕ) (code : List ℕ) (states : List State) (heads : List Head) (edges : List Edge) → code ≡ code_of states → AreHeld heads edges
+pub reading-first : (base : ℕ) (code : List ℕ) (states : List StateValue) (heads : List Head) (edges : List Edge) → code ≡ code_of states → AreHeld heads edges
     → IsReading base code heads edges code heads edges
 reading-first base code states heads edges is held = record {
   done = [];
@@ -97,20 +97,20 @@ flag-back true = refl
 flag-back false = refl
 
 -- the code of a state and of those behind it
-state-first : (state : State) (rest : List State) → code_of (state ∷ rest) ≡ flag_of state.accepts ∷ length state.edges ∷ (flat_map edge_code state.edges ++ code_of rest)
+state-first : (state : StateValue) (rest : List StateValue) → code_of (state ∷ rest) ≡ flag_of state.accepts ∷ length state.edges ∷ (flat_map edge_code state.edges ++ code_of rest)
 state-first state rest = flat_map-cons state_code state rest
 
 module _ (base : ℕ) (code : List ℕ) (heads : List Head) (edges : List Edge) (left : List ℕ) (all_heads : List Head) (all_edges : List Edge)
     (reading : IsReading base code heads edges left all_heads all_edges) where
   -- where two numbers are left a state is
-  state-left : 2 ≤ length left → (state : State) × (more : List State) × (reading.rest ≡ state ∷ more)
+  state-left : 2 ≤ length left → (state : StateValue) × (more : List StateValue) × (reading.rest ≡ state ∷ more)
   state-left some = go reading.rest (ap length reading.left_is)
     where
-      go : (rest : List State) → length left ≡ length (code_of rest) → (state : State) × (more : List State) × (rest ≡ state ∷ more)
+      go : (rest : List StateValue) → length left ≡ length (code_of rest) → (state : StateValue) × (more : List StateValue) × (rest ≡ state ∷ more)
       go [] long = absurd (let none : length (code_of []) ≡ 0 = refl in omega (arith, some, long, none))
       go (state ∷ more) long = (state, more, refl)
 
-  shape : (some : 2 ≤ length left) → (state : State) × (more : List State) × (reading.rest ≡ state ∷ more)
+  shape : (some : 2 ≤ length left) → (state : StateValue) × (more : List StateValue) × (reading.rest ≡ state ∷ more)
       × (left ≡ flag_of state.accepts ∷ length state.edges ∷ (flat_map edge_code state.edges ++ code_of more))
   shape some =
       let (state, more, is) = state-left some in
@@ -156,10 +156,10 @@ module _ (base : ℕ) (code : List ℕ) (heads : List Head) (edges : List Edge) 
         };
       }
 
-  pub reading-done : length left < 2 → (states : List State) × (code ≡ code_of states) × IsAdded base states heads edges all_heads all_edges
+  pub reading-done : length left < 2 → (states : List StateValue) × (code ≡ code_of states) × IsAdded base states heads edges all_heads all_edges
   reading-done few = (reading.done, reading.cut ∙ ap (λ r. code_of (reading.done ++ r)) (none reading.rest (ap length reading.left_is)) ∙ ap code_of (append-nil reading.done), reading.added)
     where
-      none : (rest : List State) → length left ≡ length (code_of rest) → rest ≡ []
+      none : (rest : List StateValue) → length left ≡ length (code_of rest) → rest ≡ []
       none [] long = refl
       none (state ∷ more) long = absurd (let parts = ap length (state-first state more) in omega (arith, few, long, parts))
 
@@ -178,7 +178,7 @@ searched-lies count most code is list = (
   (λ (states, coded, accepts). subst (λ s. Accepts s 0 list) (code-same states is.states (sym coded ∙ is.coded)) accepts),
 )
 
-root-longer : (states more : List State) → IsTrim states → (load : LoadedState) (group : Group) → IsRoot states load group → IsRoot (states ++ more) load group
+root-longer : (states more : List StateValue) → IsTrim states → (load : LoadedState) (group : Group) → IsRoot states load group → IsRoot (states ++ more) load group
 root-longer states more trim load group root = record {
   there = (let inside = root.there in let long = length-append states more in omega (arith, inside, long));
   same = λ list. (
@@ -188,7 +188,7 @@ root-longer states more trim load group root = record {
   weight = root.weight;
 }
 
-roots-longer : (states more : List State) → IsTrim states → (loads : List LoadedState) (groups : List Group) → AllZip (IsRoot states) loads groups → AllZip (IsRoot (states ++ more)) loads groups
+roots-longer : (states more : List StateValue) → IsTrim states → (loads : List LoadedState) (groups : List Group) → AllZip (IsRoot states) loads groups → AllZip (IsRoot (states ++ more)) loads groups
 roots-longer states more trim [] [] zip = zip
 roots-longer states more trim [] (group ∷ groups) zip = absurd zip
 roots-longer states more trim (load ∷ loads) [] zip = absurd zip
@@ -200,7 +200,7 @@ zip-push R [] (w ∷ ys) x y zip is = absurd zip
 zip-push R (v ∷ xs) [] x y zip is = absurd zip
 zip-push R (v ∷ xs) (w ∷ ys) x y zip is = (zip.0, zip-push R xs ys x y zip.1 is)
 
-module _ (front states : List State) (group : Group) (count most : ℕ) (searched : IsSearched count most group.automaton) (coded : group.automaton ≡ code_of states)
+module _ (front states : List StateValue) (group : Group) (count most : ℕ) (searched : IsSearched count most group.automaton) (coded : group.automaton ≡ code_of states)
     (base : ℕ) (base_is : base ≡ length front) where
   these : searched.states ≡ states
   these = code-same searched.states states (sym searched.coded ∙ coded)
@@ -236,10 +236,10 @@ module _ (front states : List State) (group : Group) (count most : ℕ) (searche
 
 pub read-more : (groups : List Group) (heads : List Head) (edges : List Edge) (loads : List LoadedState) → AreRead groups heads edges loads
     → (group : Group) (count most : ℕ) → IsSearched count most group.automaton → (base : ℕ) → base ≡ length heads
-    → (states : List State) → group.automaton ≡ code_of states → (new_heads : List Head) (new_edges : List Edge) → IsAdded base states heads edges new_heads new_edges
+    → (states : List StateValue) → group.automaton ≡ code_of states → (new_heads : List Head) (new_edges : List Edge) → IsAdded base states heads edges new_heads new_edges
     → AreRead (groups ++ group ∷ []) new_heads new_edges (loads ++ (record { state = base; weight = group.count }) ∷ [])
 read-more groups heads edges loads read group count most searched base base_is states coded new_heads new_edges added =
-    let front : List State = states_in heads edges in
+    let front : List StateValue = states_in heads edges in
     let here : base ≡ length (states_in heads edges) = base_is ∙ sym (length-map heads (state_in edges)) in
     let whole : states_in new_heads new_edges ≡ states_in heads edges ++ map (shifted (length (states_in heads edges))) states =
     added.states ∙ ap (λ b. states_in heads edges ++ map (shifted b) states) here in
@@ -254,11 +254,11 @@ read-more groups heads edges loads read group count most searched base base_is s
 
 -- What the search asks of what was read
 
-pub roots-there : (states : List State) (loads : List LoadedState) (groups : List Group) → AllZip (IsRoot states) loads groups
+pub roots-there : (states : List StateValue) (loads : List LoadedState) (groups : List Group) → AllZip (IsRoot states) loads groups
     → (load : LoadedState) → Contains loads load → load.state < length states
 roots-there states loads groups zip load held = (let (group, inside, root) = zip-first (IsRoot states) loads groups zip load held in root.there)
 
-pub roots-finite : (states : List State) (count most : ℕ) (loads : List LoadedState) (groups : List Group) → AllZip (IsRoot states) loads groups
+pub roots-finite : (states : List StateValue) (count most : ℕ) (loads : List LoadedState) (groups : List Group) → AllZip (IsRoot states) loads groups
     → ((group : Group) → Contains groups group → IsSearched count most group.automaton) → AreFinite states count most (map load_of loads)
 roots-finite states count most loads groups zip searched = λ load held list accepts.
     let (from, inside, is) = Contains-from load_of loads load held in
@@ -267,7 +267,7 @@ roots-finite states count most loads groups zip searched = λ load held list acc
     let state : load.state ≡ from.state = ap (λ (l : Load). l.state) is in
     code.finite list ((searched-lies count most group.automaton code list).1 ((root.same list).0 (subst (λ k. Accepts states k list) state accepts)))
 
-pub roots-weigh : (states : List State) (loads : List LoadedState) (groups : List Group) → AllZip (IsRoot states) loads groups
+pub roots-weigh : (states : List StateValue) (loads : List LoadedState) (groups : List Group) → AllZip (IsRoot states) loads groups
     → sum_by (λ (load : LoadedState). load.weight) loads ≡ sum_by (λ (group : Group). group.count) groups
 roots-weigh states [] [] zip = refl
 roots-weigh states [] (group ∷ groups) zip = absurd zip
@@ -277,7 +277,7 @@ roots-weigh states (load ∷ loads) (group ∷ groups) zip =
     ∙ (λ i. zip.0.weight i + roots-weigh states loads groups zip.1 i)
     ∙ sym (sum_by-cons (λ (g : Group). g.count) group groups)
 
-pub roots-stand : (states : List State) (loads : List LoadedState) (groups : List Group) → AllZip (IsRoot states) loads groups → AllZip (Stands states) (map load_of loads) groups
+pub roots-stand : (states : List StateValue) (loads : List LoadedState) (groups : List Group) → AllZip (IsRoot states) loads groups → AllZip (Stands states) (map load_of loads) groups
 roots-stand states [] [] zip = zip
 roots-stand states [] (group ∷ groups) zip = absurd zip
 roots-stand states (load ∷ loads) [] zip = absurd zip

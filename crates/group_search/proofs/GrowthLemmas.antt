@@ -14,7 +14,7 @@ use Rattle.mine_model.proofs.ListLemmas.{Contains-cases, Contains-first, Contain
 use Rattle.mine_model.proofs.ElementLemmas.{flat-cases}
 use Rattle.mine_model.proofs.RankedLemmas.{ranked-same, same_ranks}
 use Rattle.automaton_model.specs.declared.state.Edge.{Edge}
-use Rattle.automaton_model.specs.Automata.{State, Accepts}
+use Rattle.automaton_model.specs.Automata.{StateValue, Accepts}
 use Rattle.automaton_model.specs.Searches.{Weigh}
 use Rattle.automaton_model.proofs.RegistryLemmas.{stands}
 use Rattle.group_search.specs.declared.loads.LoadedState.{LoadedState}
@@ -36,7 +36,7 @@ through prefix more rank = append_assoc prefix (rank ∷ []) more
 
 -- A sound prefix with its steps
 
-module _ (states : List State) (trim : IsTrim states) (count most threshold : ℕ) (least : 1 ≤ threshold) (wait : Wait) (sound : IsSound states count most wait)
+module _ (states : List StateValue) (trim : IsTrim states) (count most threshold : ℕ) (least : 1 ≤ threshold) (wait : Wait) (sound : IsSound states count most wait)
     (steps : List Step) (same : IsPermutation (steps_of states wait.loads) steps) (kids : List Kid) (are : AreKids threshold steps kids) where
   -- where a step comes from: a load and an edge of its state, which is alive
   record IsStep (step : Step) : Type 0 where
@@ -182,7 +182,7 @@ not-behind-itself prefix more rank is =
 
 -- One prefix grows
 
-module _ (order : List Item) (different : AllPairs (λ v w. v ≢ w) order) (states : List State) (trim : IsTrim states) (count most threshold : ℕ) (least : 1 ≤ threshold)
+module _ (order : List Item) (different : AllPairs (λ v w. v ≢ w) order) (states : List StateValue) (trim : IsTrim states) (count most threshold : ℕ) (least : 1 ≤ threshold)
     (all : Wait) (waits : List Wait) (wait : Wait) (rows : List Row) (searching : IsSearching order threshold states count most all (waits ++ wait ∷ []) rows)
     (own : List Row) (is_own : IsOwn order threshold wait.prefix (weight_behind states [] wait.loads) own)
     (steps : List Step) (same : IsPermutation (steps_of states wait.loads) steps) (kids : List Kid) (are : AreKids threshold steps kids) where

@@ -12,7 +12,7 @@ use Rattle.mine_model.proofs.AboveLemmas.{pattern-shorter}
 use Rattle.mine_model.proofs.RankedLemmas.{ranked-bounds, ranked-length}
 use Rattle.automaton_model.specs.declared.groups.Group.{Group}
 use Rattle.automaton_model.specs.declared.state.Edge.{Edge}
-use Rattle.automaton_model.specs.Automata.{State, Accepts}
+use Rattle.automaton_model.specs.Automata.{StateValue, Accepts}
 use Rattle.automaton_model.specs.Codes.{IsMinimalAutomaton, IsStateAfter, Leads}
 use Rattle.automaton_model.specs.Registry.{IsRegistry}
 use Rattle.automaton_model.specs.Searches.{Load, Weigh}
@@ -26,13 +26,13 @@ use Rattle.group_search.specs.Searched.{IsTrim, IsSearched}
 
 -- Registries
 
-pub registry-trim : (states : List State) → IsRegistry states → IsTrim states
+pub registry-trim : (states : List StateValue) → IsRegistry states → IsTrim states
 registry-trim states registry = λ state held.
     let (number, is) = get-some_of states state held in
     let kept = registry.kept number state is in
     record { rising = kept.rising; alive = kept.alive }
 
-pub registry-short : (states : List State) → IsRegistry states → (number : ℕ) (list : List ℕ) → Accepts states number list → length list ≤ number
+pub registry-short : (states : List StateValue) → IsRegistry states → (number : ℕ) (list : List ℕ) → Accepts states number list → length list ≤ number
 registry-short states registry number [] accepts = omega arith
 registry-short states registry number (rank ∷ list) (state, edge, is, held, by, next) =
     let back : edge.to < number = (registry.kept number state is).back edge held in
@@ -41,7 +41,7 @@ registry-short states registry number (rank ∷ list) (state, edge, is, held, by
 
 -- Minimal automata
 
-module _ (IsMember : List ℕ → Type 0) (states : List State) (least : IsMinimalAutomaton IsMember states) where
+module _ (IsMember : List ℕ → Type 0) (states : List StateValue) (least : IsMinimalAutomaton IsMember states) where
   -- from the state of a visit the rest after it is accepted
   rest-accepted : (ranks : List ℕ) (k : ℕ) (visit : List ℕ) → slice_get least.visits k ≡ Some visit → IsMember (visit ++ ranks) → Accepts states k ranks
   rest-accepted [] k visit at member =
@@ -105,11 +105,11 @@ groups-searched d order pivot most sequences groups are short group held =
 -- Loads that stand for groups
 
 -- the group's lists are accepted from the load's state, and both weigh the same
-pub record Stands (states : List State) (load : Load) (group : Group) : Type 0 where
+pub record Stands (states : List StateValue) (load : Load) (group : Group) : Type 0 where
   pub same : (list : List ℕ) → Accepts states load.state list ↔ LieIn list group.automaton
   pub weight : load.weight ≡ group.count
 
-module _ (states : List State) (list : List ℕ) where
+module _ (states : List StateValue) (list : List ℕ) where
   pub weigh-counts : (loads : List Load) (groups : List Group) → AllZip (Stands states) loads groups → (n : ℕ) → Weigh (λ state. Accepts states state list) loads n → Counts (LieIn list) (grouped groups) n
   weigh-counts [] [] zip n weighs = weighs
   weigh-counts [] (group ∷ groups) zip n weighs = absurd zip
@@ -127,7 +127,7 @@ module _ (states : List State) (list : List ℕ) where
   counts-weigh (load ∷ loads) (group ∷ groups) zip n (inr (never, counts)) = inr ((λ accepts. never ((zip.0.same list).0 accepts)), counts-weigh loads groups zip.1 n counts)
 
 -- WHAT LOADS HAVE FOR ROWS is what their groups have
-pub rows-of-stands : (order : List Item) (threshold : ℕ) (states : List State) (loads : List Load) (groups : List Group) → AllZip (Stands states) loads groups → (rows : List Row)
+pub rows-of-stands : (order : List Item) (threshold : ℕ) (states : List StateValue) (loads : List Load) (groups : List Group) → AllZip (Stands states) loads groups → (rows : List Row)
     → AreLoadedRows order threshold states loads rows → AreGroupRows order threshold groups rows
 rows-of-stands order threshold states loads groups zip rows are = record {
   once = are.once;
@@ -147,7 +147,7 @@ rows-of-stands order threshold states loads groups zip rows are = record {
   );
 }
 
-stands-for : (states : List State) (loads : List Load) (groups : List Group) → AllZip (StandsFor states) loads groups → AllZip (Stands states) loads groups
+stands-for : (states : List StateValue) (loads : List Load) (groups : List Group) → AllZip (StandsFor states) loads groups → AllZip (Stands states) loads groups
 stands-for states [] [] zip = zip
 stands-for states [] (group ∷ groups) zip = absurd zip
 stands-for states (load ∷ loads) [] zip = absurd zip
@@ -159,6 +159,6 @@ stands-for states (load ∷ loads) (group ∷ groups) zip = (
   stands-for states loads groups zip.1,
 )
 
-pub rows-of-loaded : (order : List Item) (threshold : ℕ) (states : List State) (loads : List Load) (groups : List Group) → AllZip (StandsFor states) loads groups → (rows : List Row)
+pub rows-of-loaded : (order : List Item) (threshold : ℕ) (states : List StateValue) (loads : List Load) (groups : List Group) → AllZip (StandsFor states) loads groups → (rows : List Row)
     → AreLoadedRows order threshold states loads rows → AreGroupRows order threshold groups rows
 rows-of-loaded order threshold states loads groups zip rows are = rows-of-stands order threshold states loads groups (stands-for states loads groups zip) rows are

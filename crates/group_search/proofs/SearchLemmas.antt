@@ -9,7 +9,7 @@ use Rattle.mine_model.specs.declared.row.Row.{Row}
 use Rattle.mine_model.proofs.ListLemmas.{Contains-cases, Contains-first, Contains-none, Contains-by}
 use Rattle.mine_model.proofs.OnceLemmas.{some-part}
 use Rattle.mine_model.proofs.SumLemmas.{sum_by-same}
-use Rattle.automaton_model.specs.Automata.{State, Accepts}
+use Rattle.automaton_model.specs.Automata.{StateValue, Accepts}
 use Rattle.group_search.specs.declared.loads.LoadedState.{LoadedState}
 use Rattle.group_search.specs.declared.step.Step.{Step}
 use Rattle.group_search.specs.declared.stack.Stack.{Stack}
@@ -24,7 +24,7 @@ use Rattle.group_search.proofs.WorkLemmas.{work-less}
 
 -- What loads weigh where a list may end
 
-pub here-is : (states : List State) (loads : List LoadedState) → ((load : LoadedState) → Contains loads load → load.state < length states)
+pub here-is : (states : List StateValue) (loads : List LoadedState) → ((load : LoadedState) → Contains loads load → load.state < length states)
     → weigh (λ state. (state_at states state).accepts) loads ≡ weight_behind states [] loads
 here-is states loads there =
     sum_by-same (λ (load : LoadedState). cond (state_at states load.state).accepts load.weight 0) (λ (load : LoadedState). cond (is_accepted states [] load.state) load.weight 0) loads
@@ -35,7 +35,7 @@ some-weight true n some = refl
 some-weight false n some = absurd (omega (arith, some))
 
 -- a prefix at which something ends has ranks of items
-pub sound-ranks : (states : List State) (count most : ℕ) (wait : Wait) → IsSound states count most wait → 1 ≤ weight_behind states [] wait.loads
+pub sound-ranks : (states : List StateValue) (count most : ℕ) (wait : Wait) → IsSound states count most wait → 1 ≤ weight_behind states [] wait.loads
     → All (λ rank. (1 ≤ rank) × (rank ≤ count)) wait.prefix
 sound-ranks states count most wait sound some = elim (some-part (λ (load : LoadedState). cond (is_accepted states [] load.state) load.weight 0) wait.loads) [
   | inl none ↦ absurd (omega (arith, some, none))
@@ -46,7 +46,7 @@ sound-ranks states count most wait sound some = elim (some-part (λ (load : Load
 ]
 
 -- the steps by one rank weigh less than 2^64
-pub sound-fits : (states : List State) (trim : IsTrim states) (count most : ℕ) (wait : Wait) → IsSound states count most wait → (steps : List Step) → IsPermutation (steps_of states wait.loads) steps
+pub sound-fits : (states : List StateValue) (trim : IsTrim states) (count most : ℕ) (wait : Wait) → IsSound states count most wait → (steps : List Step) → IsPermutation (steps_of states wait.loads) steps
     → (rank : ℕ) → weigh_by rank (λ state. true) steps < 2 ^ 64
 sound-fits states trim count most wait sound steps same rank =
     let moved = by-permuted rank (λ state. true) (steps_of states wait.loads) steps same in
@@ -56,7 +56,7 @@ sound-fits states trim count most wait sound steps same rank =
 
 -- The first step
 
-pub search-first : (order : List Item) (threshold : ℕ) (states : List State) (count most : ℕ) (all : Wait) → IsSound states count most all
+pub search-first : (order : List Item) (threshold : ℕ) (states : List StateValue) (count most : ℕ) (all : Wait) → IsSound states count most all
     → IsSearching order threshold states count most all ([] ++ all ∷ []) []
 search-first order threshold states count most all sound = record {
   sound = λ wait held. subst (IsSound states count most) (sym (only wait held)) sound;
@@ -77,7 +77,7 @@ search-first order threshold states count most all sound = record {
 
 -- One prefix more
 
-module _ (order : List Item) (different : AllPairs (λ v w. v ≢ w) order) (states : List State) (trim : IsTrim states) (count most threshold : ℕ) (least : 1 ≤ threshold)
+module _ (order : List Item) (different : AllPairs (λ v w. v ≢ w) order) (states : List StateValue) (trim : IsTrim states) (count most threshold : ℕ) (least : 1 ≤ threshold)
     (all : Wait) (waits : List Wait) (wait : Wait) (rows : List Row) (searching : IsSearching order threshold states count most all (waits ++ wait ∷ []) rows)
     (before after : Stack) (found : List Row) (there : waits_of before ≡ waits) (here : before.prefix.items ≡ wait.prefix)
     (grown : IsGrown order threshold states wait.loads before rows after found) where
@@ -107,7 +107,7 @@ module _ (order : List Item) (different : AllPairs (λ v w. v ≢ w) order) (sta
 
 -- The end
 
-pub search-ends : (order : List Item) (threshold : ℕ) (states : List State) (count most : ℕ) (loads : List LoadedState) (waits : List Wait) (rows : List Row)
+pub search-ends : (order : List Item) (threshold : ℕ) (states : List StateValue) (count most : ℕ) (loads : List LoadedState) (waits : List Wait) (rows : List Row)
     → IsSearching order threshold states count most (record { prefix = []; loads = loads }) waits rows → waits ≡ [] → AreLoadedRows order threshold states (map load_of loads) rows
 search-ends order threshold states count most loads waits rows searching none = record {
   once = searching.once;
@@ -122,7 +122,7 @@ search-ends order threshold states count most loads waits rows searching none = 
 
 -- What the caller knows of the loads
 
-pub loads-sound : (states : List State) (count most : ℕ) (loads : List LoadedState) → ((load : LoadedState) → Contains loads load → load.state < length states)
+pub loads-sound : (states : List StateValue) (count most : ℕ) (loads : List LoadedState) → ((load : LoadedState) → Contains loads load → load.state < length states)
     → AreFinite states count most (map load_of loads) → weigh (λ state. true) loads < 2 ^ 64 → IsSound states count most (record { prefix = []; loads = loads })
 loads-sound states count most loads there finite fits = record {
   there = there;

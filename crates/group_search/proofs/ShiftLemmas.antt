@@ -6,7 +6,7 @@ use Rattle.std.proofs.lemmas.Option.{slice_get_within}
 use Rattle.mine_model.proofs.ListLemmas.{Contains-cases, Contains-none, Contains-by, Contains-from, AllPairs-append, AllPairs-tail, AllPairs-head}
 use Rattle.mine_model.proofs.ElementLemmas.{get-some, get-held, get-left, slice_get-mapped_by}
 use Rattle.automaton_model.specs.declared.state.Edge.{Edge}
-use Rattle.automaton_model.specs.Automata.{State, Accepts}
+use Rattle.automaton_model.specs.Automata.{StateValue, Accepts}
 use Rattle.automaton_model.proofs.AutomatonLemmas.{one_of}
 use Rattle.automaton_model.proofs.RegistryLemmas.{stands}
 use Rattle.group_search.specs.Searched.{IsTrimState, IsTrim}
@@ -14,26 +14,26 @@ use Rattle.group_search.specs.Decoded.{shifted}
 
 -- Edges of a trim automaton lead to states of it
 
-pub edge-there : (states : List State) → IsTrim states → (k : ℕ) (state : State) (edge : Edge) → slice_get states k ≡ Some state → Contains state.edges edge → edge.to < length states
+pub edge-there : (states : List StateValue) → IsTrim states → (k : ℕ) (state : StateValue) (edge : Edge) → slice_get states k ≡ Some state → Contains state.edges edge → edge.to < length states
 edge-there states trim k state edge is held =
     let (list, accepts) = (trim state (get-held states k state is)).alive edge held in
     let (next, at) = stands states edge.to list accepts in slice_get_within states edge.to next at
 
 -- States behind alter nothing
 
-pub longer-forth : (states more : List State) (list : List ℕ) (k : ℕ) → Accepts states k list → Accepts (states ++ more) k list
+pub longer-forth : (states more : List StateValue) (list : List ℕ) (k : ℕ) → Accepts states k list → Accepts (states ++ more) k list
 longer-forth states more [] k (state, is, good) = (state, get-left states more k state is, good)
 longer-forth states more (rank ∷ list) k (state, edge, is, held, by, next) = (state, edge, get-left states more k state is, held, by, longer-forth states more list edge.to next)
 
-pub longer-back : (states more : List State) → IsTrim states → (list : List ℕ) (k : ℕ) → k < length states → Accepts (states ++ more) k list → Accepts states k list
+pub longer-back : (states more : List StateValue) → IsTrim states → (list : List ℕ) (k : ℕ) → k < length states → Accepts (states ++ more) k list → Accepts states k list
 longer-back states more trim [] k inside (state, is, good) =
     let (here, at) = get-some states k inside in
     let same : state ≡ here = one_of state here (slice_get (states ++ more) k) is (get-left states more k here at) in
-    (here, at, subst (λ (s : State). (s.accepts ≡ true)) same good)
+    (here, at, subst (λ (s : StateValue). (s.accepts ≡ true)) same good)
 longer-back states more trim (rank ∷ list) k inside (state, edge, is, held, by, next) =
     let (here, at) = get-some states k inside in
     let same : state ≡ here = one_of state here (slice_get (states ++ more) k) is (get-left states more k here at) in
-    let on : Contains here.edges edge = subst (λ (s : State). Contains s.edges edge) same held in
+    let on : Contains here.edges edge = subst (λ (s : StateValue). Contains s.edges edge) same held in
     (here, edge, at, on, by, longer-back states more trim list edge.to (edge-there states trim k here edge at on) next)
 
 -- Numbers that count from a base on
@@ -47,11 +47,11 @@ get-right (x ∷ xs) ys k =
 abbrev pub shifted_edge : ℕ → Edge → Edge
 shifted_edge base edge = record { rank = edge.rank; to = edge.to + base }
 
-module _ (front states : List State) where
-  abbrev all : List State
+module _ (front states : List StateValue) where
+  abbrev all : List StateValue
   all = front ++ map (shifted (length front)) states
 
-  shifted-there : (k : ℕ) (state : State) → slice_get states k ≡ Some state → slice_get all (k + length front) ≡ Some (shifted (length front) state)
+  shifted-there : (k : ℕ) (state : StateValue) → slice_get states k ≡ Some state → slice_get all (k + length front) ≡ Some (shifted (length front) state)
   shifted-there k state is = get-right front (map (shifted (length front)) states) k ∙ slice_get-mapped_by (shifted (length front)) states k state is
 
   pub shift-forth : (list : List ℕ) (k : ℕ) → Accepts states k list → Accepts (front ++ map (shifted (length front)) states) (k + length front) list
@@ -63,11 +63,11 @@ module _ (front states : List State) where
   shift-back trim [] k inside (state, is, good) =
       let (here, at) = get-some states k inside in
       let same : state ≡ shifted (length front) here = one_of state (shifted (length front) here) (slice_get all (k + length front)) is (shifted-there k here at) in
-      (here, at, subst (λ (s : State). (s.accepts ≡ true)) same good)
+      (here, at, subst (λ (s : StateValue). (s.accepts ≡ true)) same good)
   shift-back trim (rank ∷ list) k inside (state, edge, is, held, by, next) =
       let (here, at) = get-some states k inside in
       let same : state ≡ shifted (length front) here = one_of state (shifted (length front) here) (slice_get all (k + length front)) is (shifted-there k here at) in
-      let (from, on, moved) = Contains-from (shifted_edge (length front)) here.edges edge (subst (λ (s : State). Contains s.edges edge) same held) in (
+      let (from, on, moved) = Contains-from (shifted_edge (length front)) here.edges edge (subst (λ (s : StateValue). Contains s.edges edge) same held) in (
         here,
         from,
         at,

@@ -13,7 +13,7 @@ use Rattle.mine_model.proofs.ListLemmas.{Contains-cases, Contains-none, Contains
 use Rattle.mine_model.proofs.ElementLemmas.{get-held}
 use Rattle.mine_model.proofs.SumLemmas.{sum_by-flat_map, sum_by-same, sum_by-most, sum_by-none}
 use Rattle.automaton_model.specs.declared.state.Edge.{Edge}
-use Rattle.automaton_model.specs.Automata.{State, Accepts}
+use Rattle.automaton_model.specs.Automata.{StateValue, Accepts}
 use Rattle.automaton_model.specs.Searches.{Load, Weigh}
 use Rattle.automaton_model.proofs.AutomatonLemmas.{accepts-decided, one_of}
 use Rattle.group_search.specs.declared.loads.LoadedState.{LoadedState}
@@ -41,31 +41,31 @@ test-false (inl p) never = absurd (never p)
 test-false (inr n) never = refl
 
 -- whether the list is accepted from the state
-abbrev pub is_accepted : List State → List ℕ → ℕ → Bool
+abbrev pub is_accepted : List StateValue → List ℕ → ℕ → Bool
 is_accepted states list state = test_of (accepts-decided states list state)
 
-pub accepted-holds : (states : List State) (list : List ℕ) (state : ℕ) → is_accepted states list state ≡ true → Accepts states state list
+pub accepted-holds : (states : List StateValue) (list : List ℕ) (state : ℕ) → is_accepted states list state ≡ true → Accepts states state list
 accepted-holds states list state is = test-holds (accepts-decided states list state) is
 
-pub accepted-true : (states : List State) (list : List ℕ) (state : ℕ) → Accepts states state list → is_accepted states list state ≡ true
+pub accepted-true : (states : List StateValue) (list : List ℕ) (state : ℕ) → Accepts states state list → is_accepted states list state ≡ true
 accepted-true states list state accepts = test-true (accepts-decided states list state) accepts
 
-pub accepted-false : (states : List State) (list : List ℕ) (state : ℕ) → (Accepts states state list → ⊥) → is_accepted states list state ≡ false
+pub accepted-false : (states : List StateValue) (list : List ℕ) (state : ℕ) → (Accepts states state list → ⊥) → is_accepted states list state ≡ false
 accepted-false states list state never = test-false (accepts-decided states list state) never
 
-pub state-there : (states : List State) (k : ℕ) → k < length states → slice_get states k ≡ Some (state_at states k)
+pub state-there : (states : List StateValue) (k : ℕ) → k < length states → slice_get states k ≡ Some (state_at states k)
 state-there states k inside = slice_get-get_or states k (record { accepts = false; edges = [] }) inside
 
-pub at-there : (states : List State) (k : ℕ) (state : State) → slice_get states k ≡ Some state → state_at states k ≡ state
+pub at-there : (states : List StateValue) (k : ℕ) (state : StateValue) → slice_get states k ≡ Some state → state_at states k ≡ state
 at-there states k state is = one_of (state_at states k) state (slice_get states k) (state-there states k (slice_get_within states k state is)) is
 
 -- the empty list is accepted where a list may end
-pub ends-here : (states : List State) (k : ℕ) → k < length states → (state_at states k).accepts ≡ is_accepted states [] k
+pub ends-here : (states : List StateValue) (k : ℕ) → k < length states → (state_at states k).accepts ≡ is_accepted states [] k
 ends-here states k inside = go (state_at states k).accepts refl
   where
     go : (b : Bool) → (state_at states k).accepts ≡ b → (state_at states k).accepts ≡ is_accepted states [] k
     go true is = is ∙ sym (accepted-true states [] k (state_at states k, state-there states k inside, is))
-    go false is = is ∙ sym (accepted-false states [] k (λ (s, at, good). true≢false (sym good ∙ ap (λ (t : State). t.accepts) (one_of s (state_at states k) (slice_get states k) at (state-there states k inside)) ∙ is)))
+    go false is = is ∙ sym (accepted-false states [] k (λ (s, at, good). true≢false (sym good ∙ ap (λ (t : StateValue). t.accepts) (one_of s (state_at states k) (slice_get states k) at (state-there states k inside)) ∙ is)))
 
 -- Sums and relations
 
@@ -94,14 +94,14 @@ weigh-one Has (load ∷ loads) m n (inr p) (inl q) = absurd (p.0 q.0)
 weigh-one Has (load ∷ loads) m n (inr p) (inr q) = weigh-one Has loads m n p.1 q.1
 
 -- what the loads weigh at states that accept the list
-abbrev pub weight_behind : List State → List ℕ → List LoadedState → ℕ
+abbrev pub weight_behind : List StateValue → List ℕ → List LoadedState → ℕ
 weight_behind states list loads = weigh (is_accepted states list) loads
 
-pub behind-weighs : (states : List State) (list : List ℕ) (loads : List LoadedState)
+pub behind-weighs : (states : List StateValue) (list : List ℕ) (loads : List LoadedState)
     → Weigh (λ k. Accepts states k list) (map load_of loads) (weight_behind states list loads)
 behind-weighs states list loads = weigh-sum (λ k. Accepts states k list) (is_accepted states list) (accepted-holds states list) (accepted-true states list) loads
 
-pub behind-is : (states : List State) (list : List ℕ) (loads : List LoadedState) (n : ℕ)
+pub behind-is : (states : List StateValue) (list : List ℕ) (loads : List LoadedState) (n : ℕ)
     → Weigh (λ k. Accepts states k list) (map load_of loads) n → n ≡ weight_behind states list loads
 behind-is states list loads n weighs = weigh-one (λ k. Accepts states k list) (map load_of loads) n (weight_behind states list loads) weighs (behind-weighs states list loads)
 
@@ -207,7 +207,7 @@ module _ (rank : ℕ) (test : ℕ → Bool) (weight : ℕ) where
 
 -- The steps of all loads
 
-module _ (states : List State) (trim : IsTrim states) where
+module _ (states : List StateValue) (trim : IsTrim states) where
   pub trim-at : (k : ℕ) → k < length states → IsTrimState states (state_at states k)
   trim-at k inside = trim (state_at states k) (get-held states k (state_at states k) (state-there states k inside))
 
@@ -227,7 +227,7 @@ module _ (states : List State) (trim : IsTrim states) where
           let (state, edge, is, held, by, next) = accepts in
           let here : state ≡ state_at states load.state = sym (at-there states load.state state is) in
           along-some rank (is_accepted states list) load.weight (state_at states load.state).edges (trim-at load.state inside).rising edge
-          (subst (λ (s : State). Contains s.edges edge) here held) by (accepted-true states list edge.to next)
+          (subst (λ (s : StateValue). Contains s.edges edge) here held) by (accepted-true states list edge.to next)
           ∙ ap (λ b. cond b load.weight 0) (sym (accepted-true states (rank ∷ list) load.state accepts))
       one load inside (inr never) =
           along-none rank (is_accepted states list) load.weight (state_at states load.state).edges
@@ -247,13 +247,13 @@ module _ (states : List State) (trim : IsTrim states) where
       omega (arith, apart, each)
 
 -- the steps of one load more
-pub steps-more : (states : List State) (loads : List LoadedState) (i : ℕ) (d : LoadedState) (state : State) (edges : List Edge) → i < length loads
+pub steps-more : (states : List StateValue) (loads : List LoadedState) (i : ℕ) (d : LoadedState) (state : StateValue) (edges : List Edge) → i < length loads
     → slice_get states (get_or loads i d).state ≡ Some state → edges ≡ state.edges
     → steps_of states (take i loads) ++ steps_along (get_or loads i d).weight edges ≡ steps_of states (take (i + 1) loads)
 steps-more states loads i d state edges inside is same =
     let load : LoadedState = get_or loads i d in
     let f : LoadedState → List Step = λ l. steps_along l.weight (state_at states l.state).edges in
-    let here : edges ≡ (state_at states load.state).edges = same ∙ ap (λ (s : State). s.edges) (sym (at-there states load.state state is)) in
+    let here : edges ≡ (state_at states load.state).edges = same ∙ ap (λ (s : StateValue). s.edges) (sym (at-there states load.state state is)) in
     ap (λ e. steps_of states (take i loads) ++ steps_along load.weight e) here
     ∙ ap (λ l. steps_of states (take i loads) ++ l) (sym (flat_map-cons f load [] ∙ append-nil (f load)))
     ∙ sym (flat_map-append f (take i loads) (load ∷ []))

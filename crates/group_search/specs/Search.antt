@@ -6,7 +6,7 @@ use Rattle.mine_model.specs.declared.item.Item.{Item}
 use Rattle.mine_model.specs.declared.row.Row.{Row}
 use Rattle.mine_model.specs.Ranks.{AreRanked}
 use Rattle.mine_model.specs.Numbered.{PatternsDiffer}
-use Rattle.automaton_model.specs.Automata.{State, Accepts}
+use Rattle.automaton_model.specs.Automata.{StateValue, Accepts}
 use Rattle.automaton_model.specs.Searches.{Weigh}
 use Rattle.group_search.specs.declared.loads.LoadedState.{LoadedState}
 use Rattle.group_search.specs.declared.step.Step.{Step}
@@ -18,7 +18,7 @@ use Rattle.group_search.specs.Waits.{Wait, HaveGrown}
 
 -- the loads stand at states, what these accept behind the prefix is a list of ranks, and the loads weigh
 -- less than 2^64 together
-pub record IsSound (states : List State) (count most : ℕ) (wait : Wait) : Type 0 where
+pub record IsSound (states : List StateValue) (count most : ℕ) (wait : Wait) : Type 0 where
   pub there : (load : LoadedState) → Contains wait.loads load → load.state < length states
   pub lists : (load : LoadedState) → Contains wait.loads load → (list : List ℕ)
       → Accepts states load.state list → IsRankList count most (wait.prefix ++ list)
@@ -26,7 +26,7 @@ pub record IsSound (states : List State) (count most : ℕ) (wait : Wait) : Type
   pub deep : length wait.prefix ≤ most
 
 -- the row's ranks begin with the prefix, and the loads weigh behind it what the row says
-pub record IsBehind (order : List Item) (threshold : ℕ) (states : List State) (wait : Wait) (row : Row)
+pub record IsBehind (order : List Item) (threshold : ℕ) (states : List StateValue) (wait : Wait) (row : Row)
     : Type 0 where
   pub more : List ℕ
   pub ranked : AreRanked order row.pattern (wait.prefix ++ more)
@@ -44,7 +44,7 @@ IsOwn order threshold prefix weight own =
     ⊎ ((row : Row) × (own ≡ row ∷ []) × (threshold ≤ weight) × IsOwnRow order prefix weight row)
 
 -- the prefix was grown: its own row, if any, was found, and longer prefixes wait
-pub record IsGrown (order : List Item) (threshold : ℕ) (states : List State) (loads : List LoadedState)
+pub record IsGrown (order : List Item) (threshold : ℕ) (states : List StateValue) (loads : List LoadedState)
     (before : Stack) (found : List Row) (after : Stack) (rows : List Row) : Type 0 where
   pub own : List Row
   pub added : rows ≡ found ++ own
@@ -63,8 +63,8 @@ abbrev pub IsPast : List Item → Row → Wait → Type 0
 IsPast order row wait = (more : List ℕ) → AreRanked order row.pattern (wait.prefix ++ more) → ⊥
 
 -- of the rows behind all loads those were found that do not stand behind a prefix that waits
-pub record IsSearching (order : List Item) (threshold : ℕ) (states : List State) (count most : ℕ) (all : Wait)
-    (waits : List Wait) (rows : List Row) : Type 0 where
+pub record IsSearching (order : List Item) (threshold : ℕ) (states : List StateValue) (count most : ℕ)
+    (all : Wait) (waits : List Wait) (rows : List Row) : Type 0 where
   pub sound : (wait : Wait) → Contains waits wait → IsSound states count most wait
   pub exact : (row : Row) → IsBehind order threshold states all row
       ↔ (Contains rows row ⊎ ((wait : Wait) × Contains waits wait × IsBehind order threshold states wait row))

@@ -2,12 +2,12 @@
 use Rattle.std.specs.Prelude.{◌≡◌, ℕ, ◌≤◌, ◌<◌, Bool, false, cond, nat_eq, List, [], map, AllPairs, Contains}
 use Rattle.std.specs.List.{sum_by, flat_map, slice_index_or}
 use Rattle.automaton_model.specs.declared.state.Edge.{Edge}
-use Rattle.automaton_model.specs.Automata.{State}
+use Rattle.automaton_model.specs.Automata.{StateValue}
 use Rattle.group_search.specs.declared.loads.LoadedState.{LoadedState}
 use Rattle.group_search.specs.declared.step.Step.{Step}
 
 -- the state with the number; past the end, one with no edges where no list ends
-abbrev pub state_at : List State → ℕ → State
+abbrev pub state_at : List StateValue → ℕ → StateValue
 state_at states number = slice_index_or states number (record { accepts = false; edges = [] })
 
 -- what the loads weigh that stand at states that pass the test
@@ -29,7 +29,7 @@ steps_along weight edges =
     map (λ (edge : Edge). record { rank = edge.rank; state = edge.to; weight = weight }) edges
 
 -- the steps of all loads
-abbrev pub steps_of : List State → List LoadedState → List Step
+abbrev pub steps_of : List StateValue → List LoadedState → List Step
 steps_of states loads =
     flat_map (λ (load : LoadedState). steps_along load.weight (state_at states load.state).edges) loads
 

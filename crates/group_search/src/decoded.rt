@@ -3,8 +3,8 @@
 ghost use Rattle.std.specs.Prelude.{◌≡◌, ◌<◌, ◌++◌, ◌∷◌, [], ℕ, List, length, Some, slice_get, Contains, IfOk, OnOk};
 ghost use Rattle.std.specs.List.{AllZip};
 ghost use Rattle.automaton_model.specs.declared.groups.Group.{Group as SetGroup};
-ghost use Rattle.automaton_model.specs.Automata.{State, code_of};
-ghost use Rattle.group_search.specs.declared.loads.LoadedState.{LoadedState as Loaded};
+ghost use Rattle.automaton_model.specs.Automata.{StateValue, code_of};
+ghost use Rattle.group_search.specs.declared.loads.LoadedState.{LoadedState};
 ghost use Rattle.group_search.specs.Searched.{IsTrim, IsSearched};
 ghost use Rattle.group_search.specs.Decoded.{states_in, AreHeld, edges_in, shifted, IsAdded, IsRoot};
 
@@ -31,10 +31,10 @@ pub(crate) struct Decoded {
 
 impl Model for Decoded {
     ghost use Rattle.std.specs.Prelude.{List};
-    ghost use Rattle.automaton_model.specs.Automata.{State};
+    ghost use Rattle.automaton_model.specs.Automata.{StateValue};
     ghost use Rattle.group_search.specs.Decoded.{states_in, AreHeld};
 
-    ghost Value = { List State };
+    ghost Value = { List StateValue };
 
     ghost view = { λ d. states_in d.heads.items d.edges.items };
 
@@ -98,9 +98,9 @@ fn decode(
     heads: &mut Vec<Head>,
     edges: &mut Vec<Edge>,
 ) -> Result<(), NoMemory>
-    requires code { (states : List State) × (code.now ≡ code_of states) }
+    requires code { (states : List StateValue) × (code.now ≡ code_of states) }
     requires held { AreHeld heads.old.items edges.old.items }
-    ensures { OnOk result ((states : List State) × (code.now ≡ code_of states)
+    ensures { OnOk result ((states : List StateValue) × (code.now ≡ code_of states)
         × IsAdded base states heads.old.items edges.old.items heads.new.items edges.new.items) }
 {
     let mut left = code;

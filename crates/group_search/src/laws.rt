@@ -7,7 +7,7 @@ ghost use Rattle.mine_model.specs.declared.row.Row.{Row as FoundRow};
 ghost use Rattle.mine_model.specs.Answer.{Data};
 ghost use Rattle.mine_model.specs.Support.{Sequence};
 ghost use Rattle.automaton_model.specs.declared.groups.Group.{Group as SetGroup};
-ghost use Rattle.automaton_model.specs.Automata.{State, Accepts};
+ghost use Rattle.automaton_model.specs.Automata.{StateValue, Accepts};
 ghost use Rattle.automaton_model.specs.Registry.{IsRegistry};
 ghost use Rattle.automaton_model.specs.Searches.{Load};
 ghost use Rattle.automaton_model.specs.Members.{IsPivotCode};
@@ -17,8 +17,8 @@ ghost use Rattle.group_search.specs.Searched.{IsTrim, IsSearched};
 
 /// The states of a registry are trim, and a list that is accepted from one is no longer than its number.
 pub fn registries_are_trim()
-    ensures trim { (states : List State) → IsRegistry states → IsTrim states }
-    ensures short { (states : List State) → IsRegistry states → (number : ℕ) (list : List ℕ)
+    ensures trim { (states : List StateValue) → IsRegistry states → IsTrim states }
+    ensures short { (states : List StateValue) → IsRegistry states → (number : ℕ) (list : List ℕ)
         → Accepts states number list → length list ≤ number }
 {}
 
@@ -39,7 +39,7 @@ pub fn groups_are_searched()
 /// The rows of loads that stand for groups, each at a state from which the group's lists are accepted, are
 /// the rows of the groups.
 pub fn loaded_rows_are_group_rows()
-    ensures { (order : List Item) (threshold : ℕ) (states : List State) (loads : List Load)
+    ensures { (order : List Item) (threshold : ℕ) (states : List StateValue) (loads : List Load)
         (groups : List SetGroup) → AllZip (StandsFor states) loads groups → (rows : List FoundRow)
         → AreLoadedRows order threshold states loads rows → AreGroupRows order threshold groups rows }
 {}

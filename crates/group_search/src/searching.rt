@@ -4,7 +4,7 @@ ghost use Rattle.std.specs.Prelude.{◌≡◌, ◌^◌, ◌≤◌, ◌<◌, ◌+
 ghost use Rattle.mine_model.specs.Limits.{most_length};
 ghost use Rattle.automaton_model.specs.declared.groups.Group.{Group as SetGroup};
 ghost use Rattle.automaton_model.specs.Groups.{AreGroupRows};
-ghost use Rattle.group_search.specs.declared.loads.LoadedState.{LoadedState as Loaded};
+ghost use Rattle.group_search.specs.declared.loads.LoadedState.{LoadedState};
 ghost use Rattle.mine_model.specs.declared.row.Row.{Row as FoundRow};
 ghost use Rattle.group_search.specs.Search.{IsSound, IsOwn, IsGrown};
 ghost use Rattle.group_search.specs.Waits.{waits_of, IsStacked};
@@ -32,11 +32,11 @@ pub fn rows_of<A: Automata>(
 ) -> Result<Vec<Row>, NoMemory>
     requires least { 1 ≤ threshold }
     requires trim { IsTrim (A.states_of automata.now) }
-    requires there { (load : Loaded) → Contains loads.now load
+    requires there { (load : LoadedState) → Contains loads.now load
         → load.state < length (A.states_of automata.now) }
     requires finite { AreFinite (A.states_of automata.now) (length ranks.now.order) most_length
         (map load_of loads.now) }
-    requires fits { sum_by (λ (load : Loaded). load.weight) loads.now < 2 ^ 64 }
+    requires fits { sum_by (λ (load : LoadedState). load.weight) loads.now < 2 ^ 64 }
     ensures { IfOk result (λ rows. AreLoadedRows ranks.now.order threshold (A.states_of automata.now)
         (map load_of loads.now) rows.items) }
 {

@@ -1,7 +1,7 @@
 //! The prefixes that wait, with the loads behind them.
 
 ghost use Rattle.std.specs.Prelude.{◌≡◌, ◌^◌, ◌≤◌, ◌<◌, ◌++◌, ◌∷◌, [], ℕ, List, true, false, length, Contains, IfOk, OnOk};
-ghost use Rattle.group_search.specs.declared.loads.LoadedState.{LoadedState as Loaded};
+ghost use Rattle.group_search.specs.declared.loads.LoadedState.{LoadedState};
 ghost use Rattle.group_search.specs.declared.step.Step.{Step as Along};
 ghost use Rattle.group_search.specs.Steps.{weigh_steps, weigh_by, AreAddedUp, AreByRank};
 ghost use Rattle.group_search.specs.Waits.{waits_of, IsStacked, IsTaken, ArePushed, IsHeavy, HaveGrown};
@@ -96,7 +96,7 @@ fn push_heavy(stack: &mut Stack, rank: u32, run: &[Step], threshold: u64) -> Res
 fn push_kid(stack: &mut Stack, rank: u32, run: &[Step]) -> Result<(), NoMemory>
     requires stacked { IsStacked stack.old }
     requires fits { weigh_steps (λ state. true) run.now < 2 ^ 64 }
-    ensures { OnOk result ((loads : List Loaded) × AreAddedUp run.now loads
+    ensures { OnOk result ((loads : List LoadedState) × AreAddedUp run.now loads
         × ArePushed stack.old ((record { rank = rank; loads = loads }) ∷ []) stack.new) }
 {
     let from = stack.loads.len();
@@ -115,7 +115,7 @@ fn push_kid(stack: &mut Stack, rank: u32, run: &[Step]) -> Result<(), NoMemory>
 // Adds a load for the steps to each state: neighbours to one state are added up.
 fn push_loads(loads: &mut Vec<LoadedState>, run: &[Step]) -> Result<(), NoMemory>
     requires { weigh_steps (λ state. true) run.now < 2 ^ 64 }
-    ensures { OnOk result ((more : List Loaded) × (loads.new.items ≡ loads.old.items ++ more)
+    ensures { OnOk result ((more : List LoadedState) × (loads.new.items ≡ loads.old.items ++ more)
         × AreAddedUp run.now more) }
 {
     let [first, later @ ..] = run else {

@@ -3,7 +3,7 @@
 ghost use Rattle.std.specs.Prelude.{◌≡◌, ◌≢◌, ◌^◌, ◌≤◌, ◌<◌, ◌++◌, ◌∷◌, [], true, false, length, slice_get, Some, Contains, OnOk};
 ghost use Rattle.std.specs.List.Sorted.{IsPermutation};
 ghost use Rattle.automaton_model.specs.Automata.{Accepts};
-ghost use Rattle.group_search.specs.declared.loads.LoadedState.{LoadedState as Loaded};
+ghost use Rattle.group_search.specs.declared.loads.LoadedState.{LoadedState};
 ghost use Rattle.group_search.specs.Steps.{state_at, weigh, weigh_steps, weigh_by, steps_along, steps_of, AreByRank, IsRun};
 
 use super::automata::Automata;
@@ -21,7 +21,7 @@ pub(crate) struct Step {
 
 // What the loads weigh at whose states a list may end.
 pub(crate) fn weight_here<A: Automata>(automata: &A, loads: &[LoadedState]) -> u64
-    requires there { (load : Loaded) → Contains loads.now load
+    requires there { (load : LoadedState) → Contains loads.now load
         → load.state < length (A.states_of automata.now) }
     requires fits { weigh (λ state. true) loads.now < 2 ^ 64 }
     ensures { result ≡ weigh (λ state. (state_at (A.states_of automata.now) state).accepts) loads.now }
@@ -41,7 +41,7 @@ pub(crate) fn collect_steps<A: Automata>(
     loads: &[LoadedState],
     steps: &mut Vec<Step>,
 ) -> Result<(), NoMemory>
-    requires { (load : Loaded) → Contains loads.now load
+    requires { (load : LoadedState) → Contains loads.now load
         → load.state < length (A.states_of automata.now) }
     ensures same { OnOk result (IsPermutation (steps_of (A.states_of automata.now) loads.now)
         steps.new.items) }

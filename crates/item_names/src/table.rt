@@ -3,7 +3,7 @@
 ghost use Rattle.std.specs.Prelude.{◌≡◌, ◌-◌, ◌≤◌, ◌<◌, ◌↔◌, List, [], ◌∷◌, ◌++◌, map, length, slice_get, slice_index_or, Contains, Some, IsNone, IsTrue, IfSome, IfOk, OnOk};
 ghost use Rattle.std.specs.List.{AllByRecursion};
 ghost use Rattle.open_addressing.specs.Table.{home_of, IsSlot, IsTable};
-ghost use Rattle.open_addressing.specs.Searching.{Ends};
+ghost use Rattle.open_addressing.specs.Searching.{SearchEnds};
 ghost use Rattle.item_names.specs.declared.keys.Key.{Key};
 ghost use Rattle.item_names.specs.Table.{key_of, mixed, key_in, layout, AreBytes};
 
@@ -101,7 +101,7 @@ fn search(texts: &Texts, slots: &[Slot], key: Key, name: &[u8], from: usize, to:
     requires key { key ≡ key_of name.now }
     requires bytes { AllByRecursion AreBytes texts.now }
     requires within { to ≤ length slots.now }
-    ensures { Ends layout texts.now slots.now name.now from to result }
+    ensures { SearchEnds layout texts.now slots.now name.now from to result }
 {
     for at in from..to {
         let slot = slots[at];

@@ -43,7 +43,7 @@ pub(crate) const WORDS: [&str; 11] = ["A", "a1", "a2", "b", "c", "d", "e", "R", 
 /// Sequences with their weights.
 pub(crate) type Lines<'a> = &'a [(u64, &'a [Item])];
 
-/// The running sequences. With support 2 `b` has the rank 1, `A` 2, `a1` 3, `d` 4 and `c` 5.
+/// The running sequences. With the threshold 2 `b` has the rank 1, `A` 2, `a1` 3, `d` 4 and `c` 5.
 pub(crate) const RUNNING: [(u64, &[Item]); 5] = [
     (1, &[A1, C, D, C, B]),
     (1, &[E, E, A1, E, A1, E, B]),
@@ -261,16 +261,16 @@ fn ranked<T: Threads + Sync>(
     alloc: Global,
     hierarchy: &Hierarchy,
     db: &Db,
-    support: u64,
+    threshold: u64,
 ) -> Result<Ranks, NoMemory>
-    requires support { 1 ≤ support }
+    requires threshold { 1 ≤ threshold }
     requires items { AllByRecursion (λ s. AllByRecursion (λ t. t.0 < 11) s.items) db.now }
     requires all { hierarchy.now.items ≡ 11 }
-    ensures ranks { IfOk result (λ ranks. AreRanks hierarchy.now.links db.now support ranks) }
+    ensures ranks { IfOk result (λ ranks. AreRanks hierarchy.now.links db.now threshold ranks) }
     ensures items { IfOk result (λ ranks. length ranks.frequencies ≡ 11) }
 {
     let names = names_of(alloc, &WORDS)?;
-    count(rt, alloc, hierarchy, db, support, &names, 2)
+    count(rt, alloc, hierarchy, db, threshold, &names, 2)
 }
 
 /// The job of the shape and these lines, each so many times.
@@ -280,15 +280,15 @@ pub(crate) fn job<T: Threads + Sync>(
     shape: Shape,
     lines: Lines,
     times: u32,
-    support: u64,
+    threshold: u64,
 ) -> Result<Job, NoMemory>
-    requires { 1 ≤ support }
+    requires { 1 ≤ threshold }
 {
     let hierarchy = hierarchy(alloc)?;
     let db = database(alloc, lines, times)?;
     let fst = transducer(alloc, shape)?;
-    let ranks = ranked(rt, alloc, &hierarchy, &db, support)?;
-    Ok(Job::new(hierarchy, db, fst, ranks, support))
+    let ranks = ranked(rt, alloc, &hierarchy, &db, threshold)?;
+    Ok(Job::new(hierarchy, db, fst, ranks, threshold))
 }
 
 /// Writes each number with a blank before it.

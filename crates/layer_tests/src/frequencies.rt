@@ -53,21 +53,21 @@ fn counted<T: Threads + Sync>(
     words: &[&str; 11],
     lines: Lines,
     times: u32,
-    support: u64,
+    threshold: u64,
 ) -> Result<String, NoMemory>
-    requires { 1 ≤ support }
+    requires { 1 ≤ threshold }
 {
     let names = names_of(alloc, words)?;
     let hierarchy = hierarchy(alloc)?;
     let db = database(alloc, lines, times)?;
-    let ranks = count(rt, alloc, &hierarchy, &db, support, &names, 2)?;
+    let ranks = count(rt, alloc, &hierarchy, &db, threshold, &names, 2)?;
     text_of(alloc, &ranks, words)
 }
 
 // Four items that stand under none, by names of which some begin others.
 const PREFIXES: [&str; 11] = ["A", "a1", "a2", "ab", "a", "b", "aa", "R", "P", "Q", "x"];
 
-/// The names, the lines, the support, and what is counted.
+/// The names, the lines, the threshold, and what is counted.
 type Case = (
     &'static [&'static str; 11],
     Lines<'static>,
@@ -105,8 +105,8 @@ const COUNTED: [Case; 5] = [
 
 /// The number of the first lines in which something else is counted.
 fn first_wrong<T: Threads + Sync>(rt: &T, alloc: Global) -> Result<Option<usize>, NoMemory> {
-    for (number, (words, lines, support, want)) in COUNTED.iter().enumerate() {
-        if counted(rt, alloc, words, lines, 1, (*support).max(1))?.as_str() != *want {
+    for (number, (words, lines, threshold, want)) in COUNTED.iter().enumerate() {
+        if counted(rt, alloc, words, lines, 1, (*threshold).max(1))?.as_str() != *want {
             return Ok(Some(number));
         }
     }

@@ -33,15 +33,15 @@ fn split_by<T: Threads + Sync>(
     rt: &T,
     alloc: Global,
     shape: Shape,
-    support: u64,
+    threshold: u64,
 ) -> Result<String, NoMemory>
-    requires { 1 ≤ support }
+    requires { 1 ≤ threshold }
 {
-    let job = job(rt, alloc, shape, &RUNNING, 1, support)?;
+    let job = job(rt, alloc, shape, &RUNNING, 1, threshold)?;
     told(alloc, &job)
 }
 
-// With support 1 also a2 and e have ranks, 6 and 7. No sequence holds A itself.
+// With the threshold 1 also a2 and e have ranks, 6 and 7. No sequence holds A itself.
 const SPLIT: [(Shape, u64, &str); 4] = [
     (Shape::Climbing, 2, " 3 4 5, 3,,, 3, 3: 0 1 4"),
     (
@@ -55,8 +55,8 @@ const SPLIT: [(Shape, u64, &str); 4] = [
 
 /// The number of the first shape that is split otherwise.
 fn first_wrong<T: Threads + Sync>(rt: &T, alloc: Global) -> Result<Option<usize>, NoMemory> {
-    for (number, (shape, support, want)) in SPLIT.iter().enumerate() {
-        if split_by(rt, alloc, *shape, (*support).max(1))?.as_str() != *want {
+    for (number, (shape, threshold, want)) in SPLIT.iter().enumerate() {
+        if split_by(rt, alloc, *shape, (*threshold).max(1))?.as_str() != *want {
             return Ok(Some(number));
         }
     }

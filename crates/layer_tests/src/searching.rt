@@ -7,7 +7,7 @@ use std::alloc::Global;
 use std::sync::Wait;
 use std::thread::Threads;
 
-/// The work of the running data with support 2.
+/// The work of the running data with the threshold 2.
 const WORK: Work = Work {
     nodes: 7,
     parts: 1,

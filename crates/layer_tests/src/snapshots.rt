@@ -11,8 +11,8 @@ use std::alloc::Global;
 use std::fmt::Write;
 use std::thread::Threads;
 
-/// What is told of the prefix with these ranks, in the part of the pivot, where longer prefixes must have
-/// this support.
+/// What is told of the prefix with these ranks, in the part of the pivot, where longer prefixes must reach
+/// this threshold.
 #[derive(Clone, Copy)]
 struct Asked {
     pivot: Option<u32>,

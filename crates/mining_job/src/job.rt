@@ -11,13 +11,13 @@ use mine_model::{Db, Hierarchy, Ranks};
 use std::marker::Model;
 
 /// What an engine mines: the sequences with their hierarchy, the transducer of the expression, the ranks of
-/// the frequent items, and the least support.
+/// the frequent items, and the threshold.
 pub struct Job {
     hierarchy: Hierarchy,
     db: Db,
     fst: Fst,
     ranks: Ranks,
-    support: u64,
+    threshold: u64,
 }
 
 // Written out, so that it is let go of by a call, and not part by part wherever one is.
@@ -28,7 +28,7 @@ impl Drop for Job {
             db: _,
             fst: _,
             ranks: _,
-            support: _,
+            threshold: _,
         } = self;
     }
 }
@@ -48,7 +48,7 @@ impl Model for Job {
       sequences = j.db;
       machine = j.fst;
       ranking = j.ranks;
-      threshold = j.support;
+      threshold = j.threshold;
     } };
 
     ghost invariant = { λ j. IsWhole (record {
@@ -56,27 +56,27 @@ impl Model for Job {
       sequences = j.db;
       machine = j.fst;
       ranking = j.ranks;
-      threshold = j.support;
+      threshold = j.threshold;
     }) };
 }
 
 impl Job {
     /// The job of these. Takes no memory.
-    pub fn new(hierarchy: Hierarchy, db: Db, fst: Fst, ranks: Ranks, support: u64) -> Job
+    pub fn new(hierarchy: Hierarchy, db: Db, fst: Fst, ranks: Ranks, threshold: u64) -> Job
         requires items { AllByRecursion
             (λ sequence. AllByRecursion (λ t. t.0 < hierarchy.items) sequence.items) db }
         requires named { AllByRecursion (λ w. w.0 < hierarchy.items) (named_in (tree_of fst.expression)) }
         requires automaton { IsPositionAutomaton fst (tree_of fst.expression) }
         requires paths { IsTransducerOf fst (tree_of fst.expression) }
-        requires ranks { AreRanks hierarchy.links db support ranks }
+        requires ranks { AreRanks hierarchy.links db threshold ranks }
         requires ranked { length ranks.frequencies ≡ hierarchy.items }
-        requires support { 1 ≤ support }
+        requires threshold { 1 ≤ threshold }
         ensures { result ≡ record {
           hierarchy = hierarchy;
           sequences = db;
           machine = fst;
           ranking = ranks;
-          threshold = support;
+          threshold = threshold;
         } }
     {
         Job {
@@ -84,7 +84,7 @@ impl Job {
             db,
             fst,
             ranks,
-            support,
+            threshold,
         }
     }
 
@@ -121,10 +121,10 @@ impl Job {
     }
 
     /// The least support of a frequent pattern. Takes no memory.
-    pub fn support(&self) -> u64
+    pub fn threshold(&self) -> u64
         ensures threshold { result ≡ self.now.threshold }
         ensures whole { IsWhole self.now }
     {
-        self.support
+        self.threshold
     }
 }

@@ -16,11 +16,11 @@ module _ {Key Slot : Type 0} (layout : Layout Key Slot) where
       → IsOther lists list (slice_index_or slots at layout.free)
 
   -- a search for the list in the slots from here to there ends so
-  abbrev pub Ends : List (List ℕ) → List Slot → List ℕ → ℕ → ℕ → Outcome → Type 0
-  Ends lists slots list from to (Held number) = slice_get lists number ≡ Some list
-  Ends lists slots list from to Free =
+  abbrev pub SearchEnds : List (List ℕ) → List Slot → List ℕ → ℕ → ℕ → Outcome → Type 0
+  SearchEnds lists slots list from to (Held number) = slice_get lists number ≡ Some list
+  SearchEnds lists slots list from to Free =
       (at : ℕ) × (from ≤ at) × (at < to) × (held_at layout slots at ≡ 0) × AreOthers lists slots list from at
-  Ends lists slots list from to Passed = AreOthers lists slots list from to
+  SearchEnds lists slots list from to Passed = AreOthers lists slots list from to
 
   -- from here to there is this free slot, and no free one before
   abbrev pub IsFirstFreeFrom : List Slot → ℕ → ℕ → ℕ → Type 0

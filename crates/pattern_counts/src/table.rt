@@ -2,7 +2,7 @@
 
 ghost use Rattle.std.specs.Prelude.{◌≡◌, ℕ, ◌+◌, ◌-◌, ◌≤◌, ◌<◌, ◌↔◌, List, [], ◌∷◌, ◌++◌, map, length, slice_get, slice_index_or, Contains, Some, IsNone, IsTrue, IfSome, IfOk, OnOk};
 ghost use Rattle.open_addressing.specs.Table.{home_of, IsSlot, IsTable};
-ghost use Rattle.open_addressing.specs.Searching.{Ends};
+ghost use Rattle.open_addressing.specs.Searching.{SearchEnds};
 ghost use Rattle.pattern_counts.specs.Hashes.{hash_of};
 ghost use Rattle.pattern_counts.specs.Table.{layout};
 
@@ -91,7 +91,7 @@ fn search(
     requires table { IsTable layout (map hash_of lists.now.lists) slots.now }
     requires hash { hash ≡ hash_of list.now }
     requires within { to ≤ length slots.now }
-    ensures { Ends layout lists.now.lists slots.now list.now from to result }
+    ensures { SearchEnds layout lists.now.lists slots.now list.now from to result }
 {
     for at in from..to {
         let slot = slots[at];

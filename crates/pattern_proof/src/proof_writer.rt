@@ -162,7 +162,7 @@ fn put_entries<O: Sink>(
     ensures never_falls { O.faults out.old ≤ O.faults out.new }
 {
     // The parts of the job fit.
-    let _support = source.job.support();
+    let _threshold = source.job.threshold();
     let mut held = 0;
     for (number, row) in source.rows.iter().enumerate() {
         let first = source.lists.starts[number];
@@ -200,7 +200,7 @@ fn put_entry<O: Sink>(
     ensures never_falls { O.faults out.old ≤ O.faults out.new }
 {
     // The parts of the job fit.
-    let _support = source.job.support();
+    let _threshold = source.job.threshold();
     let behind_row = put_line(out, text, filled, row, source.names)?;
     let asked = Asked {
         job: source.job,

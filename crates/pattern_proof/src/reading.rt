@@ -73,7 +73,7 @@ fn take_row<'a>(check: &mut Check<'a>, number: u64, text: &[u8]) -> Result<(), P
         pattern: Pattern::new(items),
         support,
     };
-    if support < check.job.support() {
+    if support < check.job.threshold() {
         return Err(ProofFault::BadProof { line: number });
     }
     if !is_behind(check.names, &check.current, &row) {

@@ -271,13 +271,13 @@ module _ (problem : Problem) where
 
 -- Lists
 
-module _ (support : ℕ) (sums : List ℕ) where
-  pub lists-none : (lists : List (Vec ℕ)) → All (λ (list : Vec ℕ). list.items ≡ []) lists → AreLists support sums [] lists
+module _ (threshold : ℕ) (sums : List ℕ) where
+  pub lists-none : (lists : List (Vec ℕ)) → All (λ (list : Vec ℕ). list.items ≡ []) lists → AreLists threshold sums [] lists
   lists-none lists empty = λ pivot none within enough. empty pivot none within ∙ sym (with-none pivot)
 
   -- one more sequence of a pivot that weighs enough
   pub lists-push : (done : List Pair) (lists : List (Vec ℕ)) (pair : Pair) (list old : Vec ℕ) → pair.pivot < length lists → old ≡ get_or lists pair.pivot old
-      → list.items ≡ old.items ++ pair.sequence ∷ [] → AreLists support sums done lists → AreLists support sums (done ++ pair ∷ []) (set lists pair.pivot list)
+      → list.items ≡ old.items ++ pair.sequence ∷ [] → AreLists threshold sums done lists → AreLists threshold sums (done ++ pair ∷ []) (set lists pair.pivot list)
   lists-push done lists pair list old inside was longer are = λ pivot none within enough.
       let long = length-set lists pair.pivot list in
       let before = are pivot none (omega (arith, within, long)) enough in
@@ -293,9 +293,9 @@ module _ (support : ℕ) (sums : List ℕ) where
       ]
 
   -- one of a pivot that does not
-  pub lists-pass : (done : List Pair) (lists : List (Vec ℕ)) (pair : Pair) → slice_index sums pair.pivot < support → AreLists support sums done lists → AreLists support sums (done ++ pair ∷ []) lists
+  pub lists-pass : (done : List Pair) (lists : List (Vec ℕ)) (pair : Pair) → slice_index sums pair.pivot < threshold → AreLists threshold sums done lists → AreLists threshold sums (done ++ pair ∷ []) lists
   lists-pass done lists pair less are = λ pivot none within enough. elim (cases_eq pivot pair.pivot) [
-    | inl same ↦ let few : slice_index sums pivot < support = subst (λ p. slice_index sums p < support) (sym same) less in absurd (omega (arith, few, enough))
+    | inl same ↦ let few : slice_index sums pivot < threshold = subst (λ p. slice_index sums p < threshold) (sym same) less in absurd (omega (arith, few, enough))
     | inr other ↦
         are pivot none within enough
         ∙ sym (with-append pivot done (pair ∷ []) ∙ ap (λ l. sequences_with pivot done ++ l) (with-other pivot pair [] (λ e. other (sym e)) ∙ with-none pivot) ∙ append-nil (sequences_with pivot done))
@@ -303,9 +303,9 @@ module _ (support : ℕ) (sums : List ℕ) where
 
   -- one more pair after another, at the end of those that were there
   pub lists-next : (done pairs : List Pair) (i : ℕ) (d : Pair) (lists : List (Vec ℕ)) → i < length pairs
-      → AreLists support sums ((done ++ take i pairs) ++ get_or pairs i d ∷ []) lists → AreLists support sums (done ++ take (i + 1) pairs) lists
+      → AreLists threshold sums ((done ++ take i pairs) ++ get_or pairs i d ∷ []) lists → AreLists threshold sums (done ++ take (i + 1) pairs) lists
   lists-next done pairs i d lists inside are =
-      subst (λ l. AreLists support sums l lists) (append_assoc done (take i pairs) (get_or pairs i d ∷ []) ∙ ap (λ l. done ++ l) (sym (take_more pairs i d inside))) are
+      subst (λ l. AreLists threshold sums l lists) (append_assoc done (take i pairs) (get_or pairs i d ∷ []) ∙ ap (λ l. done ++ l) (sym (take_more pairs i d inside))) are
 
 -- Sums, pair after pair
 

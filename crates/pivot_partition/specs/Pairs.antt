@@ -50,5 +50,6 @@ AreWeights problem pairs sums = (pivot : ℕ) → slice_index sums pivot ≡ wei
 
 -- the lists have the sequences with each pivot that weighs enough
 abbrev pub AreLists : ℕ → List ℕ → List Pair → List (Vec ℕ) → Type 0
-AreLists support sums pairs lists = (pivot : ℕ) (none : Vec ℕ) → pivot < length lists
-    → support ≤ slice_index sums pivot → (slice_index_or lists pivot none).items ≡ sequences_with pivot pairs
+AreLists threshold sums pairs lists = (pivot : ℕ) (none : Vec ℕ) → pivot < length lists
+    → threshold ≤ slice_index sums pivot
+    → (slice_index_or lists pivot none).items ≡ sequences_with pivot pairs

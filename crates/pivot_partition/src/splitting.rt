@@ -16,9 +16,9 @@ use mining_job::{Job, PartSeed};
 use std::alloc::Global;
 use std::thread::Threads;
 
-/// The seeds of the pivots whose sequences weigh at least the support, by rising pivot. The sequences are cut
-/// into as many pieces as there are to be threads, and the pivots of each are found by a thread of its own.
-/// Where no item has a rank there is no pivot, and no sequence is looked at.
+/// The seeds of the pivots whose sequences weigh at least the threshold, by rising pivot. The sequences are
+/// cut into as many pieces as there are to be threads, and the pivots of each are found by a thread of its
+/// own. Where no item has a rank there is no pivot, and no sequence is looked at.
 pub fn split<R: Threads + Sync>(
     rt: &R,
     alloc: Global,
@@ -56,7 +56,7 @@ pub fn split_alone(alloc: Global, job: &Job) -> Result<Vec<PartSeed>, NoMemory>
     seeds_of(alloc, job, parts.as_slice())
 }
 
-/// The seeds of the pivots whose sequences weigh at least the support, where these are all pairs.
+/// The seeds of the pivots whose sequences weigh at least the threshold, where these are all pairs.
 fn seeds_of(alloc: Global, job: &Job, parts: &[Vec<Pair>]) -> Result<Vec<PartSeed>, NoMemory>
     requires { ArePairs job.now 0 (length job.now.sequences) (all_of parts.now) }
     ensures complete { IfOk result (λ seeds. All (IsComplete job.now) seeds.items) }
@@ -64,12 +64,12 @@ fn seeds_of(alloc: Global, job: &Job, parts: &[Vec<Pair>]) -> Result<Vec<PartSee
     ensures alive { IfOk result (λ seeds. (pivot : ℕ) → Contains (pivots_in seeds.items) pivot
         ↔ ((1 ≤ pivot) × IsAliveLabel (data_of job.now) job.now.ranking.order pivot [])) }
 {
-    let support = job.support();
+    let threshold = job.threshold();
     let sums = weights(alloc, job, parts)?;
     let mut lists = Vec::new(alloc);
     push_empty(alloc, sums.len(), &mut lists)?;
     for part in parts {
-        file(part.as_slice(), support, sums.as_slice(), &mut lists)?;
+        file(part.as_slice(), threshold, sums.as_slice(), &mut lists)?;
     }
     seeds_with(alloc, job, sums.as_slice(), lists)
 }
@@ -89,26 +89,26 @@ fn push_empty(alloc: Global, count: usize, lists: &mut Vec<Vec<u32>>) -> Result<
 /// Appends the sequence of each pair to the list of its pivot, where that weighs enough.
 fn file(
     pairs: &[Pair],
-    support: u64,
+    threshold: u64,
     sums: &[u64],
     lists: &mut Vec<Vec<u32>>,
 ) -> Result<(), NoMemory>
     requires sums { length sums.now ≡ length lists.old.items }
     requires pivots { All (λ pair. pair.pivot < length lists.old.items) pairs.now }
     ensures long { length lists.new.items ≡ length lists.old.items }
-    ensures filed { OnOk result ((done : _) → AreLists support sums.now done lists.old.items
-        → AreLists support sums.now (done ++ pairs.now) lists.new.items) }
+    ensures filed { OnOk result ((done : _) → AreLists threshold sums.now done lists.old.items
+        → AreLists threshold sums.now (done ++ pairs.now) lists.new.items) }
 {
     for pair in pairs {
         let pivot = pair.pivot as usize;
-        if sums[pivot] >= support {
+        if sums[pivot] >= threshold {
             lists[pivot].push(pair.sequence)?;
         }
     }
     Ok(())
 }
 
-/// The seeds of these lists that weigh at least the support, by their places.
+/// The seeds of these lists that weigh at least the threshold, by their places.
 fn seeds_with(
     alloc: Global,
     job: &Job,
@@ -124,11 +124,11 @@ fn seeds_with(
     ensures alive { IfOk result (λ seeds. (pivot : ℕ) → Contains (pivots_in seeds.items) pivot
         ↔ ((1 ≤ pivot) × IsAliveLabel (data_of job.now) job.now.ranking.order pivot [])) }
 {
-    let support = job.support();
+    let threshold = job.threshold();
     let mut seeds = Vec::new(alloc);
     let mut place = 0;
     'lists: for sequences in lists {
-        push_seed(place, sequences, sums[place] >= support, &mut seeds)?;
+        push_seed(place, sequences, sums[place] >= threshold, &mut seeds)?;
         place += 1;
     }
     Ok(seeds)

@@ -13,16 +13,16 @@ fn a_rank_is_in_one_share(rt: HostRuntime) {
     assert!(rt; !is_in_share(2, 2, 1) && !is_in_share(64, 64, 65) && !is_in_share(1, 1, 0));
 }
 
-/// Reads one more file with this text, whose rows have at least this support.
+/// Reads one more file with this text, whose rows reach this threshold.
 fn read_one(
     alloc: Global,
     text: &str,
-    support: u64,
+    threshold: u64,
     names: &mut Names,
     held: &mut MergedRows,
 ) -> Result<Result<(), MergeFault>, NoMemory> {
     let mut files = one_file(alloc, text.as_bytes(), 3, &[])?;
-    Ok(read_rows(alloc, &mut files, "f", support, names, held))
+    Ok(read_rows(alloc, &mut files, "f", threshold, names, held))
 }
 
 fn is_row(row: &Row, items: &[Item], support: u64) -> bool {
@@ -67,7 +67,7 @@ fn rows_of_files_are_held_in_their_order(rt: HostRuntime) {
     assert_eq!(rt; are_held(rt.alloc()), Ok(true));
 }
 
-/// Files, the least support, and why they are refused.
+/// Files, the threshold, and why they are refused.
 const REFUSED: &[(&str, u64, Option<MergeFault>)] = &[
     ("", 1, None),
     ("0001\ta\r\n", 1, None),
@@ -89,16 +89,16 @@ const REFUSED: &[(&str, u64, Option<MergeFault>)] = &[
 ];
 
 /// Why a file with this text is refused, or None.
-fn refusal_of(alloc: Global, text: &str, support: u64) -> Result<Option<MergeFault>, NoMemory> {
+fn refusal_of(alloc: Global, text: &str, threshold: u64) -> Result<Option<MergeFault>, NoMemory> {
     let mut names = Names::new(alloc)?;
     let mut held = MergedRows::new(alloc);
-    Ok(read_one(alloc, text, support, &mut names, &mut held)?.err())
+    Ok(read_one(alloc, text, threshold, &mut names, &mut held)?.err())
 }
 
 /// The first file that is refused otherwise.
 fn first_misread(alloc: Global) -> Result<Option<&'static str>, NoMemory> {
-    for (text, support, fault) in REFUSED {
-        if refusal_of(alloc, text, *support)? != *fault {
+    for (text, threshold, fault) in REFUSED {
+        if refusal_of(alloc, text, *threshold)? != *fault {
             return Ok(Some(*text));
         }
     }

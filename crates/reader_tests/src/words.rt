@@ -18,63 +18,63 @@ fn said(alloc: Global, text: &str) -> Result<String, NoMemory> {
 const COMMANDS: &[(&str, &str)] = &[
     (
         "--support 1000000000000000000 -- -a -",
-        "Some(Command { support: 1000000000000000000, source: Read { expression: \"-a\", file: \"-\" }, \
+        "Some(Command { threshold: 1000000000000000000, source: Read { expression: \"-a\", file: \"-\" }, \
          hierarchy: None, weighted: false, engine: Dfs, workers: 4, seed: None, share: None, stats: false, \
          task: Mine })",
     ),
     (
         "f --support=002  --weighted --hierarchy h --stats --workers=064 --engine count",
-        "Some(Command { support: 2, source: Read { expression: \"f\", file: \"\" }, \
+        "Some(Command { threshold: 2, source: Read { expression: \"f\", file: \"\" }, \
          hierarchy: Some(\"h\"), weighted: true, engine: Count, workers: 64, seed: None, share: None, \
          stats: true, task: Mine })",
     ),
     (
         "--support 2 --engine=pivot --simulate 18446744073709551615 (a) --workers 1 f",
-        "Some(Command { support: 2, source: Read { expression: \"(a)\", file: \"f\" }, \
+        "Some(Command { threshold: 2, source: Read { expression: \"(a)\", file: \"f\" }, \
          hierarchy: None, weighted: false, engine: Pivot, workers: 1, \
          seed: Some(18446744073709551615), share: None, stats: false, task: Mine })",
     ),
     (
         "--support 2 --max-gap 0 f",
-        "Some(Command { support: 2, source: Embed { rule: GapRule { max_gap: 0, min_length: 1, \
+        "Some(Command { threshold: 2, source: Embed { rule: GapRule { max_gap: 0, min_length: 1, \
          max_length: 5, generalize: false }, file: \"f\" }, \
          hierarchy: None, weighted: false, engine: Dfs, workers: 4, seed: None, share: None, stats: false, \
          task: Mine })",
     ),
     (
         "--min-length=003 --generalize --max-length=1000 --max-gap 1000 --support=2 --engine dfs -- f",
-        "Some(Command { support: 2, source: Embed { rule: GapRule { max_gap: 1000, min_length: 3, \
+        "Some(Command { threshold: 2, source: Embed { rule: GapRule { max_gap: 1000, min_length: 3, \
          max_length: 1000, generalize: true }, file: \"f\" }, \
          hierarchy: None, weighted: false, engine: Dfs, workers: 4, seed: None, share: None, stats: false, \
          task: Mine })",
     ),
     (
         "--generated 0007 --support 1 (.)",
-        "Some(Command { support: 1, source: Make { count: 7, expression: \"(.)\" }, \
+        "Some(Command { threshold: 1, source: Make { count: 7, expression: \"(.)\" }, \
          hierarchy: None, weighted: false, engine: Dfs, workers: 4, seed: None, share: None, stats: false, \
          task: Mine })",
     ),
     (
         "--support 2 --engine pivot --split 01/064 (a) f",
-        "Some(Command { support: 2, source: Read { expression: \"(a)\", file: \"f\" }, \
+        "Some(Command { threshold: 2, source: Read { expression: \"(a)\", file: \"f\" }, \
          hierarchy: None, weighted: false, engine: Pivot, workers: 4, seed: None, \
          share: Some(Share { index: 1, of: 64 }), stats: false, task: Mine })",
     ),
     (
         "--support 2 --proof (a) f --stats",
-        "Some(Command { support: 2, source: Read { expression: \"(a)\", file: \"f\" }, \
+        "Some(Command { threshold: 2, source: Read { expression: \"(a)\", file: \"f\" }, \
          hierarchy: None, weighted: false, engine: Dfs, workers: 4, seed: None, share: None, stats: true, \
          task: Prove })",
     ),
     (
         "--check=p --engine count --support 2 (a) f --weighted",
-        "Some(Command { support: 2, source: Read { expression: \"(a)\", file: \"f\" }, \
+        "Some(Command { threshold: 2, source: Read { expression: \"(a)\", file: \"f\" }, \
          hierarchy: None, weighted: true, engine: Count, workers: 4, seed: None, share: None, stats: false, \
          task: Check { proof: \"p\" } })",
     ),
     (
         "--support 2 --engine cand --workers 3 (a) f",
-        "Some(Command { support: 2, source: Read { expression: \"(a)\", file: \"f\" }, \
+        "Some(Command { threshold: 2, source: Read { expression: \"(a)\", file: \"f\" }, \
          hierarchy: None, weighted: false, engine: Cand, workers: 3, seed: None, share: None, stats: false, \
          task: Mine })",
     ),

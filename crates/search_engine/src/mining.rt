@@ -122,7 +122,7 @@ fn mined_by<'a, R: Threads + Wait + Sync, G: Gate>(
         })) }
 {
     // For the proof alone: the job is whole, as each accessor of it says.
-    let _support = job.support();
+    let _threshold = job.threshold();
     let parts = roots.len() as u64;
     let board = posted(rt, alloc, search, job, roots, workers, gate)?;
     let (rows, nodes) = board.into_parts();

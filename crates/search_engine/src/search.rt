@@ -90,7 +90,7 @@ impl<'a> Search<'a> {
         ensures pivots { result.pivots ≡ 0 ∷ [] }
     {
         // For the proof alone: the job is whole, as each accessor of it says.
-        let _support = job.support();
+        let _threshold = job.threshold();
         Search {
             job,
             source: Source::Whole,
@@ -104,7 +104,7 @@ impl<'a> Search<'a> {
         ensures pivots { result.pivots ≡ pivots_in seeds.items }
     {
         // For the proof alone: the job is whole.
-        let _support = job.support();
+        let _threshold = job.threshold();
         Search {
             job,
             source: Source::Seeds(seeds),

@@ -122,8 +122,8 @@ fn push_known(
         → AreFilled job.now bound tables.now kinds.now places.old.items from items.now count
         → AreFilled job.now bound tables.now kinds.now places.new.items from items.now result.0 }
 {
-    // The contract of `support` says that the parts of the job fit.
-    let _support = job.support();
+    // The contract of `threshold` says that the parts of the job fit.
+    let _threshold = job.threshold();
     let steps = tables.steps();
     let mut position = count;
     let mut triple = after;
@@ -210,8 +210,8 @@ fn push_place(
         → HasTriple job.now bound tables.old.triples rest after
         → HasTriple job.now bound tables.new.triples (t ∷ rest) triple) }
 {
-    // The contract of `support` says that the parts of the job fit.
-    let _support = job.support();
+    // The contract of `threshold` says that the parts of the job fit.
+    let _threshold = job.threshold();
     let _bound = bound;
     let kind = kinds.numbers[t.0 as usize];
     let class = kinds.kinds[kind as usize].class;

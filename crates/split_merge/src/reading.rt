@@ -90,25 +90,25 @@ impl LineVisitor for Merging {
 }
 
 /// Adds the rows of a file of an output to those held, by the numbers of their names. A new name gets the
-/// next number. A support must be at least `support`. The file must be in the order of an answer, and no
+/// next number. A support must be at least the threshold. The file must be in the order of an answer, and no
 /// pattern may be held already. After a refusal rows and names of the lines before may be held as well.
 pub fn read_rows<F: Files>(
     alloc: Global,
     files: &mut F,
     name: &str,
-    support: u64,
+    threshold: u64,
     names: &mut Names,
     held: &mut MergedRows,
 ) -> Result<(), MergeFault>
     requires may { IsTrue (F.may files.old name.now) }
-    ensures accepted { (lines : List (List ℕ)) → AreRowsOfLines support lines names.old held.old
+    ensures accepted { (lines : List (List ℕ)) → AreRowsOfLines threshold lines names.old held.old
         → OnOk result (OfBytes (F.holds files.old name.now) (λ bytes.
-        AreRowsOfLines support (lines ++ lines_of bytes) names.new held.new
-        × ((fault : MergeFault) → IsMergedFileRefusal support lines bytes fault → ⊥))) }
+        AreRowsOfLines threshold (lines ++ lines_of bytes) names.new held.new
+        × ((fault : MergeFault) → IsMergedFileRefusal threshold lines bytes fault → ⊥))) }
     ensures refused { (lines : List (List ℕ)) (fault : MergeFault)
-        → AreRowsOfLines support lines names.old held.old → result ≡ Err fault
+        → AreRowsOfLines threshold lines names.old held.old → result ≡ Err fault
         → fault ≢ MergeFault.ReadFault → fault ≢ MergeFault.NoMemory
-        → IfSome (F.holds files.old name.now) (λ bytes. IsMergedFileRefusal support lines bytes fault) }
+        → IfSome (F.holds files.old name.now) (λ bytes. IsMergedFileRefusal threshold lines bytes fault) }
     ensures failed { result ≡ Err MergeFault.ReadFault → Rose (F.faults files.old) (F.faults files.new) }
     ensures kept_names { (added : List (List ℕ)) × (names.new ≡ names.old ++ added) }
     ensures kept_rows { (added : List Row) × (held.new ≡ held.old ++ added) }
@@ -119,7 +119,7 @@ pub fn read_rows<F: Files>(
     prove!(names.count() <= MOST_NAMES);
     let no_names = Names::new(alloc)?;
     let mut merging = Merging {
-        least: support,
+        least: threshold,
         names: mem::replace(names, no_names),
         rows: mem::replace(held, MergedRows::new(alloc)),
         last: Last {

@@ -26,16 +26,16 @@ returns-clause-ranks g c =
     let same : c.as_slice.result.now ≡ frequencies = c.as_slice.ensures.value in
     let whole : length frequencies ≡ c.args.hierarchy.now.items = c.in_ok-frequencies.ensures.whole in
     let sorted : AllPairs (ComesBefore frequencies c.args.names.now) order = subst (λ fs. AllPairs (ComesBefore fs c.args.names.now) order) same c.in_ok-order.ensures.sorted in
-    let frequent : (w : Item) → Contains order w ↔ ((w.0 < length frequencies) × (c.args.support ≤ slice_index frequencies w.0)) =
-    subst (λ fs. (w : Item) → Contains order w ↔ ((w.0 < length fs) × (c.args.support ≤ slice_index fs w.0))) same c.in_ok-order.ensures.frequent in
+    let frequent : (w : Item) → Contains order w ↔ ((w.0 < length frequencies) × (c.args.threshold ≤ slice_index frequencies w.0)) =
+    subst (λ fs. (w : Item) → Contains order w ↔ ((w.0 < length fs) × (c.args.threshold ≤ slice_index fs w.0))) same c.in_ok-order.ensures.frequent in
     let ends : All (λ link. (link.child.0 < length frequencies) × (link.parent.0 < length frequencies)) c.args.hierarchy.now.links =
     subst (λ n. All (λ link. (link.child.0 < n) × (link.parent.0 < n)) c.args.hierarchy.now.links) (sym whole) c.items-items.ensures.within in
     let within : AllByRecursion (λ s. AllByRecursion (λ t. t.0 < length frequencies) s.items) c.args.db.now =
     subst (λ n. AllByRecursion (λ s. AllByRecursion (λ t. t.0 < n) s.items) c.args.db.now) (sym whole) c.requires.items in
-    let ranked : AreRanks c.args.hierarchy.now.links c.args.db.now c.args.support (record { order = order; frequencies = frequencies }) =
-    AreRanks-sorted frequencies c.args.names.now order sorted c.args.hierarchy.now.links c.args.db.now c.args.support ends within c.requires.support c.in_ok-frequencies.ensures.exact frequent in
-    IfOk-weaker c.new.result (λ ranks. ranks ≡ record { order = order; frequencies = frequencies }) (AreRanks c.args.hierarchy.now.links c.args.db.now c.args.support)
-    (λ ranks is. subst (AreRanks c.args.hierarchy.now.links c.args.db.now c.args.support) (sym is) ranked) c.new.ensures
+    let ranked : AreRanks c.args.hierarchy.now.links c.args.db.now c.args.threshold (record { order = order; frequencies = frequencies }) =
+    AreRanks-sorted frequencies c.args.names.now order sorted c.args.hierarchy.now.links c.args.db.now c.args.threshold ends within c.requires.threshold c.in_ok-frequencies.ensures.exact frequent in
+    IfOk-weaker c.new.result (λ ranks. ranks ≡ record { order = order; frequencies = frequencies }) (AreRanks c.args.hierarchy.now.links c.args.db.now c.args.threshold)
+    (λ ranks is. subst (AreRanks c.args.hierarchy.now.links c.args.db.now c.args.threshold) (sym is) ranked) c.new.ensures
 
 pub returns-clause-ties : goal.returns-clause-ties
 returns-clause-ties g c =

@@ -40,6 +40,6 @@ returns-clause-root c =
     let are = begun-are part value.part value.begun 0 value.nodes nodes c.requires.whole.part c.requires.whole.begun c.graph.ensures.nodes c.graph.ensures.candidates in
     let states = c.pivot_state.new.registry in
     IfOk-weaker c.pivot_state.result (IsPivotRootOf nodes c.args.pivot states) (IsRootFor (data_of problem) problem.ranking.order c.args.pivot (items_of problem c.args.seq) states)
-    (λ root is. root-alone problem c.support-support.ensures.whole.ranks.once c.args.seq c.args.pivot c.requires.least nodes states root
+    (λ root is. root-alone problem c.threshold-threshold.ensures.whole.ranks.once c.args.seq c.args.pivot c.requires.least nodes states root
     (c.whole_graphs_accept_the_patterns.ensures part (items_at part 0) nodes are (subst IsWhole (sym c.graph.ensures.nodes) c.requires.whole.whole)) is)
     c.pivot_state.ensures.root

@@ -56,13 +56,13 @@ returns-clause-rows c =
     let states = c.load_part.new.room.registry in
     let loads = c.load_part.new.room.loads in
     let rows : List Row = c.in_ok-rows.rows.items in
-    let at_loads = subst (λ (l : List Load). AreLoadedRows c.ranks.result.now.order c.support.result states l rows) c.as_slice-loads.ensures c.in_ok-rows.ensures in
-    let at_ranks = subst (λ (r : Ranking). AreLoadedRows r.order c.support.result states loads rows) c.ranks.ensures.ranking at_loads in
-    let found = subst (λ (n : ℕ). AreLoadedRows job.ranking.order n states loads rows) c.support.ensures.threshold at_ranks in (
+    let at_loads = subst (λ (l : List Load). AreLoadedRows c.ranks.result.now.order c.threshold.result states l rows) c.as_slice-loads.ensures c.in_ok-rows.ensures in
+    let at_ranks = subst (λ (r : Ranking). AreLoadedRows r.order c.threshold.result states loads rows) c.ranks.ensures.ranking at_loads in
+    let found = subst (λ (n : ℕ). AreLoadedRows job.ranking.order n states loads rows) c.threshold.ensures.threshold at_ranks in (
       rows,
       c.in_ok-append.ensures.items,
       loads-rows (data_of job) job.ranking.order (pivot_of seed.pivot) seed.sequences.items (seed-pivot job seed c.requires.complete) states c.in_ok-load_part.ensures.registry loads c.in_ok-load_part.ensures.loads
-          c.support.ensures.whole.least rows found,
+          c.threshold.ensures.whole.least rows found,
     )
 
 pub returns-clause-sets : goal.returns-clause-sets

@@ -11,7 +11,7 @@ use Rattle.cand_automaton.proofs.GroupLemmas.{part-held, held-limits, groups-mos
 use Rattle.cand_automaton.proofs.searching.rows.Goals as goal
 
 pub rows-requires-clause-least : goal.rows-requires-clause-least
-rows-requires-clause-least c = omega (arith, c.support.ensures.threshold, c.support.ensures.whole.least)
+rows-requires-clause-least c = omega (arith, c.threshold.ensures.threshold, c.threshold.ensures.whole.least)
 
 pub rows-requires-clause-searched : goal.rows-requires-clause-searched
 rows-requires-clause-searched c = λ group held.
@@ -38,5 +38,5 @@ rows-requires-clause-fits c =
 pub returns : goal.returns
 returns c =
     let groups = c.args.groups.now in
-    subst (λ (n : ℕ). IfOk c.rows.result (λ rows. AreGroupRows c.args.job.now.ranking.order n groups rows.items)) c.support.ensures.threshold
-    (subst (λ (r : Ranking). IfOk c.rows.result (λ rows. AreGroupRows r.order c.support.result groups rows.items)) c.ranks.ensures.ranking c.rows.ensures)
+    subst (λ (n : ℕ). IfOk c.rows.result (λ rows. AreGroupRows c.args.job.now.ranking.order n groups rows.items)) c.threshold.ensures.threshold
+    (subst (λ (r : Ranking). IfOk c.rows.result (λ rows. AreGroupRows r.order c.threshold.result groups rows.items)) c.ranks.ensures.ranking c.rows.ensures)

@@ -33,7 +33,7 @@ loop-number-init g c =
     let seeds = c.args.seeds.now in
     let job = c.args.job.now in
     let Own : ℕ → Type 0 = λ place. (place < 0) × (place % c.args.workers ≡ c.args.worker) in
-    let none = found-none (data_of job) job.ranking.order c.support-support.ensures.whole.ranks.once (pivots_in seeds) c.requires.seeds.rising (λ pivot held. (c.requires.seeds.alive pivot held).0)
+    let none = found-none (data_of job) job.ranking.order c.threshold-threshold.ensures.whole.ranks.once (pivots_in seeds) c.requires.seeds.rising (λ pivot held. (c.requires.seeds.alive pivot held).0)
     Own (λ place pivot at own. omega (arith, own.0)) in
     record {
       problem = c.requires.problem;
@@ -49,7 +49,7 @@ loop-number-preserved-then-number-workers g c =
     record {
       problem = c.loop-number.invariant.problem;
       kept = c.loop-number.invariant.kept;
-      found = found-passed (data_of job) job.ranking.order c.support-support.ensures.whole.ranks.once (pivots_in seeds) c.requires.seeds.rising (λ pivot held. (c.requires.seeds.alive pivot held).0)
+      found = found-passed (data_of job) job.ranking.order c.threshold-threshold.ensures.whole.ranks.once (pivots_in seeds) c.requires.seeds.rising (λ pivot held. (c.requires.seeds.alive pivot held).0)
           c.args.workers c.args.worker c.loop-number.number c.loop-number.done.rows.items c.loop-number.done.sets c.if-number-workers.true c.loop-number.invariant.found;
     }
 
@@ -62,7 +62,7 @@ loop-number-preserved g c =
     let (more, rows, rows_are) = c.in_ok-mine_part.ensures.rows in
     let (count, sets, sets_are) = c.in_ok-mine_part.ensures.sets in
     let Own : ℕ → Type 0 = λ place. (place < c.loop-number.number + 1) × (place % c.args.workers ≡ c.args.worker) in
-    let both = found-more (data_of job) job.ranking.order c.support-support.ensures.whole.ranks.once (pivots_in seeds) c.requires.seeds.rising (λ pivot held. (c.requires.seeds.alive pivot held).0)
+    let both = found-more (data_of job) job.ranking.order c.threshold-threshold.ensures.whole.ranks.once (pivots_in seeds) c.requires.seeds.rising (λ pivot held. (c.requires.seeds.alive pivot held).0)
     c.args.workers c.args.worker c.loop-number.number (pivot_of seed.pivot) c.loop-number.done.rows.items more c.loop-number.done.sets count c.if-number-workers.false at rows_are sets_are c.loop-number.invariant.found in
     record {
       problem = c.mine_part.ensures.problem ∙ c.loop-number.invariant.problem;
@@ -75,6 +75,6 @@ pub returns : goal.returns
 returns g c =
     let seeds = c.args.seeds.now in
     let job = c.args.job.now in
-    found-through (data_of job) job.ranking.order c.support-support.ensures.whole.ranks.once (pivots_in seeds) c.requires.seeds.rising (λ pivot held. (c.requires.seeds.alive pivot held).0)
+    found-through (data_of job) job.ranking.order c.threshold-threshold.ensures.whole.ranks.once (pivots_in seeds) c.requires.seeds.rising (λ pivot held. (c.requires.seeds.alive pivot held).0)
     c.args.workers c.args.worker c.loop-number.number c.loop-number.done.rows.items c.loop-number.done.sets
     (omega (arith, c.loop-number-test.false, length-map seeds (λ (seed : PartSeed). pivot_of seed.pivot))) c.loop-number.invariant.found

@@ -37,6 +37,6 @@ returns-clause-count c =
     (λ told. (index : ℕ) → c.args.candidates.now.begun ≡ Some index → IsTold (HasCandidates (data_of problem) (items_at part index)) told)
     (λ told is index begun.
     let are = begun-are part later.part later.begun index later.nodes nodes c.expand_all.ensures.part (c.expand_all.ensures.begun ∙ begun) c.graph.ensures.nodes c.graph.ensures.candidates in
-    told-candidates problem part (items_at part index) nodes told c.requires.problem c.support-support.ensures.whole c.requires.bound
+    told-candidates problem part (items_at part index) nodes told c.requires.problem c.threshold-threshold.ensures.whole c.requires.bound
     (c.whole_graphs_accept_the_patterns.ensures part (items_at part index) nodes are (subst IsWhole (sym c.graph.ensures.nodes) c.in_ok-expand_all.ensures.whole)) is)
     c.count_paths.ensures

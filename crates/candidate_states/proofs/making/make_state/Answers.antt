@@ -1,6 +1,6 @@
 use Rattle.std.proofs.Common.{◌≡◌, ◌<◌, ℕ, Some, List, length, sym, subst, arith}
 use Rattle.std.specs.List.{AllZip}
-use Rattle.automaton_model.specs.Automata.{State}
+use Rattle.automaton_model.specs.Automata.{StateValue}
 use Rattle.candidate_states.specs.declared.states.Made.{Made}
 use Rattle.candidate_states.specs.Kept.{state_in, IsMoved, AreStates}
 use Rattle.graph_order.proofs.StepLemmas.{AreStepsOf, whole-expanded, steps-of, steps-inside}
@@ -42,7 +42,7 @@ returns-clause-states c =
     subst (λ (l : List Made). AllZip (IsMoved l) c.edges_of.result.now c.write_edges.new.edges.items) c.as_slice-2.ensures.value c.in_ok-write_edges.ensures in
     let (more, grown, added) = c.number.ensures.grows in
     let are : AreStates nodes c.number.new.self made =
-    subst (λ (l : List State). AreStates nodes l made) (sym grown) (states-stay nodes c.args.registry.now more made c.requires.registry c.requires.states) in
+    subst (λ (l : List StateValue). AreStates nodes l made) (sym grown) (states-stay nodes c.args.registry.now more made c.requires.registry c.requires.states) in
     entered-states made c.enter.new.made.items c.args.node c.args.ends c.in_ok-number.number c.enter.ensures nodes c.number.new.self are
     (state-right nodes c.number.new.self made are c.args.node node c.edges_of.result.now at known c.args.ends c.write_edges.new.edges.items moved c.in_ok-number.number
     c.in_ok-number.ensures.number)

@@ -1,6 +1,6 @@
 use Rattle.std.proofs.Common.{◌≡◌, ◌++◌, ◌<◌, ℕ, Some, List, length}
 use Rattle.std.specs.List.{slice_get}
-use Rattle.automaton_model.specs.Automata.{State}
+use Rattle.automaton_model.specs.Automata.{StateValue}
 use Rattle.automaton_model.specs.Registry.{IsRegistry}
 use Rattle.candidate_graph.specs.declared.edge.Edge.{Edge}
 use Rattle.candidate_states.specs.Kept.{state_in, AreStates, Keeps}
@@ -9,7 +9,7 @@ use Rattle.candidate_states.proofs.making.make_targets.Given as goal
 -- the states to which the edges so far lead were made
 abbrev pub invariant-loop-edge : goal.invariant-loop-edge
 invariant-loop-edge l = record {
-  grows : (more : List State) × (l.registry ≡ l.initial.registry ++ more);
+  grows : (more : List StateValue) × (l.registry ≡ l.initial.registry ++ more);
   registry : IsRegistry l.registry;
   long : length l.made.items ≡ length l.graph.nodes;
   keeps : Keeps l.initial.made.items l.made.items;

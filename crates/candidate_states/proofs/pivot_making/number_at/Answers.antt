@@ -1,7 +1,7 @@
 use Rattle.std.proofs.Common.{◌≡◌, ◌<◌, ◌∙◌, Bool, false, IsTrue, true≢false, Some, List, length, vec_len, eqb-true, eq-eqb, sym, subst, arith}
 use Rattle.std.specs.List.{slice_get}
 use Rattle.automaton_model.specs.declared.state.Edge.{Edge}
-use Rattle.automaton_model.specs.Automata.{State}
+use Rattle.automaton_model.specs.Automata.{StateValue}
 use Rattle.automaton_model.specs.Registry.{IsKeptState}
 use Rattle.candidate_states.specs.declared.numbers.Numbers.{Numbers}
 use Rattle.candidate_states.specs.Stages.{asked_in, can_end, AreLinked, AreNumbered}
@@ -48,7 +48,7 @@ returns-clause-states c =
     ] in
     let (more, grown, added) = c.number.ensures.grows in
     let still : AreNumbered nodes c.args.pivot c.number.new.self numbers =
-    subst (λ (l : List State). AreNumbered nodes c.args.pivot l numbers) (sym grown) (numbered-stay nodes c.args.pivot c.args.registry.now more numbers c.requires.registry c.requires.states) in
+    subst (λ (l : List StateValue). AreNumbered nodes c.args.pivot l numbers) (sym grown) (numbered-stay nodes c.args.pivot c.args.registry.now more numbers c.requires.registry c.requires.states) in
     entered-numbered numbers c.enter_number.new.numbers.items c.args.node c.args.stage c.in_ok-number.number c.enter_number.ensures nodes c.args.pivot c.number.new.self still
     (stage-right nodes c.args.pivot c.args.registry.now c.args.asked.now numbers c.requires.states c.args.node c.args.stage is c.requires.closed c.requires.targets
     c.steps_of-steps.result.now c.steps_of-steps.ensures.exact edges linked alive c.number.new.self still c.in_ok-number.number

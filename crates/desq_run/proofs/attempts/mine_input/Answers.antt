@@ -9,7 +9,7 @@ use Rattle.desq_run.proofs.attempts.mine_input.Goals as goal
 pub returns-clause-mined : goal.returns-clause-mined
 returns-clause-mined g c = λ words is.
     job-mined words (g.F.Files.holds c.args.files.now) (command_said c.args.command.now) is c.in_ok-names.field-0.names c.in_ok-names.field-0.job
-    c.in_ok-names.ensures.job c.requires.ranges c.requires.support c.in_ok-rows.field-0.rows.items c.in_ok-rows.field-0.work
+    c.in_ok-names.ensures.job c.requires.ranges c.requires.threshold c.in_ok-rows.field-0.rows.items c.in_ok-rows.field-0.work
     c.in_ok-rows.ensures.rows c.in_ok-rows.ensures.work
 
 pub returns-in_err-names-clause-ends : goal.returns-in_err-names-clause-ends

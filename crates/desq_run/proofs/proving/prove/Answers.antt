@@ -62,7 +62,7 @@ returns-clause-done g c = λ words is.
     let work = c.in_ok-rows.field-0.work in
     let ranges = file-ranges command (suits-prove command c.requires.task c.requires.suits) in
     let mined : IsMined words holds command names rows work =
-    job-mined words holds command is names job c.in_ok-names.ensures.job ranges c.requires.support rows work c.in_ok-rows.ensures.rows c.in_ok-rows.ensures.work in
+    job-mined words holds command is names job c.in_ok-names.ensures.job ranges c.requires.threshold rows work c.in_ok-rows.ensures.rows c.in_ok-rows.ensures.work in
     mined-done words holds command names rows work mined (λ file own. (let other : prove ≡ check file = sym c.requires.task ∙ own in cc))
 
 pub returns-clause-written : goal.returns-clause-written
@@ -75,7 +75,7 @@ returns-clause-written g c = λ words input is is_input.
     let work = c.in_ok-rows.field-0.work in
     let ranges = file-ranges command (suits-prove command c.requires.task c.requires.suits) in
     let mined : IsMined words holds command names rows work =
-    job-mined words holds command is names job c.in_ok-names.ensures.job ranges c.requires.support rows work c.in_ok-rows.ensures.rows c.in_ok-rows.ensures.work in
+    job-mined words holds command is names job c.in_ok-names.ensures.job ranges c.requires.threshold rows work c.in_ok-rows.ensures.rows c.in_ok-rows.ensures.work in
     let gains = rw c.as_slice.ensures.value at c.in_ok-write_proof.ensures.written in
     proof-text words holds command names rows work mined is job c.in_ok-names.ensures.job (suits-prove command c.requires.task c.requires.suits) c.requires.task
     c.in_ok-rows.ensures.named input is_input _ _ gains
@@ -92,7 +92,7 @@ returns-in_err-write_proof-clause-ends g c = λ words is.
     let work = c.in_ok-rows.field-0.work in
     let ranges = file-ranges command (suits-prove command c.requires.task c.requires.suits) in
     let mined : IsMined words holds command names rows work =
-    job-mined words holds command is names job c.in_ok-names.ensures.job ranges c.requires.support rows work c.in_ok-rows.ensures.rows c.in_ok-rows.ensures.work in
+    job-mined words holds command is names job c.in_ok-names.ensures.job ranges c.requires.threshold rows work c.in_ok-rows.ensures.rows c.in_ok-rows.ensures.work in
     let ended = mined-done words holds command names rows work mined (λ file own. (let other : prove ≡ check file = sym c.requires.task ∙ own in cc)) in
     rw same
     (elim c.in_err-write_proof.ensures.fails [
@@ -112,7 +112,7 @@ returns-in_err-write_proof-clause-cut g c = λ failed words input is is_input.
     let work = c.in_ok-rows.field-0.work in
     let ranges = file-ranges command (suits-prove command c.requires.task c.requires.suits) in
     let mined : IsMined words holds command names rows work =
-    job-mined words holds command is names job c.in_ok-names.ensures.job ranges c.requires.support rows work c.in_ok-rows.ensures.rows c.in_ok-rows.ensures.work in
+    job-mined words holds command is names job c.in_ok-names.ensures.job ranges c.requires.threshold rows work c.in_ok-rows.ensures.rows c.in_ok-rows.ensures.work in
     let gains = rw c.as_slice.ensures.value at c.in_err-write_proof.ensures.cut (ap Err e) in
     part-text words holds command names rows work mined is job c.in_ok-names.ensures.job (suits-prove command c.requires.task c.requires.suits) c.requires.task
     c.in_ok-rows.ensures.named input is_input _ _ gains

@@ -12,7 +12,7 @@ use Rattle.dfs_growth.proofs.KidLemmas.{kids-are}
 use Rattle.dfs_growth.proofs.growing.kids_of.Goals as goal
 
 pub grow-requires-clause-least : goal.grow-requires-clause-least
-grow-requires-clause-least c = rw c.support.ensures.threshold c.support.ensures.whole.least
+grow-requires-clause-least c = rw c.threshold.ensures.threshold c.threshold.ensures.whole.least
 
 pub grow-requires-clause-room : goal.grow-requires-clause-room
 grow-requires-clause-room c =
@@ -28,7 +28,7 @@ pub grow-requires-clause-projected : goal.grow-requires-clause-projected
 grow-requires-clause-projected c =
     let job = c.args.job.now in
     let label = c.args.label.now in
-    ((prefix_at job label).ranks, rw c.support.ensures.threshold (projected-at job label c.args.part.now c.args.snapshots.now c.requires.projection))
+    ((prefix_at job label).ranks, rw c.threshold.ensures.threshold (projected-at job label c.args.part.now c.args.snapshots.now c.requires.projection))
 
 pub nodes-requires-clause-each : goal.nodes-requires-clause-each
 nodes-requires-clause-each c = λ i n list at taken.
@@ -38,7 +38,7 @@ nodes-requires-clause-each c = λ i n list at taken.
     let ranks = (prefix_at job label).ranks in
     let is = c.requires.projection in
     let here : slice_get c.in_ok-grown.grown.next.items i ≡ Some n = rw c.as_slice.ensures.value at at in
-    let each = rw c.support.ensures.threshold at c.in_ok-grown.ensures.each in
+    let each = rw c.threshold.ensures.threshold at c.in_ok-grown.ensures.each in
     longer-projection job label n.rank part list (part-at job label part c.args.snapshots.now is)
     (each ranks (projected-at job label part c.args.snapshots.now is) i n list here taken)
 
@@ -57,10 +57,10 @@ returns-clause-kids c =
     let part = c.args.part.now in
     let prefix = prefix_at job label in
     let is = c.requires.projection in
-    let found = rw c.support.ensures.threshold at c.in_ok-grown.ensures.next in
+    let found = rw c.threshold.ensures.threshold at c.in_ok-grown.ensures.next in
     let next : AreNextRanks part prefix.ranks job.threshold c.in_ok-grown.grown.next.items = found prefix.ranks (projected-at job label part c.args.snapshots.now is) in
     let kids : AreKids (data_of job) job.ranking.order prefix.pivot prefix.ranks (map (λ (n : NextRank). label_at (longer_by prefix n.rank)) c.in_ok-grown.grown.next.items) =
-    kids-are job prefix.pivot part (part-at job label part c.args.snapshots.now is) c.support.ensures.whole.least prefix.ranks c.in_ok-grown.grown.next.items next in
+    kids-are job prefix.pivot part (part-at job label part c.args.snapshots.now is) c.threshold.ensures.whole.least prefix.ranks c.in_ok-grown.grown.next.items next in
     let listed : AreKids (data_of job) job.ranking.order prefix.pivot prefix.ranks (map label_at (map (λ (n : NextRank). longer_by prefix n.rank) c.in_ok-grown.grown.next.items)) =
     subst (AreKids (data_of job) job.ranking.order prefix.pivot prefix.ranks) (sym (map-map label_at (λ (n : NextRank). longer_by prefix n.rank) c.in_ok-grown.grown.next.items)) kids in
     IfOk-weaker c.nodes.result (λ grown. grown.items ≡ map (λ (n : NextRank). longer_by prefix n.rank) c.as_slice.result.now) (λ grown. AreKids (data_of job) job.ranking.order prefix.pivot prefix.ranks (map label_at grown.items))

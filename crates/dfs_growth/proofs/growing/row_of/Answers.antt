@@ -5,13 +5,13 @@ use Rattle.dfs_growth.proofs.NodeLemmas.{ranks-at, part-at, ranks-bounded}
 use Rattle.dfs_growth.proofs.RowLemmas.{row-few, row-enough}
 use Rattle.dfs_growth.proofs.growing.row_of.Goals as goal
 
-pub returns-then-support : goal.returns-then-support
-returns-then-support c =
+pub returns-then-support-threshold : goal.returns-then-support-threshold
+returns-then-support-threshold c =
     let job = c.args.job.now in
     let label = c.args.label.now in
     let prefix = prefix_at job label in
     let is = c.requires.projection in
-    let few : c.support-support.result < job.threshold = omega (arith, c.if-support.true, c.support.ensures.threshold) in
+    let few : c.support-support.result < job.threshold = omega (arith, c.if-support-threshold.true, c.threshold.ensures.threshold) in
     row-few job prefix.pivot c.args.part.now (part-at job label c.args.part.now c.args.snapshots.now is) prefix.ranks c.support-support.result
     (c.support-support.ensures prefix.problem.threshold prefix.ranks is.projected) few
 
@@ -26,8 +26,8 @@ returns c =
     let label = c.args.label.now in
     let prefix = prefix_at job label in
     let is = c.requires.projection in
-    let enough : job.threshold ≤ c.support-support.result = omega (arith, c.if-support.false, c.support.ensures.threshold) in
+    let enough : job.threshold ≤ c.support-support.result = omega (arith, c.if-support-threshold.false, c.threshold.ensures.threshold) in
     let listed = rw c.ranks.ensures.ranking at c.in_ok-pattern.ensures in
     let ranked : AreRanked job.ranking.order c.in_ok-pattern.pattern prefix.ranks = subst (AreRanked job.ranking.order c.in_ok-pattern.pattern) (ranks-at job label c.requires.some) listed in
-    row-enough job prefix.pivot c.args.part.now (part-at job label c.args.part.now c.args.snapshots.now is) c.support.ensures.whole.least prefix.ranks c.in_ok-pattern.pattern c.support-support.result
+    row-enough job prefix.pivot c.args.part.now (part-at job label c.args.part.now c.args.snapshots.now is) c.threshold.ensures.whole.least prefix.ranks c.in_ok-pattern.pattern c.support-support.result
     ranked (c.support-support.ensures prefix.problem.threshold prefix.ranks is.projected) enough

@@ -21,7 +21,7 @@ seeds-preserved-in_ok-push c =
     let seed = c.in-Some.seed in
     let complete : IsComplete job seed = next-has (IsComplete job) c.seeds.yielded _ _ c.args.seeds.items seed is.seen steps.0 c.requires.complete in
     let weight = c.weight.ensures ∙ ap (sum_by (λ i. (sequence_at job.sequences i).weight)) c.as_slice.ensures.value in
-    let enough : job.threshold ≤ sum_by (λ i. (sequence_at job.sequences i).weight) seed.sequences.items = omega (arith, weight, c.if-weight-support.true, c.support-support.ensures.threshold) in
+    let enough : job.threshold ≤ sum_by (λ i. (sequence_at job.sequences i).weight) seed.sequences.items = omega (arith, weight, c.if-weight-threshold.true, c.threshold-threshold.ensures.threshold) in
     let node = c.in_ok-root.ensures in
     record {
       seen = rw append_assoc (ap (λ (xs : List PartSeed). c.seeds.yielded ++ xs) (sym steps.0) ∙ is.seen);
@@ -38,7 +38,7 @@ seeds-preserved c =
     let seed = c.in-Some.seed in
     let complete : IsComplete job seed = next-has (IsComplete job) c.seeds.yielded _ _ c.args.seeds.items seed is.seen steps.0 c.requires.complete in
     let weight = c.weight.ensures ∙ ap (sum_by (λ i. (sequence_at job.sequences i).weight)) c.as_slice.ensures.value in
-    let few : sum_by (λ i. (sequence_at job.sequences i).weight) seed.sequences.items < job.threshold = omega (arith, weight, c.if-weight-support.false, c.support-support.ensures.threshold) in
+    let few : sum_by (λ i. (sequence_at job.sequences i).weight) seed.sequences.items < job.threshold = omega (arith, weight, c.if-weight-threshold.false, c.threshold-threshold.ensures.threshold) in
     record {
       seen = rw append_assoc (ap (λ (xs : List PartSeed). c.seeds.yielded ++ xs) (sym steps.0) ∙ is.seen);
       count = omega (arith, steps.1, is.count, ap length steps.0);

@@ -21,8 +21,8 @@ weight-requires c =
       within = subst (AllByRecursion (λ i. i < length job.sequences)) (sym c.sequences.ensures) (all-within job part.bound part.sequences all);
     }
 
-pub returns-then-weight-support-clause-roots : goal.returns-then-weight-support-clause-roots
-returns-then-weight-support-clause-roots c =
+pub returns-then-weight-threshold-clause-roots : goal.returns-then-weight-threshold-clause-roots
+returns-then-weight-threshold-clause-roots c =
     let job = c.args.job.now in
     let part = c.args.part in
     let all : AreAll job part.bound part.sequences = c.requires.part.sequences_are in
@@ -30,8 +30,8 @@ returns-then-weight-support-clause-roots c =
     let few : length part.sequences < 9223372036854775808 = omega (arith, most, c.sequences-count.ensures.count, c.sequences-count.ensures.most, ap length c.db.ensures.sequences) in
     let weighs : c.weight.result ≡ sum_by (λ i. (sequence_at job.sequences i).weight) part.sequences =
     c.weight.ensures ∙ ap (sum_by (λ i. (sequence_at job.sequences i).weight)) c.sequences.ensures in
-    let light : sum_by (λ i. (sequence_at job.sequences i).weight) part.sequences < job.threshold = omega (arith, weighs, c.if-weight-support.true, c.support.ensures.threshold) in
-    rw c.new.ensures.items (whole-without job c.support.ensures.whole c.new.result part c.requires.part few light)
+    let light : sum_by (λ i. (sequence_at job.sequences i).weight) part.sequences < job.threshold = omega (arith, weighs, c.if-weight-threshold.true, c.threshold.ensures.threshold) in
+    rw c.new.ensures.items (whole-without job c.threshold.ensures.whole c.new.result part c.requires.part few light)
 
 pub invariant_of-push : goal.invariant_of-push
 invariant_of-push c =
@@ -43,7 +43,7 @@ invariant_of-push c =
     subst (λ (label : List ℕ). IsNode job label (Projected part c.args.snapshots)) (sym c.in_ok-label.ensures) (
       omega arith,
       record {
-        part_by = whole-by job c.support.ensures.whole c.new-nodes.result part c.requires.part few;
+        part_by = whole-by job c.threshold.ensures.whole c.new-nodes.result part c.requires.part few;
         projected = c.requires.start job.threshold;
       },
     )
@@ -63,7 +63,7 @@ returns-clause-roots c =
     let few : length part.sequences < 9223372036854775808 = omega (arith, most, c.sequences-count.ensures.count, c.sequences-count.ensures.most, ap length c.db.ensures.sequences) in
     let weighs : c.weight.result ≡ sum_by (λ i. (sequence_at job.sequences i).weight) part.sequences =
     c.weight.ensures ∙ ap (sum_by (λ i. (sequence_at job.sequences i).weight)) c.sequences.ensures in
-    let enough : job.threshold ≤ sum_by (λ i. (sequence_at job.sequences i).weight) part.sequences = omega (arith, weighs, c.if-weight-support.false, c.support.ensures.threshold) in
+    let enough : job.threshold ≤ sum_by (λ i. (sequence_at job.sequences i).weight) part.sequences = omega (arith, weighs, c.if-weight-threshold.false, c.threshold.ensures.threshold) in
     let node : Prefix = prefix_at job c.in_ok-label.label.items in
     rw (c.in_ok-push.ensures.items, c.new-nodes.ensures.items)
-    (whole-root job c.support.ensures.whole c.new-nodes.result part c.requires.part few node (ap (prefix_at job) c.in_ok-label.ensures) enough)
+    (whole-root job c.threshold.ensures.whole c.new-nodes.result part c.requires.part few node (ap (prefix_at job) c.in_ok-label.ensures) enough)

@@ -4,7 +4,7 @@ use Rattle.std.proofs.lemmas.List.Elements.{Contains-push}
 use Rattle.mine_model.specs.declared.item.Item.{Item}
 use Rattle.mine_model.specs.declared.row.Row.{Row}
 use Rattle.mine_model.specs.Limits.{most_length}
-use Rattle.automaton_model.specs.Automata.{State}
+use Rattle.automaton_model.specs.Automata.{StateValue}
 use Rattle.group_search.specs.declared.loads.LoadedState.{LoadedState}
 use Rattle.group_search.specs.Waits.{Wait, waits_of}
 use Rattle.group_search.specs.Search.{IsSound, IsGrown, IsSearching, work_of}
@@ -14,7 +14,7 @@ use Rattle.group_search.proofs.searching.search.Goals as goal
 pub prefixes-init : goal.prefixes-init
 prefixes-init g c =
     let order : List Item = c.args.ranks.now.order in
-    let states : List State = g.A.Automata.states_of c.args.automata.now in
+    let states : List StateValue = g.A.Automata.states_of c.args.automata.now in
     let all : Wait = record { prefix = []; loads = c.args.loads.now } in
     let grown = subst (λ (r : List Row). IsGrown order c.args.threshold states c.args.loads.now c.args.stack.now r c.grow.new.stack c.grow.new.rows.items)
     c.requires.rows c.in_ok-grow.ensures in
@@ -33,7 +33,7 @@ returns-then-not-more g c =
 pub grow-requires-in-prefixes-clause-sound : goal.grow-requires-in-prefixes-clause-sound
 grow-requires-in-prefixes-clause-sound g c =
     let order : List Item = c.args.ranks.now.order in
-    let states : List State = g.A.Automata.states_of c.args.automata.now in
+    let states : List StateValue = g.A.Automata.states_of c.args.automata.now in
     let wait : Wait = record { prefix = c.take_next.new.stack.prefix.items; loads = c.take_next.new.loads.items } in
     let taken = c.in_ok-more.ensures.taken c.if-not-more.false in
     subst (λ (l : List LoadedState). IsSound states (length order) most_length (record { prefix = c.take_next.new.stack.prefix.items; loads = l })) (sym c.as_slice.ensures.value)
@@ -42,7 +42,7 @@ grow-requires-in-prefixes-clause-sound g c =
 pub prefixes-smaller : goal.prefixes-smaller
 prefixes-smaller g c =
     let order : List Item = c.args.ranks.now.order in
-    let states : List State = g.A.Automata.states_of c.args.automata.now in
+    let states : List StateValue = g.A.Automata.states_of c.args.automata.now in
     let all : Wait = record { prefix = []; loads = c.args.loads.now } in
     let wait : Wait = record { prefix = c.take_next.new.stack.prefix.items; loads = c.take_next.new.loads.items } in
     let taken = c.in_ok-more.ensures.taken c.if-not-more.false in
@@ -56,7 +56,7 @@ prefixes-smaller g c =
 pub prefixes-preserved : goal.prefixes-preserved
 prefixes-preserved g c =
     let order : List Item = c.args.ranks.now.order in
-    let states : List State = g.A.Automata.states_of c.args.automata.now in
+    let states : List StateValue = g.A.Automata.states_of c.args.automata.now in
     let all : Wait = record { prefix = []; loads = c.args.loads.now } in
     let wait : Wait = record { prefix = c.take_next.new.stack.prefix.items; loads = c.take_next.new.loads.items } in
     let taken = c.in_ok-more.ensures.taken c.if-not-more.false in

@@ -1,7 +1,7 @@
 use Rattle.std.proofs.Common.{◌≡◌, ℕ, List, ◌+◌, Bool, true, false, cond, take, get_or, sym, ap, ◌∙◌, arith, true≢false}
 use Rattle.std.proofs.lemmas.List.Elements.{Contains-get_or}
 use Rattle.std.proofs.lemmas.List.Sums.{sum_by_more, sum_by_more_le_part}
-use Rattle.automaton_model.specs.Automata.{State}
+use Rattle.automaton_model.specs.Automata.{StateValue}
 use Rattle.group_search.specs.declared.loads.LoadedState.{LoadedState}
 use Rattle.group_search.specs.Steps.{state_at, weigh}
 use Rattle.group_search.proofs.WeighLemmas.{at-there, cond-most}
@@ -34,11 +34,11 @@ accepts-requires g c = c.requires.there (get_or c.args.loads.now c.loads.load-in
 
 pub loads-preserved : goal.loads-preserved
 loads-preserved g c =
-    let states : List State = g.A.Automata.states_of c.args.automata.now in
+    let states : List StateValue = g.A.Automata.states_of c.args.automata.now in
     let load : LoadedState = get_or c.args.loads.now c.loads.load-index none in
     let all : ℕ = weigh (λ state. (state_at states state).accepts) (take (c.loads.load-index + 1) c.args.loads.now) in
     let more = sum_by_more (λ (load : LoadedState). cond (state_at states load.state).accepts load.weight 0) c.args.loads.now c.loads.load-index none c.loads-test.true in
-    let flag : (state_at states load.state).accepts ≡ c.accepts.result = ap (λ (s : State). s.accepts) (at-there states load.state c.accepts.ensures.0 c.accepts.ensures.1) ∙ sym c.accepts.ensures.2 in
+    let flag : (state_at states load.state).accepts ≡ c.accepts.result = ap (λ (s : StateValue). s.accepts) (at-there states load.state c.accepts.ensures.0 c.accepts.ensures.1) ∙ sym c.accepts.ensures.2 in
     let sum : all ≡ c.loads.weight + cond (state_at states load.state).accepts load.weight 0 =
     more ∙ ap (λ n. n + cond (state_at states load.state).accepts load.weight 0) (sym c.loads.invariant) in
     elim c.if-accepts.branch [

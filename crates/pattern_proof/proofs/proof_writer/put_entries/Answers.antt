@@ -54,7 +54,7 @@ returns-in_err-held-clause-cut g c =
     let row : Row = c.row-item.result in
     let (entries, same, full, held) = c.loop-number.invariant.entries in
     let found = there rows n row c.loop-number-test.true c.row-item.is in
-    on_err _ _ (cut-off problem c.support-support.ensures.whole names rows c.args.source.now.lists.now c.requires.frequent c.requires.lists entries n row same full (rows-cut rows n row found).0
+    on_err _ _ (cut-off problem c.threshold-threshold.ensures.whole names rows c.args.source.now.lists.now c.requires.frequent c.requires.lists entries n row same full (rows-cut rows n row found).0
     (g.O.Sink.written c.args.out.now) (g.O.Sink.written c.loop-number.out) (g.O.Sink.written c.put_entry.new.out) (take c.loop-number.held c.loop-number.text) held c.in_err-held.ensures.cut)
 
 pub returns-in_err-held-clause-kept : goal.returns-in_err-held-clause-kept

@@ -11,7 +11,7 @@ returns-in_err-behind_row-clause-cut g c =
     let problem : Problem = c.args.source.now.job.now in
     let row : Row = c.args.row.now in
     let front : List ℕ = take c.args.filled c.args.text.now in
-    let (paths, full) = all-there problem c.support-support.ensures.whole c.args.source.now.lists.now.listed.items row c.requires.frequent c.args.first c.requires.listed in
+    let (paths, full) = all-there problem c.threshold-threshold.ensures.whole c.args.source.now.lists.now.listed.items row c.requires.frequent c.args.first c.requires.listed in
     on_err _ _ (row-cut-off problem c.args.source.now.names.now row (g.O.Sink.written c.args.out.now) (g.O.Sink.written c.args.out.now) (g.O.Sink.written c.put_line.new.out) front front paths full c.in_err-behind_row.ensures.cut)
 
 pub returns-clause-held : goal.returns-clause-held

@@ -18,8 +18,8 @@ returns-in_default-2-clause-refused c =
           (λ row says follow. none known row says follow.range.most)),
     )
 
-pub returns-then-support-clause-refused : goal.returns-then-support-clause-refused
-returns-then-support-clause-refused c =
+pub returns-then-support-threshold-clause-refused : goal.returns-then-support-threshold-clause-refused
+returns-then-support-threshold-clause-refused c =
     let said = rw c.in-Some-2.is at c.in_ok-support.ensures in
     inr (
       c.args.number,
@@ -27,7 +27,7 @@ returns-then-support-clause-refused c =
       (λ known. refuse-row c.args.check.now.job.now c.args.check.now.names.now (standing_of c.args.check.now) c.args.number c.args.text.now c.requires.row c.in_default.ensures
           (row-alone c.args.check.now.job.now c.args.check.now.names.now (standing_of c.args.check.now) c.args.number c.args.text.now known
           (record { pattern = c.row_in.new.items.items; support = c.in-Some-2.support }) said.0
-          (λ follow. let least = follow.range.least in let less = c.if-support.true in let same = c.support.ensures.threshold in omega (arith, least, less, same)))),
+          (λ follow. let least = follow.range.least in let less = c.if-support-threshold.true in let same = c.threshold.ensures.threshold in omega (arith, least, less, same)))),
     )
 
 pub returns-then-not-is_behind-clause-refused : goal.returns-then-not-is_behind-clause-refused

@@ -20,21 +20,21 @@ loop-pair-preserved c = elim c.if-sums-pivot.branch [
       record {
         long = rw lists (length-set c.loop-pair.lists.items (get_or c.args.pairs.now c.loop-pair.pair-index no_pair).pivot w.push.new.self ∙ c.loop-pair.invariant.long);
         filed = λ done are. rw lists
-            (lists-next c.args.support c.args.sums.now done c.args.pairs.now c.loop-pair.pair-index no_pair
+            (lists-next c.args.threshold c.args.sums.now done c.args.pairs.now c.loop-pair.pair-index no_pair
             (set c.loop-pair.lists.items (get_or c.args.pairs.now c.loop-pair.pair-index no_pair).pivot w.push.new.self) c.loop-pair-test.true
-            (lists-push c.args.support c.args.sums.now (done ++ take c.loop-pair.pair-index c.args.pairs.now) c.loop-pair.lists.items
+            (lists-push c.args.threshold c.args.sums.now (done ++ take c.loop-pair.pair-index c.args.pairs.now) c.loop-pair.lists.items
             (get_or c.args.pairs.now c.loop-pair.pair-index no_pair) w.push.new.self w.index_mut.result.now within w.index_mut.ensures.value w.in_ok-push.ensures.items
             (c.loop-pair.invariant.filed done are)));
       }
   | else-sums-pivot w ↦ record {
     long = rw w.lists-is c.loop-pair.invariant.long;
     filed = λ done are. rw w.lists-is
-        (lists-next c.args.support c.args.sums.now done c.args.pairs.now c.loop-pair.pair-index no_pair c.loop-pair.lists.items c.loop-pair-test.true
-        (lists-pass c.args.support c.args.sums.now (done ++ take c.loop-pair.pair-index c.args.pairs.now) c.loop-pair.lists.items (get_or c.args.pairs.now c.loop-pair.pair-index no_pair)
+        (lists-next c.args.threshold c.args.sums.now done c.args.pairs.now c.loop-pair.pair-index no_pair c.loop-pair.lists.items c.loop-pair-test.true
+        (lists-pass c.args.threshold c.args.sums.now (done ++ take c.loop-pair.pair-index c.args.pairs.now) c.loop-pair.lists.items (get_or c.args.pairs.now c.loop-pair.pair-index no_pair)
         w.if-sums-pivot.false (c.loop-pair.invariant.filed done are)));
   }
 ]
 
 pub returns-clause-filed : goal.returns-clause-filed
 returns-clause-filed c = λ done are.
-    subst (λ l. AreLists c.args.support c.args.sums.now (done ++ l) c.loop-pair.lists.items) (take_all c.loop-pair.pair-index c.args.pairs.now c.loop-pair-test.false) (c.loop-pair.invariant.filed done are)
+    subst (λ l. AreLists c.args.threshold c.args.sums.now (done ++ l) c.loop-pair.lists.items) (take_all c.loop-pair.pair-index c.args.pairs.now c.loop-pair-test.false) (c.loop-pair.invariant.filed done are)

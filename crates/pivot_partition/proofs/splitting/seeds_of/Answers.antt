@@ -8,7 +8,7 @@ use Rattle.pivot_partition.proofs.splitting.seeds_of.Goals as goal
 pub loop-part-init : goal.loop-part-init
 loop-part-init c = record {
   long = omega (arith, c.in_ok-push_empty.ensures.long, c.len.ensures, c.in_ok-sums.sums.ok.0);
-  filed = lists-none c.support-support.result c.in_ok-sums.sums.items c.push_empty.new.lists.items c.in_ok-push_empty.ensures.empty;
+  filed = lists-none c.threshold-threshold.result c.in_ok-sums.sums.items c.push_empty.new.lists.items c.in_ok-push_empty.ensures.empty;
 }
 
 pub file-requires-clause-pivots : goal.file-requires-clause-pivots
@@ -25,8 +25,8 @@ loop-part-preserved c =
     let sums = c.as_slice-in-loop-part.ensures.value in
     record {
       long = c.file.ensures.long ∙ c.loop-part.invariant.long;
-      filed = subst (λ l. AreLists c.support-support.result c.in_ok-sums.sums.items l c.file.new.lists.items) (sym next)
-          (subst (λ l. AreLists c.support-support.result l (all_of (take c.loop-part.part-index c.args.parts.now) ++ c.as_slice.result.now) c.file.new.lists.items) sums
+      filed = subst (λ l. AreLists c.threshold-threshold.result c.in_ok-sums.sums.items l c.file.new.lists.items) (sym next)
+          (subst (λ l. AreLists c.threshold-threshold.result l (all_of (take c.loop-part.part-index c.args.parts.now) ++ c.as_slice.result.now) c.file.new.lists.items) sums
           (c.in_ok-file.ensures.filed (all_of (take c.loop-part.part-index c.args.parts.now))
-          (subst (λ l. AreLists c.support-support.result l (all_of (take c.loop-part.part-index c.args.parts.now)) c.loop-part.lists.items) (sym sums) c.loop-part.invariant.filed)));
+          (subst (λ l. AreLists c.threshold-threshold.result l (all_of (take c.loop-part.part-index c.args.parts.now)) c.loop-part.lists.items) (sym sums) c.loop-part.invariant.filed)));
     }

@@ -17,8 +17,8 @@ lists-preserved c =
       seen = rw append_assoc (ap (λ xs. c.lists.yielded ++ xs) (sym steps.0) ∙ is.seen);
       count = omega (arith, steps.1, is.count, ap length steps.0);
       place = ap (λ n. n + 1) is.place ∙ sym (length_push c.lists.yielded c.in-Some.sequences);
-      seeds = seeds-next c.args.job.now pairs are c.support-support.ensures.whole.least c.args.sums.now weights c.args.lists.items filed c.lists.place c.in-Some.sequences inside at
-          (leb c.support-support.result (get_or c.args.sums.now c.lists.place 0)) (ap (λ n. leb n (get_or c.args.sums.now c.lists.place 0)) c.support-support.ensures.threshold)
+      seeds = seeds-next c.args.job.now pairs are c.threshold-threshold.ensures.whole.least c.args.sums.now weights c.args.lists.items filed c.lists.place c.in-Some.sequences inside at
+          (leb c.threshold-threshold.result (get_or c.args.sums.now c.lists.place 0)) (ap (λ n. leb n (get_or c.args.sums.now c.lists.place 0)) c.threshold-threshold.ensures.threshold)
           c.lists.seeds.items c.push_seed.new.seeds.items c.in_ok-push_seed.ensures.enough c.in_ok-push_seed.ensures.less is.seeds;
     }
 
@@ -28,4 +28,4 @@ returns-clause-alive c =
     let (pairs, are, weights, filed) = c.requires.pairs in
     let none : into_iter_items c.lists.sequences-iterator ≡ [] = nil_from_length (into_iter_items c.lists.sequences-iterator) (omega (arith, is.count, c.in-None.ensures.steps.0)) in
     let whole : c.lists.yielded ≡ c.args.lists.items = sym (append-nil c.lists.yielded) ∙ ap (λ l. c.lists.yielded ++ l) (sym none) ∙ is.seen in
-    seeds-all c.args.job.now c.support-support.ensures.whole.least c.lists.seeds.items c.lists.place (omega (arith, is.place, ap length whole, c.requires.long, c.requires.ranks)) is.seeds
+    seeds-all c.args.job.now c.threshold-threshold.ensures.whole.least c.lists.seeds.items c.lists.place (omega (arith, is.place, ap length whole, c.requires.long, c.requires.ranks)) is.seeds

@@ -20,7 +20,7 @@ pub posted-requires-send-S-Room : goal.posted-requires-send-S-Room
 posted-requires-send-S-Room g c κs within = search (sendable, room-send) depth 10
 
 pub posted-requires-clause-rows : goal.posted-requires-clause-rows
-posted-requires-clause-rows g c κs within = walks-rows c.args.job.now c.support-support.ensures.whole c.args.search.now c.requires.problem
+posted-requires-clause-rows g c κs within = walks-rows c.args.job.now c.threshold-threshold.ensures.whole c.args.search.now c.requires.problem
 
 pub returns : goal.returns
 returns g c =
@@ -35,6 +35,6 @@ returns g c =
       subst (λ l. Covers l (tree_of search).kids (labels_of c.in_ok-board.board.posted)) c.requires.roots c.in_ok-board.ensures.cover,
       c.into_parts-rows.ensures.tree search.pivots (tree_of search)
           (subst (λ (p : Problem). IsSearchTree (data_of p) p.ranking.order search.pivots (tree_of search)) (sym c.in_ok-board.ensures.problem)
-          (walks-tree c.args.job.now c.support-support.ensures.whole search c.requires.problem)),
+          (walks-tree c.args.job.now c.threshold-threshold.ensures.whole search c.requires.problem)),
       ap₂ made nodes parts,
     )

@@ -37,6 +37,6 @@ returns-clause-triple c rest has =
     let was = HasKind-at c.args.job.now c.args.bound c.args.tables.now.classes kinds c.requires.kinds c.args.t.0 number known read (λ none. c.requires.met (sym read ∙ none)) in
     let kind = HasKind-grow c.args.job.now c.args.bound c.args.tables.now.classes c.step.new.self.classes kinds kinds c.args.t number was c.step.ensures.grows.classes (KindsGrow-nothing kinds) in
     let there = HasTriple-grow c.args.job.now c.args.bound c.args.tables.now.triples c.step.new.self.triples rest c.args.after has c.step.ensures.grows.triples in
-    HasTriple-step c.args.job.now c.support-support.ensures.whole c.args.bound c.step.new.self table kinds c.args.t number kind c.index.result.now
+    HasTriple-step c.args.job.now c.threshold-threshold.ensures.whole c.args.bound c.step.new.self table kinds c.args.t number kind c.index.result.now
     (λ k found. c.index.ensures ∙ get_or_from_slice_get kinds.kinds.items number k c.index.result.now found)
     c.args.after c.in_ok-triple.triple c.in_ok-triple.ensures.step rest there

@@ -6,6 +6,6 @@ use Rattle.split_merge.proofs.reading.read_rows.Goals as goal
 pub returns-clause-refused : goal.returns-clause-refused
 returns-clause-refused g c lines why are is no_read no_memory =
     c.read_all-outcome.ensures.refused lines why
-    (subst (λ (rows : List Row). AreRowsOfLines c.args.support lines c.replace.result rows) (sym c.replace-2.ensures.value)
-    (subst (λ (names : List (List ℕ)). AreRowsOfLines c.args.support lines names c.args.held.now) (sym c.replace.ensures.value) are))
+    (subst (λ (rows : List Row). AreRowsOfLines c.args.threshold lines c.replace.result rows) (sym c.replace-2.ensures.value)
+    (subst (λ (names : List (List ℕ)). AreRowsOfLines c.args.threshold lines names c.args.held.now) (sym c.replace.ensures.value) are))
     is no_read no_memory

@@ -21,5 +21,5 @@ returns c =
     let shard = c.args.self.now in
     let is : IsShard shard = subst IsShard c.self.view_is c.self.invariant in
     let tally : c.self.inside.counts ≡ shard.tally = ap (λ (s : ShardSums). s.tally) c.self.view_is in
-    let appends = rw (tally, c.ranks.ensures.ranking, c.support.ensures.threshold) at c.append_rows.ensures in
+    let appends = rw (tally, c.ranks.ensures.ranking, c.threshold.ensures.threshold) at c.append_rows.ensures in
     on_ok_weaker c.append_rows.result (rows_of_home problem c.ranks.ensures.whole shard.home shard.tally (shard_counts problem shard is c.requires.job c.requires.all) is.homes c.args.rows.now.items c.append_rows.new.rows.items) appends

@@ -1,6 +1,6 @@
 use Rattle.std.proofs.Common.{◌≡◌, ◌<◌, Some, List, length, get_or, slice_get, ap, subst, arith}
 use Rattle.std.proofs.lemmas.List.{length-map}
-use Rattle.automaton_model.specs.Automata.{State}
+use Rattle.automaton_model.specs.Automata.{StateValue}
 use Rattle.group_search.specs.declared.decoded.Head.{Head}
 use Rattle.group_search.specs.Decoded.{state_in}
 use Rattle.group_search.proofs.DecodeLemmas.{head-there}
@@ -11,9 +11,9 @@ returns c =
     let heads : List Head = c.self.inside.heads.items in
     let head : Head = get_or heads c.args.number c.index.result.now in
     let inside : c.args.number < length c.self.inside.heads.items =
-    (let long = length-map heads (state_in c.self.inside.edges.items) in let whole = ap (λ (l : List State). length l) c.self.view_is in let there = c.requires in omega (arith, long, whole, there)) in (
+    (let long = length-map heads (state_in c.self.inside.edges.items) in let whole = ap (λ (l : List StateValue). length l) c.self.view_is in let there = c.requires in omega (arith, long, whole, there)) in (
       state_in c.self.inside.edges.items head,
-      subst (λ (states : List State). slice_get states c.args.number ≡ Some (state_in c.self.inside.edges.items head)) c.self.view_is
+      subst (λ (states : List StateValue). slice_get states c.args.number ≡ Some (state_in c.self.inside.edges.items head)) c.self.view_is
           (head-there c.self.inside.heads.items c.self.inside.edges.items c.args.number c.index.result.now inside),
       ap (λ (h : Head). h.accepts) c.index.ensures,
     )
