@@ -15,8 +15,8 @@ enum Engine {
     Cand,
 }
 
-/// What is mined, how often its lines stand, the threshold, how many candidates and how many sets are counted,
-/// and the rows.
+/// What is mined, how often its lines stand, the threshold, how many candidates and how many sets are
+/// counted, and the rows.
 #[derive(Clone, Copy)]
 struct Case {
     shape: Shape,

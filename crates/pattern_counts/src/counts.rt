@@ -156,9 +156,9 @@ impl Counts {
         self.touched ^= u64::from(held_at_home(self.slots.as_slice(), hash));
     }
 
-    /// At every so many numbers reads early what may be held of the next lists of the others, from this number
-    /// on: their slots, one after another with nothing between, so that they come to the processor side by
-    /// side, and then the lists and sums that these name.
+    /// At every so many numbers reads early what may be held of the next lists of the others, from this
+    /// number on: their slots, one after another with nothing between, so that they come to the processor
+    /// side by side, and then the lists and sums that these name.
     pub(crate) fn touch_next(&mut self, others: &Counts, from: usize)
         ensures { self.new ≡ self.old }
     {

@@ -100,8 +100,8 @@ impl PatternCounts {
         Ok(())
     }
 
-    /// Reads early where the list may stand: lists that are touched one after another come to the processor side
-    /// by side. Takes no memory.
+    /// Reads early where the list may stand: lists that are touched one after another come to the processor
+    /// side by side. Takes no memory.
     pub fn touch(&mut self, list: &[u32])
         ensures { self.new ≡ self.old }
     {

@@ -11,8 +11,8 @@ use std::thread::Threads;
 
 const WORDS: &str = "--support 2 --hierarchy h .*(A)[(.^)|.]*(b).* f";
 
-// Five calls are those of the hierarchy, and fifteen those of the sequences: each file is opened once, and not
-// read behind its end.
+// Five calls are those of the hierarchy, and fifteen those of the sequences: each file is opened once, and
+// not read behind its end.
 const READS: &[FailedCalls] = &[
     (
         1,

@@ -1,4 +1,5 @@
--- The work of a search by pivots, told by the ranks of items. `IsPartitionWork` of mine_model tells it by items.
+-- The work of a search by pivots, told by the ranks of items. `IsPartitionWork` of mine_model tells it by
+-- items.
 use Rattle.std.specs.Prelude.{◌≡◌, ◌≢◌, ℕ, ◌≤◌, ◌<◌, ◌↔◌, List, [], length, AllPairs, Contains}
 use Rattle.mine_model.specs.declared.item.Item.{Item}
 use Rattle.mine_model.specs.declared.mined.Work.{Work}
@@ -10,8 +11,8 @@ pub record AreAlivePivots (d : Data Item) (order : List Item) (pivots : List ℕ
   pub rising : AllPairs (λ low high. low < high) pivots
   pub exact : (pivot : ℕ) → Contains pivots pivot ↔ ((1 ≤ pivot) × IsAliveLabel d order pivot [])
 
--- the work of a search by pivots, told by ranks: its nodes are the alive labels of pivots, and each alive pivot
--- has a part
+-- the work of a search by pivots, told by ranks: its nodes are the alive labels of pivots, and each alive
+-- pivot has a part
 pub record IsRankedPartitionWork (d : Data Item) (order : List Item) (work : Work) : Type 0 where
   pub labels : List (List ℕ)
   pub once : AllPairs (λ first second. first ≢ second) labels
