@@ -1,5 +1,4 @@
 use mine_model::{Fault, NoMemory, Which};
-use std::alloc::AllocFailed;
 use thiserror::Error;
 
 /// Why a sequence file was not read. Lines and columns count from 1.
@@ -41,17 +40,6 @@ impl From<NoMemory> for SequenceFault {
     ghost from_gives = { λ _ e. e ≡ NoMemory };
 
     fn from(_e: NoMemory) -> SequenceFault {
-        SequenceFault::NoMemory
-    }
-}
-
-impl<T: Drop> From<AllocFailed<T>> for SequenceFault {
-    ghost use Rattle.std.specs.Prelude.{◌≡◌};
-    ghost use Rattle.sequence_reader.specs.declared.sequence_fault.SequenceFault.TheVariants.{NoMemory};
-
-    ghost from_gives = { λ _ e. e ≡ NoMemory };
-
-    fn from(_e: AllocFailed<T>) -> SequenceFault {
         SequenceFault::NoMemory
     }
 }
