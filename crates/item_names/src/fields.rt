@@ -9,7 +9,7 @@ ghost use Rattle.item_names.specs.Fields.{texts_at, AreItemsOf};
 ghost use Rattle.item_names.specs.Names.{IsInterned};
 
 use super::names_fault::NamesFault;
-use crate::keys::key_within;
+use crate::keys::key_of;
 use crate::table::at_home;
 use crate::{MOST_NAMES, Names};
 use mine_model::Item;
@@ -60,7 +60,7 @@ impl Names {
         ensures err { OnErr result (self.new ≡ self.old) }
     {
         let name = &text[span.from..span.to];
-        let key = key_within(text, span.from, span.to);
+        let key = key_of(name);
         if let Some(item) = at_home(&self.texts, self.slots.as_slice(), key, name) {
             return Ok(item);
         }

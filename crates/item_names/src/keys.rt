@@ -9,9 +9,6 @@ use std::hash::{FoldHasher, Hasher};
 /// The most bytes of a name that its key has whole.
 const MOST_WHOLE: usize = 16;
 
-/// As many values has a word.
-const WORD: u128 = 0x1_0000_0000_0000_0000;
-
 /// A number with many ones, spread over the word.
 const MULTIPLIER: u64 = 0x9e37_79b9_7f4a_7c15;
 
@@ -74,28 +71,6 @@ pub(crate) fn key_of(name: &[u8]) -> Key
         low: hasher.finish(),
         high: 0,
         size: MOST_WHOLE as u32 + 1,
-    }
-}
-
-/// The key of the part of a text from `from` to before `to`. Where 16 bytes of the text end there, they are
-/// read at once, and the bytes before the part are shifted out.
-#[inline(always)]
-pub(crate) fn key_within(text: &[u8], from: usize, to: usize) -> Key
-    requires rises { from ≤ to }
-    requires ends { to ≤ length text.now }
-    ensures { result ≡ key_of (slice_range text.now from to) }
-{
-    let size = to - from;
-    if size == 0 || size > MOST_WHOLE || to < MOST_WHOLE {
-        return key_of(&text[from..to]);
-    }
-    let low = eight_bytes(text, to - 16);
-    let high = eight_bytes(text, to - 8);
-    let name = (u128::from(low) + u128::from(high) * WORD) >> (128 - 8 * size);
-    Key {
-        low: (name % WORD) as u64,
-        high: (name / WORD) as u64,
-        size: size as u32,
     }
 }
 
