@@ -11,7 +11,7 @@ pub weight-requires-clause-within : goal.weight-requires-clause-within
 weight-requires-clause-within c =
     let complete : IsComplete c.args.job.now c.in-Some.seed =
     next-has (IsComplete c.args.job.now) c.seeds.yielded _ _ c.args.seeds.items c.in-Some.seed c.seeds.invariant.seen c.in-Some.ensures.steps.0 c.requires.complete in
-    rw c.as_slice.ensures.value (seed-within c.args.job.now c.in-Some.seed complete)
+    rw c.as_slice-in-seeds.ensures.value (seed-within c.args.job.now c.in-Some.seed complete)
 
 pub seeds-preserved-in_ok-push : goal.seeds-preserved-in_ok-push
 seeds-preserved-in_ok-push c =
@@ -20,7 +20,7 @@ seeds-preserved-in_ok-push c =
     let is = c.seeds.invariant in
     let seed = c.in-Some.seed in
     let complete : IsComplete job seed = next-has (IsComplete job) c.seeds.yielded _ _ c.args.seeds.items seed is.seen steps.0 c.requires.complete in
-    let weight = c.weight.ensures ∙ ap (sum_by (λ i. (sequence_at job.sequences i).weight)) c.as_slice.ensures.value in
+    let weight = c.weight.ensures ∙ ap (sum_by (λ i. (sequence_at job.sequences i).weight)) c.as_slice-in-seeds.ensures.value in
     let enough : job.threshold ≤ sum_by (λ i. (sequence_at job.sequences i).weight) seed.sequences.items = omega (arith, weight, c.if-weight-threshold.true, c.threshold-threshold.ensures.threshold) in
     let node = c.in_ok-root.ensures in
     record {
@@ -37,7 +37,7 @@ seeds-preserved c =
     let is = c.seeds.invariant in
     let seed = c.in-Some.seed in
     let complete : IsComplete job seed = next-has (IsComplete job) c.seeds.yielded _ _ c.args.seeds.items seed is.seen steps.0 c.requires.complete in
-    let weight = c.weight.ensures ∙ ap (sum_by (λ i. (sequence_at job.sequences i).weight)) c.as_slice.ensures.value in
+    let weight = c.weight.ensures ∙ ap (sum_by (λ i. (sequence_at job.sequences i).weight)) c.as_slice-in-seeds.ensures.value in
     let few : sum_by (λ i. (sequence_at job.sequences i).weight) seed.sequences.items < job.threshold = omega (arith, weight, c.if-weight-threshold.false, c.threshold-threshold.ensures.threshold) in
     record {
       seen = rw append_assoc (ap (λ (xs : List PartSeed). c.seeds.yielded ++ xs) (sym steps.0) ∙ is.seen);
