@@ -18,8 +18,11 @@ pub returns : goal.returns
 returns g c =
     let ends = c.into_par_iter.ensures in
     let whole : c.args.pieces - 0 ≡ c.args.pieces = omega arith in
-    let chain = rw (c.map.ensures.base, c.map.ensures.f, c.with_min_len.ensures.base) at c.in_ok-collect.ensures.1 in
-    let places : chain.0 ≡ range_with_len 0 c.args.pieces = chain.1 ∙ (λ i. nat_range (ends.0 i) (ends.1 i)) ∙ ap (range_with_len 0) whole in
+    let given = c.in_ok-collect.ensures.1 in
+    let places : given.0 ≡ range_with_len 0 c.args.pieces =
+    given.1 ∙ ap (λ it. nat_range it.base.start it.base.end) c.map.ensures.base ∙ ap (λ it. nat_range it.start it.end) c.with_min_len.ensures.base
+    ∙ (λ i. nat_range (ends.0 i) (ends.1 i)) ∙ ap (range_with_len 0) whole in
+    let zip = rw c.map.ensures.f at given.2 in
     let Answered : ℕ → Result (Vec Pair) NoMemory → Type 0 = λ piece answer. IfOk answer (Piece c.args.job.now c.args.size piece) in
     pieces-collected c.args.job.now c.args.size c.args.pieces c.in_ok-collect.field-0 c.in_ok-collect.ensures.0
-    (subst (λ pieces. AllZip Answered pieces c.in_ok-collect.ensures.0) places chain.2) c.in_ok-collect.ensures.2
+    (subst (λ pieces. AllZip Answered pieces c.in_ok-collect.ensures.0) places zip) c.in_ok-collect.ensures.2
