@@ -1,9 +1,12 @@
-use Rattle.std.proofs.Common.{◌≡◌, ◌≤◌, ◌<◌, ◌++◌, List, length, sum_by, append_assoc, ap, sym, ◌∙◌, arith}
+use Rattle.std.proofs.Common.{◌≡◌, ◌≤◌, ◌<◌, ◌++◌, List, map, length, sum_by, append_assoc, ap, sym, subst, ◌∙◌, arith}
+use Rattle.std.proofs.lemmas.List.{append-nil}
 use Rattle.std.proofs.lemmas.List.Elements.{All-push}
 use Rattle.mine_model.specs.Database.{sequence_at}
 use Rattle.mining_job.specs.declared.part_seed.PartSeed.{PartSeed}
-use Rattle.mining_job.specs.Parts.{IsComplete}
-use Rattle.dfs_growth.specs.Nodes.{Prefix}
+use Rattle.search_tree.specs.SearchTree.{AreRootsOf}
+use Rattle.mining_job.specs.Problems.{data_of}
+use Rattle.mining_job.specs.Parts.{pivot_of, IsComplete}
+use Rattle.dfs_growth.specs.Nodes.{Prefix, label_at}
 use Rattle.dfs_growth.proofs.RootLemmas.{roots-push, roots-pass, next-has, seed-within}
 use Rattle.dfs_growth.proofs.seeds.roots.Goals as goal
 
@@ -12,6 +15,12 @@ weight-requires-clause-within c =
     let complete : IsComplete c.args.job.now c.in-Some.seed =
     next-has (IsComplete c.args.job.now) c.seeds.yielded _ _ c.args.seeds.items c.in-Some.seed c.seeds.invariant.seen c.in-Some.ensures.steps.0 c.requires.complete in
     rw c.as_slice-in-seeds.ensures.value (seed-within c.args.job.now c.in-Some.seed complete)
+
+pub weight-requires-clause-rising : goal.weight-requires-clause-rising
+weight-requires-clause-rising c =
+    let complete : IsComplete c.args.job.now c.in-Some.seed =
+    next-has (IsComplete c.args.job.now) c.seeds.yielded _ _ c.args.seeds.items c.in-Some.seed c.seeds.invariant.seen c.in-Some.ensures.steps.0 c.requires.complete in
+    rw c.as_slice-in-seeds.ensures.value complete.rising
 
 pub seeds-preserved-in_ok-push : goal.seeds-preserved-in_ok-push
 seeds-preserved-in_ok-push c =
@@ -45,3 +54,11 @@ seeds-preserved c =
       problem = is.problem;
       roots = roots-pass job c.seeds.yielded c.seeds.nodes.items seed complete few is.roots;
     }
+
+pub returns-clause-roots : goal.returns-clause-roots
+returns-clause-roots c =
+    let job = c.args.job.now in
+    let all : c.seeds.yielded ≡ c.args.seeds.items =
+    sym (append-nil c.seeds.yielded) ∙ ap (λ (rest : List PartSeed). c.seeds.yielded ++ rest) (sym c.in-None.ensures.steps.0) ∙ c.seeds.invariant.seen in
+    subst (λ (seeds : List PartSeed). AreRootsOf (data_of job) job.ranking.order (map (λ (seed : PartSeed). pivot_of seed.pivot) seeds) (map label_at c.seeds.nodes.items))
+    all c.seeds.invariant.roots
