@@ -1,5 +1,6 @@
-use Rattle.std.proofs.Common.{◌≡◌, ◌≤◌, ◌<◌, ◌++◌, List, map, length, sum_by, append_assoc, ap, sym, subst, ◌∙◌, arith}
-use Rattle.std.proofs.lemmas.List.{append-nil}
+use Rattle.std.proofs.Common.{◌≡◌, ◌≤◌, ◌<◌, ◌++◌, List, [], map, length, sum_by, append_assoc, ap, sym, subst, ◌∙◌, arith}
+use Rattle.std.proofs.lemmas.List.{append-nil, nil_from_length}
+use Rattle.std.specs.Vec.Iter.{into_iter_items}
 use Rattle.std.proofs.lemmas.List.Elements.{All-push}
 use Rattle.mine_model.specs.Database.{sequence_at}
 use Rattle.mining_job.specs.declared.part_seed.PartSeed.{PartSeed}
@@ -58,7 +59,8 @@ seeds-preserved c =
 pub returns-clause-roots : goal.returns-clause-roots
 returns-clause-roots c =
     let job = c.args.job.now in
+    let none : into_iter_items c.seeds.seed-iterator ≡ [] = nil_from_length (into_iter_items c.seeds.seed-iterator) (sym c.seeds.invariant.count ∙ c.in-None.ensures.steps.0) in
     let all : c.seeds.yielded ≡ c.args.seeds.items =
-    sym (append-nil c.seeds.yielded) ∙ ap (λ (rest : List PartSeed). c.seeds.yielded ++ rest) (sym c.in-None.ensures.steps.0) ∙ c.seeds.invariant.seen in
+    sym (append-nil c.seeds.yielded) ∙ ap (λ (rest : List PartSeed). c.seeds.yielded ++ rest) (sym none) ∙ c.seeds.invariant.seen in
     subst (λ (seeds : List PartSeed). AreRootsOf (data_of job) job.ranking.order (map (λ (seed : PartSeed). pivot_of seed.pivot) seeds) (map label_at c.seeds.nodes.items))
     all c.seeds.invariant.roots
