@@ -1,6 +1,6 @@
-use Rattle.std.proofs.Common.{length, ◌≡◌, ◌∙◌}
+use Rattle.std.proofs.Common.{length, get_or, ◌≡◌, ◌∙◌}
+use Rattle.std.proofs.lemmas.Option.{slice_get-get_or}
 use Rattle.worker_threads.proofs.DoingLemmas.{done-long, done-weaker}
-use Rattle.count_shards.proofs.Lists.{all_at}
 use Rattle.count_engine.specs.declared.starts.Start.{Start}
 use Rattle.count_engine.specs.Starts.{IsDone}
 use Rattle.count_engine.proofs.WorkLemmas.{AreDone, given_start, all_done, each_once, all_lists, told_all}
@@ -20,10 +20,11 @@ each : (g : _) (c : In_ok-lists g) → length c.in_ok-dones.dones.items ≡ c.ar
 each g c = done-long _ c.in_ok-starts.starts.items c.in_ok-dones.dones.items c.in_ok-dones.ensures ∙ c.in_ok-starts.ensures.all ∙ c.requires.workers
 
 pub done_by_each-requires-after_bounds : goal.done_by_each-requires-after_bounds
-done_by_each-requires-after_bounds g c κs within =
-    all_at _ c.in_ok-starts.starts.items (λ k start at.
-    let given = given_start c.args.shards.now c.args.workers c.args.lists.items c.in_ok-starts.starts.items c.in_ok-starts.ensures c.requires.workers c.requires.all c.requires.new k start at in
-    (c.requires.shards, (given, (record { shared = c.type_bounds.sync-R.shared }, record { shared = c.type_bounds.sync-G.shared }))))
+done_by_each-requires-after_bounds g c κs within = λ k d below.
+    let starts = c.in_ok-starts.starts.items in
+    let given = given_start c.args.shards.now c.args.workers c.args.lists.items starts c.in_ok-starts.ensures c.requires.workers c.requires.all c.requires.new
+    k (get_or starts k d) (slice_get-get_or starts k d below) in
+    (c.requires.shards, (given, (record { shared = c.type_bounds.sync-R.shared }, record { shared = c.type_bounds.sync-G.shared })))
 
 pub returns-clause-all : goal.returns-clause-all
 returns-clause-all g c =
