@@ -19,6 +19,9 @@ use Rattle.snapshot_project.specs.contracts.terrain.AnyTerrain as AnyTerrain
 use Rattle.snapshot_project.specs.contracts.room.Room as Room
 use Rattle.snapshot_project.specs.contracts.room.Room.TheInside as RoomInside
 use Rattle.sequence_grids.specs.contracts.alphabet.Alphabet as Alphabet
+use Rattle.sequence_grids.specs.contracts.columns.Columns as Columns
+use Rattle.sequence_grids.specs.contracts.kinds.Kinds as Kinds
+use Rattle.sequence_grids.specs.contracts.tables.Tables as Tables
 use Rattle.mask_sums.specs.contracts.sums.MaskedSums as MaskedSums
 use Rattle.level_ahead.specs.contracts.ahead.Ahead as Ahead
 use Rattle.dfs_growth.specs.contracts.node.Node as Node
@@ -39,11 +42,29 @@ fst-sync = let i : IsSync FstInside.the_row = declared_sync FstInside.the_type (
 job-sync : IsSync Job.the_row
 job-sync = let f = fst-sync in search (sendable, crosses) depth 40 fits 20000
 
+columns-send : IsSend Columns.the_row
+columns-send = search (sendable, crosses) depth 40 fits 20000
+
+columns-sync : IsSync Columns.the_row
+columns-sync = search (sendable, crosses) depth 40 fits 20000
+
+kinds-send : IsSend Kinds.the_row
+kinds-send = let c = columns-send in search (sendable, crosses) depth 40 fits 20000
+
+kinds-sync : IsSync Kinds.the_row
+kinds-sync = let c = columns-sync in search (sendable, crosses) depth 40 fits 20000
+
+tables-send : IsSend Tables.the_row
+tables-send = search (sendable, crosses) depth 40 fits 20000
+
+tables-sync : IsSync Tables.the_row
+tables-sync = search (sendable, crosses) depth 40 fits 20000
+
 alphabet-send : IsSend Alphabet.the_row
-alphabet-send = search (sendable, crosses) depth 40 fits 20000
+alphabet-send = let k = kinds-send in let t = tables-send in search (sendable, crosses) depth 40 fits 20000
 
 alphabet-sync : IsSync Alphabet.the_row
-alphabet-sync = search (sendable, crosses) depth 40 fits 20000
+alphabet-sync = let k = kinds-sync in let t = tables-sync in search (sendable, crosses) depth 40 fits 20000
 
 seed-send : IsSend Seed.the_row
 seed-send = search (sendable, crosses) depth 40 fits 20000
