@@ -10,6 +10,8 @@ mod blocks;
 #[cfg(test)]
 mod compiling;
 #[cfg(test)]
+mod counting;
+#[cfg(test)]
 mod data;
 #[cfg(test)]
 mod frequencies;
@@ -23,8 +25,6 @@ mod judging;
 mod listing;
 #[cfg(test)]
 mod members;
-#[cfg(test)]
-mod mining;
 #[cfg(test)]
 mod packing;
 #[cfg(test)]

@@ -8,16 +8,13 @@ use text_ports::{MemFile, MemFiles};
 /// The file `f` with these bytes. A read gives at most `cut` of them, and the calls in `fails` fail.
 pub(crate) fn one_file(
     alloc: Global,
-    bytes: &[u8],
+    bytes: Vec<u8>,
     cut: usize,
     fails: &[u64],
 ) -> Result<MemFiles, AllocError>
     requires { 0 < cut }
 {
-    let file = MemFile {
-        name: Vec::from_slice(alloc, b"f")?,
-        bytes: Vec::from_slice(alloc, bytes)?,
-    };
-    let files = vec![in alloc; file]?;
+    let name = Vec::from_slice(alloc, b"f")?;
+    let files = vec![in alloc; MemFile { name, bytes }]?;
     Ok(MemFiles::new(files, Vec::from_slice(alloc, fails)?, cut))
 }
