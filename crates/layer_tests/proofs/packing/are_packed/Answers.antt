@@ -79,11 +79,11 @@ row-seen : All (HasSeen true) row
 row-seen = All-from_recursion (HasSeen true) row (refl, (refl, (refl, (refl, (refl, tt)))))
 
 pub pack-requires-clause-stands : goal.pack-requires-clause-stands
-pack-requires-clause-stands g c =
+pack-requires-clause-stands c =
     let same : placed ≡ c.of.result = sym (c.of.ensures ∙ (λ i. c.stand.ensures i ∷ c.stand-2.ensures i ∷ c.stand-3.ensures i ∷ c.stand-4.ensures i ∷ c.stand-5.ensures i ∷ [])) in
     (row, subst (AreStandsOf numbers begins row) same row-laid)
 
 pub unpack-requires-clause-packed : goal.unpack-requires-clause-packed
-unpack-requires-clause-packed g c =
+unpack-requires-clause-packed c =
     let same : placed ≡ c.of.result = sym (c.of.ensures ∙ (λ i. c.stand.ensures i ∷ c.stand-2.ensures i ∷ c.stand-3.ensures i ∷ c.stand-4.ensures i ∷ c.stand-5.ensures i ∷ [])) in
     (row, subst (IsPacked row) (sym c.as_slice.ensures.value) (c.in_ok-bytes.ensures row (subst (AreStandsOf numbers begins row) same row-laid) row-seen), row-has)
