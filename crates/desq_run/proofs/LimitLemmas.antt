@@ -21,9 +21,10 @@ use Rattle.mine_model.proofs.ElementLemmas.{flat-cases, flat-held}
 use Rattle.mine_model.proofs.AboveLemmas.{IsAncestor-keeps}
 use Rattle.mine_model.proofs.GenerationLemmas.{Generates-items}
 use Rattle.mine_model.proofs.SupportLemmas.{Counts-some}
+use Rattle.mine_model.specs.Names.{IsFileName}
+use Rattle.mine_model.proofs.FieldLemmas.{pieces-named, texts-named}
 use Rattle.command_line.specs.Words.{Source, read, embed, make, merge}
-use Rattle.split_merge.specs.Merging.{IsNameText, IsOutputRow, IsKnownRow, AreWithinLimits}
-use Rattle.split_merge.proofs.FormLemmas.{pieces-named, texts-named}
+use Rattle.split_merge.specs.Merging.{IsOutputRow, IsKnownRow, AreWithinLimits}
 use Rattle.desq_run.specs.Sources.{IsSourceRefusal, SaysTree}
 use Rattle.desq_run.specs.Said.{names_said, RefusesHierarchy, RefusesSequences}
 use Rattle.desq_run.specs.Ends.{Input, IsDataRefusal, IsRowsRefusal, IsAccepted, data_of}
@@ -74,7 +75,7 @@ sound file number line none fault column has = no_fault line first (suc column) 
 
 -- a name of a file: bytes of names, not too many
 abbrev IsFileName : List ℕ → Type 0
-IsFileName name = IsNameText name × (length name ≤ most_name_bytes)
+IsFileName name = IsFileName name × (length name ≤ most_name_bytes)
 
 held_from : {X Y : Type 0} (f : X → Y) (P : Y → Type 0) (xs : List X) → AllByRecursion P (map f xs) → (x : X) → Contains xs x → P (f x)
 held_from f P [] all x held = absurd (Contains-none x held)
@@ -86,7 +87,7 @@ held_from f P (y ∷ xs) all x held = elim (Contains-cases y xs x held) [
 field_name : (line : List ℕ) → IsSoundLine line → (name : List ℕ) → Contains (fields_of line) name → IsFileName name
 field_name line is name held =
     let (field, inside, same) = Contains-from (λ (f : Field). f.text) (placed_fields_of line) name held in
-    let text : IsNameText field.text = held_from (λ (f : Field). f.text) IsNameText (placed_fields_of line) (texts-named 1 (pieces_by_blank line) (pieces-named line)) field inside in
+    let text : IsFileName field.text = held_from (λ (f : Field). f.text) IsFileName (placed_fields_of line) (texts-named 1 (pieces_by_blank line) (pieces-named line)) field inside in
     let short : length field.text ≤ most_name_bytes = elim (cases_lt most_name_bytes (length field.text)) [
       | inl long ↦ absurd (is long_name (field.column + most_name_bytes) (field, inside, long, refl))
       | inr most ↦ most
@@ -257,7 +258,7 @@ module _ (weighted : Bool) (hierarchy sequences : List ℕ) (threshold : ℕ) (s
           least = frequent.enough;
           most = support_most row frequent;
           some = frequent.not_empty;
-          names = AllByRecursion-weaker (Contains known) IsNameText (λ name inside. (known_name name inside).0) row.pattern (pattern_known row frequent);
+          names = AllByRecursion-weaker (Contains known) IsFileName (λ name inside. (known_name name inside).0) row.pattern (pattern_known row frequent);
         });
     names = AllByRecursion-from (IsKnownRow known) answer (λ row held.
         AllByRecursion-weaker (Contains known) (λ name. Contains known name × (length name ≤ most_name_bytes))

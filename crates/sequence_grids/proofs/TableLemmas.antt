@@ -14,6 +14,7 @@ use Rattle.std.specs.Int.{bit_at}
 use Rattle.std.proofs.lemmas.Nat.Bits.{bit_at_cat_low, bit_at_cat_high}
 use Rattle.state_bits.specs.Members.{Has, HasBit, words_of}
 use Rattle.state_bits.proofs.NeighbourLemmas.{Has-none}
+use Rattle.state_bits.proofs.WordLemmas.{length-words_of}
 use Rattle.sequence_grids.specs.declared.table.Class.{Class}
 use Rattle.sequence_grids.specs.declared.table.Triple.{Triple}
 use Rattle.sequence_grids.specs.Tables.{ClassSets, TripleSets, TableValue, class_sets, triple_sets, IsClassOf, Grows, IsLast, IsStepAt, AreSteps, AreBelow, IsTable, row, unknown}
@@ -160,7 +161,6 @@ AddsTo-same before after x same = ([], same ∙ sym (append-nil before), (λ y n
 
 -- ---- the words of a set
 
-pub length-words_of : (width set : ℕ) → length (words_of width set) ≡ width
 unfolding words_of
 length-words_of zero set = refl
 length-words_of (suc width) set = ap suc (length-words_of width (set / 2 ^ 64))

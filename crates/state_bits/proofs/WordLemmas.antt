@@ -69,3 +69,5 @@ pub joined-replicate : (width : ℕ) → joined (replicate width 0) ≡ 0
 unfolding joined
 joined-replicate zero = refl
 joined-replicate (suc width) = omega (arith, joined-replicate width)
+
+pub length-words_of : (width set : ℕ) → length (words_of width set) ≡ width

@@ -3,8 +3,9 @@ use Rattle.std.proofs.lemmas.List.{get_or_default}
 use Rattle.std.proofs.Math.ListN.{length-set}
 use Rattle.pattern_counts.specs.Tally.{Tally, no_lists, Adds}
 use Rattle.count_shards.specs.Blocks.{tally_of}
-use Rattle.count_shards.proofs.AddLemmas.{adds_home, adds_more, not_before, take_one}
+use Rattle.count_shards.proofs.AddLemmas.{adds_home, adds_more, not_before}
 use Rattle.count_shards.proofs.block.add_each.Goals as goal
+use Rattle.mine_model.proofs.ElementLemmas.{take-next}
 
 pub loop-i-preserved : goal.loop-i-preserved
 loop-i-preserved c =
@@ -21,5 +22,5 @@ loop-i-preserved c =
     record {
       all = omega (arith, length-set {A = Tally}, c.loop-i.invariant.all);
       added = adds_more (take i listed) (take (i + 1) listed) list weight c.args.homes.now.items homes (set homes home c.add.new.self)
-          (take_one listed i list c.get-list.ensures) (not_before listed i list c.requires.each_once c.get-list.ensures) c.loop-i.invariant.added one;
+          (take-next listed i list c.get-list.ensures) (not_before listed i list c.requires.each_once c.get-list.ensures) c.loop-i.invariant.added one;
     }
