@@ -28,10 +28,6 @@ bits_added a b c k =
     rw (bit_at_xor (bit_xor a b) c k, bit_at_or (bit_and a b) (bit_and (bit_xor a b) c) k, bit_at_and a b k, bit_at_and (bit_xor a b) c k, bit_at_xor a b k)
     (sum_of_three (bit_at a k) (bit_at b k) (bit_at c k) (bit_at-lt a k) (bit_at-lt b k) (bit_at-lt c k))
 
-unfolding words_of
-length-words_of zero set = refl
-length-words_of (suc width) set = omega (arith, length-words_of width (set / 2 ^ 64))
-
 -- the words of a set have its bits
 pub bit_in-words_of : (width set q : ℕ) → q < 64 * width → bit_in (words_of width set) q ≡ bit_at set q
 unfolding words_of

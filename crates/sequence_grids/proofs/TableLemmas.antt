@@ -161,10 +161,6 @@ AddsTo-same before after x same = ([], same ∙ sym (append-nil before), (λ y n
 
 -- ---- the words of a set
 
-unfolding words_of
-length-words_of zero set = refl
-length-words_of (suc width) set = ap suc (length-words_of width (set / 2 ^ 64))
-
 bit-words_of : (width set q : ℕ) → q < 64 * width → bit_at (get_or (words_of width set) (q / 64) 0) (q % 64) ≡ bit_at set q
 unfolding words_of
 bit-words_of zero set q inside = absurd (omega arith)
