@@ -1,8 +1,9 @@
 -- The digits of a number, as bytes of a text.
-use Rattle.std.proofs.Common.{◌≡◌, ◌≢◌, ℕ, ◌+◌, ◌%◌, ◌^◌, ◌<◌, true, false, refl, List, [], ◌∷◌, ◌++◌, nat_eq, nat_tests, arith, ◌∙◌}
+use Rattle.std.proofs.Common.{◌≡◌, ◌≢◌, ℕ, ◌+◌, ◌%◌, ◌^◌, ◌<◌, true, false, List, [], ◌∷◌, ◌++◌, nat_eq, arith, ◌∙◌}
 use Rattle.std.specs.Char.{is_ascii_digit}
 use Rattle.std.specs.Fmt.{decimal}
 use Rattle.std.proofs.lemmas.Fmt.{decimal_by_steps}
+use Rattle.std.proofs.lemmas.Bool.Decides.{nat_tests}
 use Rattle.mine_model.specs.Grammar.{IsDecimal}
 use Rattle.mine_model.specs.Text.{is_name_byte, without_mark}
 use Rattle.mine_model.specs.Tokens.{Each}
