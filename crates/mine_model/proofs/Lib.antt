@@ -28,4 +28,3 @@ pub mod SumLemmas
 pub mod AliveLemmas
 pub mod PartitionWorkLemmas
 pub mod TextFaultLemmas
-pub mod CutLemmas
