@@ -8,25 +8,27 @@ use Rattle.mine_model.specs.declared.item.Item.{Item}
 use Rattle.mine_model.specs.declared.fault.Fault.{Fault}
 use Rattle.mine_model.specs.declared.fault.Fault.TheVariants as fault
 use Rattle.mine_model.specs.declared.fault.Which.TheVariants.{Hierarchy}
-use Rattle.item_hierarchy.specs.declared.hierarchy_fault.HierarchyFault.{HierarchyFault}
-use Rattle.item_hierarchy.specs.declared.hierarchy_fault.HierarchyFault.TheVariants.{ReadFault, TooLarge, BadByte, NameTooLong, TooManyItems, NoMemory}
-use Rattle.item_hierarchy.specs.Faults.{fault_of_hierarchy}
+use Rattle.item_hierarchy.specs.declared.hierarchy_fault.HierarchyRefusal.{HierarchyRefusal}
+use Rattle.item_hierarchy.specs.declared.hierarchy_fault.HierarchyRefusal.TheVariants.{TooManyItems}
+use Rattle.item_hierarchy.specs.Faults.{refusal_in}
+use Rattle.text_ports.specs.declared.text_fault.LineFault.TheVariants.{Refused}
 use Rattle.mine_model.specs.First.{FirstAmong}
 use Rattle.mine_model.specs.Hierarchy.{PlacedLink}
 use Rattle.mine_model.specs.Limits.{most_file_bytes, most_items}
-use Rattle.mine_model.specs.Text.{lines_of, fields_of, bad_byte, long_name, IsSoundLine}
+use Rattle.mine_model.specs.Text.{lines_of, fields_of, bad_byte, long_name, IsFirstTextFault, IsSoundLine}
 use Rattle.mine_model.specs.Names.{name_of, HasName, link_by, GrowBy}
 use Rattle.mine_model.specs.Refusal.{HasMoreNames, names_of, links_of_line, links_from}
 use Rattle.mine_model.proofs.TextLemmas.{no_text_fault}
 use Rattle.mine_model.proofs.NameLemmas.{GrowBy-none, GrowBy-more, no_more_names, name_of-grown, HasName-grown}
 use Rattle.item_names.proofs.Growing.{HasMoreNames-grown}
-use Rattle.text_ports.specs.Lines.{WasGiven, TookAll, StoppedAt, Refused}
+use Rattle.text_ports.specs.Lines.{TookAll}
+use Rattle.text_ports.proofs.TakenLemmas.{all_taken, all_accepted, past_size}
 use Rattle.item_hierarchy.specs.declared.edges.EdgeRow.{EdgeRow}
 use Rattle.item_hierarchy.specs.declared.reading.Reading.{Reading}
 use Rattle.item_hierarchy.specs.Edges.{link_of, AreWithin, named_rows}
 use Rattle.item_hierarchy.specs.Refusing.{IsLineRefusal, IsReadRefusal}
 use Rattle.item_names.specs.Fields.{AreItemsOf}
-use Rattle.item_hierarchy.specs.Taking.{rows_of_line, TookLine, IsLineFault, RefusedLine, IsTaken}
+use Rattle.item_hierarchy.specs.Taking.{rows_of_line, TookLine, RefusedLine, IsTaken}
 
 -- the row of a line that says this parent of the child
 abbrev pub row_of : ℕ → Item → Item → EdgeRow
@@ -93,122 +95,51 @@ module _ (known : List (List ℕ)) where
   grown_more lines v w n text taken took =
       subst (λ items. GrowBy known items w.names) (sym (names_of-more lines text)) (GrowBy-more known (names_of lines) v.names (fields_of text) w.names taken.grown took.grown)
 
-  pub IsTaken-more : (lines : List (List ℕ)) (v w : Reading) (n : ℕ) (text : List ℕ) → n ≡ length lines + 1 → IsTaken known lines v → TookLine v n text w → IsTaken known (lines ++ text ∷ []) w
-  IsTaken-more lines v w n text is taken took = record {
-    grown = grown_more lines v w n text taken took;
+  pub IsTaken-more : (lines : List (List ℕ)) (v w : Reading) (text : List ℕ) → IsTaken known lines v → TookLine v (length lines + 1) text w → IsTaken known (lines ++ text ∷ []) w
+  IsTaken-more lines v w text taken took = record {
+    grown = grown_more lines v w (length lines + 1) text taken took;
     room = took.room;
     within = subst (AreWithin (length w.names)) (sym took.pushed)
         (All-append (λ (row : EdgeRow). (row.child.0 < length w.names) × (row.parent.0 < length w.names)) v.rows.items took.own (within-grown v.names (fields_of text) w.names v.rows.items took.grown taken.within) took.within);
     said =
         ap (named_rows w.names) took.pushed
         ∙ map-append (λ (row : EdgeRow). let placed : PlacedLink (List ℕ) = record { link = link_by (name_of w.names) (link_of row); line = row.line } in placed) v.rows.items took.own
-        ∙ (λ j. (rows-grown v.names (fields_of text) w.names v.rows.items took.grown taken.within ∙ taken.said) j ++ (took.said ∙ ap (λ n. links_of_line n (fields_of text)) (let e : n ≡ 1 + length lines = omega (arith, is) in e)) j)
+        ∙ (λ j. (rows-grown v.names (fields_of text) w.names v.rows.items took.grown taken.within ∙ taken.said) j ++ (took.said ∙ ap (λ n. links_of_line n (fields_of text)) (let e : length lines + 1 ≡ 1 + length lines = omega arith in e)) j)
         ∙ sym (links_from-more 1 lines text);
   }
 
   -- a line that was taken is not refused
-  accepted : (lines : List (List ℕ)) (v w : Reading) (n : ℕ) (text : List ℕ) → IsTaken known lines v → TookLine v n text w
+  pub accepted : (lines : List (List ℕ)) (v w : Reading) (text : List ℕ) → IsTaken known lines v → TookLine v (length lines + 1) text w
       → (other : Fault) → IsLineRefusal known lines text other → ⊥
-  accepted lines v w n text taken took other (inl textual) = no_text_fault Hierarchy _ text other took.sound textual
-  accepted lines v w n text taken took other (inr (no_text, more)) =
-      no_more_names most_items known (names_of (lines ++ text ∷ [])) w.names (grown_more lines v w n text taken took) took.room more.0
-
-  next : (lines : List (List ℕ)) (text : List ℕ) (n : ℕ) → n ≡ length lines + 1 → n + 1 ≡ length (lines ++ text ∷ []) + 1
-  next lines text n is = omega (arith, is, length-append lines (text ∷ []))
-
-  -- Lines that were taken, one after another
-
-  pub IsTaken-all : (lines texts : List (List ℕ)) (n : ℕ) (v w : Reading) → n ≡ length lines + 1 → IsTaken known lines v → WasGiven TookLine n texts v w → IsTaken known (lines ++ texts) w
-  IsTaken-all lines [] n v w is taken given = subst (λ r. IsTaken known (lines ++ []) r) given (subst (λ l. IsTaken known l v) (sym (append-nil lines)) taken)
-  IsTaken-all lines (text ∷ texts) n v w is taken (between, took, given) =
-      subst (λ l. IsTaken known l w) (append_assoc lines (text ∷ []) texts)
-      (IsTaken-all (lines ++ text ∷ []) texts (n + 1) between w (next lines text n is) (IsTaken-more lines v between n text is taken took) given)
-
-  -- none of them is refused
-  pub none_refused : (lines texts : List (List ℕ)) (n : ℕ) (v w : Reading) → n ≡ length lines + 1 → IsTaken known lines v → WasGiven TookLine n texts v w
-      → (other : Fault) → FirstAmong (IsLineRefusal known) lines texts other → ⊥
-  none_refused lines [] n v w is taken given other refusal = refusal
-  none_refused lines (text ∷ texts) n v w is taken (between, took, given) other (inl here) = accepted lines v between n text taken took other here
-  none_refused lines (text ∷ texts) n v w is taken (between, took, given) other (inr later) =
-      none_refused (lines ++ text ∷ []) texts (n + 1) between w (next lines text n is) (IsTaken-more lines v between n text is taken took) given other later.1
-
-  -- the first refusal behind them is the first of all
-  pub first_behind : (lines texts later : List (List ℕ)) (n : ℕ) (v w : Reading) → n ≡ length lines + 1 → IsTaken known lines v → WasGiven TookLine n texts v w
-      → (other : Fault) → FirstAmong (IsLineRefusal known) (lines ++ texts) later other → FirstAmong (IsLineRefusal known) lines (texts ++ later) other
-  first_behind lines [] later n v w is taken given other refusal = subst (λ l. FirstAmong (IsLineRefusal known) l later other) (append-nil lines) refusal
-  first_behind lines (text ∷ texts) later n v w is taken (between, took, given) other refusal =
-      inr (
-        accepted lines v between n text taken took,
-        first_behind (lines ++ text ∷ []) texts later (n + 1) between w (next lines text n is) (IsTaken-more lines v between n text is taken took) given other
-            (subst (λ l. FirstAmong (IsLineRefusal known) l later other) (sym (append_assoc lines (text ∷ []) texts)) refusal),
-      )
+  accepted lines v w text taken took other (inl textual) = no_text_fault Hierarchy _ text other took.sound textual
+  accepted lines v w text taken took other (inr (no_text, more)) =
+      no_more_names most_items known (names_of (lines ++ text ∷ [])) w.names (grown_more lines v w (length lines + 1) text taken took) took.room more.0
 
   -- Why a line is refused
 
-  line_refused : (lines : List (List ℕ)) (v : Reading) (text : List ℕ) (fault : HierarchyFault) → IsTaken known lines v → IsSoundLine text
-      → IsLineFault v (length lines + 1) text fault → fault ≢ NoMemory → IsLineRefusal known lines text (fault_of_hierarchy fault)
-  line_refused lines v text ReadFault taken sound why apart = absurd why
-  line_refused lines v text TooLarge taken sound why apart = absurd why
-  line_refused lines v text (BadByte line column) taken sound why apart = absurd why
-  line_refused lines v text (NameTooLong line column) taken sound why apart = absurd why
-  line_refused lines v text (TooManyItems line) taken sound why apart =
+  pub bad : (lines : List (List ℕ)) (text : List ℕ) (column : ℕ) → IsFirstTextFault text bad_byte column → IsLineRefusal known lines text (fault.BadByte Hierarchy (length lines + 1) column)
+  bad lines text column stands = inl (column, inl (stands, refl))
+
+  pub long : (lines : List (List ℕ)) (text : List ℕ) (column : ℕ) → IsFirstTextFault text long_name column → IsLineRefusal known lines text (fault.NameTooLong Hierarchy (length lines + 1) column)
+  long lines text column stands = inl (column, inr (stands, refl))
+
+  pub own : (lines : List (List ℕ)) (v w : Reading) (text : List ℕ) (refusal : HierarchyRefusal) → IsTaken known lines v → IsSoundLine text
+      → RefusedLine v (length lines + 1) text (Refused refusal) w → IsLineRefusal known lines text (refusal_in Hierarchy refusal)
+  own lines v w text (TooManyItems line) taken sound answer =
+      let why = answer.why (TooManyItems line) refl in
       inr (
         (λ other. no_text_fault Hierarchy _ text other sound),
         (subst (λ names. HasMoreNames most_items (known ++ names)) (sym (names_of-more lines text)) (HasMoreNames-grown most_items known (names_of lines) v.names (fields_of text) taken.grown why.1), ap (fault.TooManyItems Hierarchy) why.0),
       )
-  line_refused lines v text NoMemory taken sound why apart = absurd (apart refl)
 
 -- The whole file
 
 module _ (reading after : Reading) (room : length reading.names ≤ most_items) (empty : reading.rows.items ≡ []) where
-  start : IsTaken reading.names [] reading
-  start = IsTaken-start reading room empty
-
   pub whole_taken : (lines : List (List ℕ)) → TookAll TookLine lines reading after → IsTaken reading.names lines after
-  whole_taken lines took = IsTaken-all reading.names [] lines 1 reading after refl start took.given
+  whole_taken lines = all_taken TookLine (IsTaken reading.names) (IsLineRefusal reading.names) (IsTaken-more reading.names) (accepted reading.names) reading (IsTaken-start reading room empty) lines after
 
   pub whole_accepted : (bytes : List ℕ) → length bytes ≤ most_file_bytes → TookAll TookLine (lines_of bytes) reading after
       → (other : Fault) → IsReadRefusal reading.names bytes other → ⊥
-  whole_accepted bytes few took other (inl large) = let over = large.0 in omega (arith, few, over)
-  whole_accepted bytes few took other (inr later) = none_refused reading.names [] (lines_of bytes) 1 reading after refl start took.given other later.1
-
-  -- the first line that is refused
-  pub whole_refused : (bytes : List ℕ) (earlier later : List (List ℕ)) (text : List ℕ) (between : Reading) (other : Fault) → length bytes ≤ most_file_bytes
-      → lines_of bytes ≡ earlier ++ text ∷ later → TookAll TookLine earlier reading between
-      → IsLineRefusal reading.names earlier text other → IsReadRefusal reading.names bytes other
-  whole_refused bytes earlier later text between other few cut took refusal =
-      inr (
-        (λ o large. let over = large.0 in omega (arith, few, over)),
-        subst (λ l. FirstAmong (IsLineRefusal reading.names) [] l other) (sym cut)
-            (first_behind reading.names [] earlier (text ∷ later) 1 reading between refl start took.given other (inl refusal)),
-      )
-
-  pub stopped_bad : (bytes : List ℕ) (line column : ℕ) → length bytes ≤ most_file_bytes → StoppedAt TookLine (lines_of bytes) reading after bad_byte line column
-      → IsReadRefusal reading.names bytes (fault.BadByte Hierarchy line column)
-  stopped_bad bytes line column few stop =
-      whole_refused bytes stop.earlier stop.later stop.text after _ few stop.cut stop.taken
-      (inl (column, inl (stop.stands, ap (λ n. fault.BadByte Hierarchy n column) stop.number)))
-
-  pub stopped_long : (bytes : List ℕ) (line column : ℕ) → length bytes ≤ most_file_bytes → StoppedAt TookLine (lines_of bytes) reading after long_name line column
-      → IsReadRefusal reading.names bytes (fault.NameTooLong Hierarchy line column)
-  stopped_long bytes line column few stop =
-      whole_refused bytes stop.earlier stop.later stop.text after _ few stop.cut stop.taken
-      (inl (column, inr (stop.stands, ap (λ n. fault.NameTooLong Hierarchy n column) stop.number)))
-
-  pub refused_line : (bytes : List ℕ) (why : HierarchyFault) → length bytes ≤ most_file_bytes → Refused TookLine RefusedLine (lines_of bytes) reading after why → why ≢ NoMemory
-      → IsReadRefusal reading.names bytes (fault_of_hierarchy why)
-  refused_line bytes why few refusal apart =
-      whole_refused bytes refusal.earlier refusal.later refusal.text refusal.between _ few refusal.cut refusal.taken
-      (line_refused reading.names refusal.earlier refusal.between refusal.text why
-      (IsTaken-all reading.names [] refusal.earlier 1 reading refusal.between refl start refusal.taken.given) refusal.sound refusal.answer.why apart)
-
-  -- the old names stay in front
-  pub kept_all : (lines : List (List ℕ)) → TookAll TookLine lines reading after → (added : List (List ℕ)) × (after.names ≡ reading.names ++ added)
-  kept_all lines took = let taken = whole_taken lines took in (taken.grown.added, taken.grown.behind)
-
-  pub kept_refused : (lines : List (List ℕ)) (why : HierarchyFault) → Refused TookLine RefusedLine lines reading after why → (added : List (List ℕ)) × (after.names ≡ reading.names ++ added)
-  kept_refused lines why refusal =
-      let taken = IsTaken-all reading.names [] refusal.earlier 1 reading refusal.between refl start refusal.taken.given in (
-        taken.grown.added ++ refusal.answer.added,
-        refusal.answer.kept ∙ ap (λ w. w ++ refusal.answer.added) taken.grown.behind ∙ append_assoc reading.names taken.grown.added refusal.answer.added,
-      )
+  whole_accepted bytes few took other =
+      past_size (fault.TooLarge Hierarchy) (FirstAmong (IsLineRefusal reading.names) [] (lines_of bytes)) bytes few other
+      (all_accepted TookLine (IsTaken reading.names) (IsLineRefusal reading.names) (IsTaken-more reading.names) (accepted reading.names) reading (IsTaken-start reading room empty) (lines_of bytes) after took other)

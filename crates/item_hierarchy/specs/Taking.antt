@@ -1,8 +1,10 @@
 -- How a line becomes rows, and why it is refused.
 use Rattle.std.specs.Prelude.{◌≡◌, ℕ, ◌≤◌, List, [], ◌∷◌, ◌++◌, map, length}
 use Rattle.mine_model.specs.declared.item.Item.{Item}
-use Rattle.item_hierarchy.specs.declared.hierarchy_fault.HierarchyFault.{HierarchyFault}
-use Rattle.item_hierarchy.specs.declared.hierarchy_fault.HierarchyFault.TheVariants.{ReadFault, TooLarge, BadByte, NameTooLong, TooManyItems, NoMemory}
+use Rattle.item_hierarchy.specs.declared.hierarchy_fault.HierarchyRefusal.{HierarchyRefusal}
+use Rattle.item_hierarchy.specs.declared.hierarchy_fault.HierarchyRefusal.TheVariants.{TooManyItems}
+use Rattle.text_ports.specs.declared.text_fault.LineFault.{LineFault}
+use Rattle.text_ports.specs.declared.text_fault.LineFault.TheVariants.{Refused}
 use Rattle.mine_model.specs.Limits.{most_items}
 use Rattle.mine_model.specs.Text.{fields_of, IsSoundLine}
 use Rattle.mine_model.specs.Names.{GrowBy}
@@ -27,21 +29,16 @@ pub record TookLine (before : Reading) (number : ℕ) (text : List ℕ) (after :
   pub within : AreWithin (length after.names) own
   pub said : named_rows after.names own ≡ links_of_line number (fields_of text)
 
--- why a line was refused; want of memory may come at any time
-abbrev pub IsLineFault : Reading → ℕ → List ℕ → HierarchyFault → Type 0
-IsLineFault before number text ReadFault = ⊥
-IsLineFault before number text TooLarge = ⊥
-IsLineFault before number text (BadByte line column) = ⊥
-IsLineFault before number text (NameTooLong line column) = ⊥
-IsLineFault before number text (TooManyItems line) = (line ≡ number) × HasMoreNames most_items (before.names
-    ++ fields_of text)
-IsLineFault before number text NoMemory = Unit {0}
+-- why a line is refused
+abbrev pub IsOwnRefusal : Reading → ℕ → List ℕ → HierarchyRefusal → Type 0
+IsOwnRefusal before number text (TooManyItems line) =
+    (line ≡ number) × HasMoreNames most_items (before.names ++ fields_of text)
 
--- the line was refused, and the old names stay in front
-pub record RefusedLine (before : Reading) (number : ℕ) (text : List ℕ) (fault : HierarchyFault)
+-- the line was not taken, and the old names stay in front; want of memory may come at any time
+pub record RefusedLine (before : Reading) (number : ℕ) (text : List ℕ) (fault : LineFault HierarchyRefusal)
     (after : Reading)
     : Type 0 where
-  pub why : IsLineFault before number text fault
+  pub why : (refusal : HierarchyRefusal) → fault ≡ Refused refusal → IsOwnRefusal before number text refusal
   pub added : List (List ℕ)
   pub kept : after.names ≡ before.names ++ added
 

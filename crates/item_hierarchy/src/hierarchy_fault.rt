@@ -1,28 +1,16 @@
 use mine_model::{Fault, NoMemory, Which};
-use std::alloc::AllocFailed;
+use text_ports::{Refusal, TextFault};
 use thiserror::Error;
 
-/// Why a hierarchy file was not read. Lines and columns count from 1, columns in bytes.
+/// Why a hierarchy file was not read.
+pub type HierarchyFault = TextFault<HierarchyRefusal>;
+
+/// Why a line of a hierarchy file is refused, whose text is right.
 #[derive(Clone, Copy, Debug, PartialEq, Eq, Error)]
-pub enum HierarchyFault {
-    /// Reading the file failed.
-    #[error("read fault")]
-    ReadFault,
-    /// The file has too many bytes.
-    #[error("more than 67108864 bytes")]
-    TooLarge,
-    /// A control byte stands in the line.
-    #[error("line {line} column {column}: bad byte")]
-    BadByte { line: u64, column: u64 },
-    /// A name has too many bytes; the column is that of the first byte too many.
-    #[error("line {line} column {column}: name over 255 bytes")]
-    NameTooLong { line: u64, column: u64 },
+pub enum HierarchyRefusal {
     /// With this line there are too many different names.
     #[error("line {line}: more than 1048576 items")]
     TooManyItems { line: u64 },
-    /// There was not enough memory.
-    #[error("out of memory")]
-    NoMemory,
 }
 
 /// Why rows made no hierarchy.
@@ -39,17 +27,6 @@ pub enum CloseFault {
     NoMemory,
 }
 
-impl From<NoMemory> for HierarchyFault {
-    ghost use Rattle.std.specs.Prelude.{◌≡◌};
-    ghost use Rattle.item_hierarchy.specs.declared.hierarchy_fault.HierarchyFault.TheVariants.{NoMemory};
-
-    ghost from_gives = { λ _ e. e ≡ NoMemory };
-
-    fn from(_e: NoMemory) -> HierarchyFault {
-        HierarchyFault::NoMemory
-    }
-}
-
 impl From<NoMemory> for CloseFault {
     ghost use Rattle.std.specs.Prelude.{◌≡◌};
     ghost use Rattle.item_hierarchy.specs.declared.hierarchy_fault.CloseFault.TheVariants.{NoMemory};
@@ -61,36 +38,14 @@ impl From<NoMemory> for CloseFault {
     }
 }
 
-impl<T: Drop> From<AllocFailed<T>> for HierarchyFault {
-    ghost use Rattle.std.specs.Prelude.{◌≡◌};
-    ghost use Rattle.item_hierarchy.specs.declared.hierarchy_fault.HierarchyFault.TheVariants.{NoMemory};
+impl Refusal for HierarchyRefusal {
+    ghost use Rattle.item_hierarchy.specs.Faults.{refusal_in};
 
-    ghost from_gives = { λ _ e. e ≡ NoMemory };
+    ghost fault_in = { refusal_in };
 
-    fn from(_e: AllocFailed<T>) -> HierarchyFault {
-        HierarchyFault::NoMemory
-    }
-}
-
-impl From<HierarchyFault> for Fault {
-    ghost use Rattle.std.specs.Prelude.{◌≡◌};
-    ghost use Rattle.item_hierarchy.specs.Faults.{fault_of_hierarchy};
-
-    ghost from_gives = { λ fault e. e ≡ fault_of_hierarchy fault };
-
-    fn from(fault: HierarchyFault) -> Fault {
-        let file = Which::Hierarchy;
-        match fault {
-            HierarchyFault::ReadFault => Fault::Read { file },
-            HierarchyFault::TooLarge => Fault::TooLarge { file },
-            HierarchyFault::BadByte { line, column } => Fault::BadByte { file, line, column },
-            HierarchyFault::NameTooLong { line, column } => Fault::NameTooLong {
-                file,
-                line,
-                column,
-            },
-            HierarchyFault::TooManyItems { line } => Fault::TooManyItems { file, line },
-            HierarchyFault::NoMemory => Fault::NoMemory,
+    fn in_file(self, file: Which) -> Fault {
+        match self {
+            HierarchyRefusal::TooManyItems { line } => Fault::TooManyItems { file, line },
         }
     }
 }

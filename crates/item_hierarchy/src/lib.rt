@@ -12,5 +12,5 @@ mod walk;
 pub use ancestors::MOST_ANCESTORS;
 pub use closing::{Ordered, close, order};
 pub use edges::{EdgeRow, Edges};
-pub use hierarchy_fault::{CloseFault, HierarchyFault};
+pub use hierarchy_fault::{CloseFault, HierarchyFault, HierarchyRefusal};
 pub use reading::read;

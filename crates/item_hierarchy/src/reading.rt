@@ -12,12 +12,12 @@ ghost use Rattle.item_hierarchy.specs.Refusing.{IsReadRefusal};
 ghost use Rattle.item_hierarchy.specs.Taking.{TookLine, RefusedLine, IsTaken, rows_of_line};
 
 use super::edges::{EdgeRow, Edges};
-use super::hierarchy_fault::HierarchyFault;
+use super::hierarchy_fault::{HierarchyFault, HierarchyRefusal};
 use item_names::{MOST_NAMES, Names, NamesFault};
 use mine_model::{Item, NoMemory};
 use std::alloc::Global;
 use std::mem;
-use text_ports::{Files, LineVisitor, Span, TextFault, read_lines};
+use text_ports::{Files, LineFault, LineVisitor, Span, read_lines};
 
 /// What was read so far. `items` is where the items of a line are collected.
 #[derive(Debug, Drop)]
@@ -28,18 +28,25 @@ struct Reading {
 }
 
 impl LineVisitor for Reading {
-    type Fault = HierarchyFault;
+    type Fault = LineFault<HierarchyRefusal>;
 
     ghost took = { TookLine };
 
     ghost refused = { RefusedLine };
 
-    fn line(&mut self, number: u64, text: &[u8], fields: &[Span]) -> Result<(), HierarchyFault> {
+    fn line(
+        &mut self,
+        number: u64,
+        text: &[u8],
+        fields: &[Span],
+    ) -> Result<(), LineFault<HierarchyRefusal>> {
         let items = &mut self.items;
         match self.names.intern_fields(text, fields, items) {
             Ok(()) => {}
-            Err(NamesFault::TooMany) => return Err(HierarchyFault::TooManyItems { line: number }),
-            Err(NamesFault::NoMemory) => return Err(HierarchyFault::NoMemory),
+            Err(NamesFault::TooMany) => {
+                return Err(LineFault::Refused(HierarchyRefusal::TooManyItems { line: number }));
+            }
+            Err(NamesFault::NoMemory) => return Err(LineFault::NoMemory),
         }
         add_rows(&mut self.rows, items.as_slice(), number)?;
         Ok(())
@@ -99,51 +106,13 @@ pub fn read<F: Files>(
         items: Vec::new(alloc),
         rows: Vec::new(alloc),
     };
-    let outcome = read_all(alloc, files, name, &mut reading);
+    let outcome = read_lines(alloc, files, name, &mut reading);
     *names = reading.names;
     match outcome {
-        Ok(()) => Ok(Edges {
+        Ok(_) => Ok(Edges {
             items: names.count(),
             rows: reading.rows,
         }),
-        Err(fault) => Err(fault),
-    }
-}
-
-/// Reads the whole file into what was read so far, which has no row yet.
-fn read_all<F: Files>(
-    alloc: Global,
-    files: &mut F,
-    name: &str,
-    reading: &mut Reading,
-) -> Result<(), HierarchyFault>
-    requires may { IsTrue (F.may files.old name.now) }
-    requires room { length reading.old.names ≤ most_items }
-    requires empty { reading.old.rows.items ≡ [] }
-    ensures taken { OnOk result (OfBytes (F.holds files.old name.now) (λ bytes.
-        IsTaken reading.old.names (lines_of bytes) reading.new)) }
-    ensures accepted { OnOk result (OfBytes (F.holds files.old name.now) (λ bytes.
-        (fault : Fault) → IsReadRefusal reading.old.names bytes fault → ⊥)) }
-    ensures refused { (fault : HierarchyFault) → result ≡ Err fault
-        → fault ≢ HierarchyFault.ReadFault → fault ≢ HierarchyFault.NoMemory
-        → IfSome (F.holds files.old name.now) (λ bytes.
-        IsReadRefusal reading.old.names bytes (fault_of_hierarchy fault)) }
-    ensures failed { result ≡ Err HierarchyFault.ReadFault → Rose (F.faults files.old) (F.faults files.new) }
-    ensures kept { (added : List (List ℕ)) × (reading.new.names ≡ reading.old.names ++ added) }
-    ensures same_names { F.may files.new ≡ F.may files.old }
-    ensures same_files { F.holds files.new ≡ F.holds files.old }
-    ensures never_falls { F.faults files.old ≤ F.faults files.new }
-{
-    match read_lines(alloc, files, name, reading) {
-        Ok(_) => Ok(()),
-        Err(TextFault::ReadFault) => Err(HierarchyFault::ReadFault),
-        Err(TextFault::TooLarge) => Err(HierarchyFault::TooLarge),
-        Err(TextFault::BadByte { line, column }) => Err(HierarchyFault::BadByte { line, column }),
-        Err(TextFault::NameTooLong { line, column }) => Err(HierarchyFault::NameTooLong {
-            line,
-            column,
-        }),
-        Err(TextFault::Visitor(fault)) => Err(fault),
-        Err(TextFault::NoMemory) => Err(HierarchyFault::NoMemory),
+        Err(fault) => Err(fault.flat()),
     }
 }

@@ -14,6 +14,7 @@ mod sink;
 mod std_sink;
 mod sure_files;
 mod sure_sink;
+mod text_fault;
 mod visiting;
 mod writing;
 
@@ -28,5 +29,6 @@ pub use sink::Sink;
 pub use std_sink::StdSink;
 pub use sure_files::SureFiles;
 pub use sure_sink::SureSink;
-pub use visiting::{TextFault, read_lines, visit_lines, without_mark};
+pub use text_fault::{LineFault, Refusal, TextFault};
+pub use visiting::{read_lines, visit_lines, without_mark};
 pub use writing::write_all;

@@ -11,27 +11,11 @@ use super::files::Files;
 use super::lines::{LineVisitor, Span};
 use super::reading::{ReadFault, read_file};
 use super::scan::{Stop, scan_line};
+use super::text_fault::TextFault;
 use std::alloc::Global;
 
 /// Bytes that a file may begin with and that are no part of its first line.
 const BYTE_ORDER_MARK: [u8; 3] = [0xEF, 0xBB, 0xBF];
-
-/// Why the lines of a file were not all taken. Lines and columns count from 1.
-#[derive(Clone, Copy, Debug, PartialEq, Eq)]
-pub enum TextFault<X> {
-    /// Opening or reading the file failed.
-    ReadFault,
-    /// The file has too many bytes.
-    TooLarge,
-    /// A control byte stands in a line.
-    BadByte { line: u64, column: u64 },
-    /// A name has too many bytes; the column is that of the first byte too many.
-    NameTooLong { line: u64, column: u64 },
-    /// The visitor refused a line.
-    Visitor(X),
-    /// There was not enough memory.
-    NoMemory,
-}
 
 /// Opens a file, reads it to its end, and then gives its lines in order to the visitor, with the fields of
 /// each.
