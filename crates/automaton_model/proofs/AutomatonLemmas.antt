@@ -4,18 +4,13 @@ use Rattle.std.specs.Prelude.{if◌then◌else◌, IsTrue}
 use Rattle.std.proofs.lemmas.Bool.{cases_eq}
 use Rattle.std.specs.List.{AllPairs, AllZip, Contains, slice_get, flat_map}
 use Rattle.std.proofs.lemmas.List.{append-nil}
-use Rattle.std.proofs.lemmas.Option.{slice_get-get_or}
-use Rattle.mine_model.proofs.ListLemmas.{Contains-cases, Contains-first, Contains-other, Contains-none, AllPairs-head}
+use Rattle.mine_model.proofs.ListLemmas.{Contains-cases, Contains-first, Contains-other, Contains-none, AllPairs-head, order-same}
+use Rattle.mine_model.specs.Lists.{IsEarlier}
+use Rattle.mine_model.proofs.EarlierLemmas.{earlier-both, earlier-cases, earlier-none}
+use Rattle.mine_model.proofs.ElementLemmas.{get-place, same-some}
 use Rattle.automaton_model.specs.Automata.{Edge, StateValue, Accepts, edge_code, code_of}
-use Rattle.automaton_model.specs.Codes.{IsEarlier, IsPrefixIn, AreNerodeEquivalent, IsFirstVisit, Leads, IsStateAfter, IsMinimalAutomaton, IsCodeOf}
+use Rattle.automaton_model.specs.Codes.{IsPrefixIn, AreNerodeEquivalent, IsFirstVisit, Leads, IsStateAfter, IsMinimalAutomaton, IsCodeOf}
 use Rattle.automaton_model.proofs.ZipLemmas.{zip-there}
-use Rattle.automaton_model.proofs.OrderLemmas.{ordered-same, earlier-both, earlier-cases, earlier-none}
-
-pub get-some_of : {X : Type 0} (xs : List X) (x : X) → Contains xs x → (k : ℕ) × (slice_get xs k ≡ Some x)
-get-some_of xs x (k, inside, is) = (k, slice_get-get_or xs k x inside ∙ ap (λ y. Some y) is)
-
-pub one_of : {X : Type 0} (x y : X) (o : Option X) → o ≡ Some x → o ≡ Some y → x ≡ y
-one_of x y o p q = cc
 
 -- Codes are those of one automaton
 
@@ -31,7 +26,7 @@ edges_same (e ∷ es) (f ∷ fs) us vs long same =
     let rest = edges_same es fs us vs shorter behind in
     ((λ i. (record { rank = rank i; to = to i }) ∷ rest.0 i), rest.1)
 
-abbrev flag_of : Bool → ℕ
+abbrev pub flag_of : Bool → ℕ
 flag_of b = if b then 1 else 0
 
 flags_same : (a b : Bool) → flag_of a ≡ flag_of b → a ≡ b
@@ -81,7 +76,7 @@ module _ (IsMember : List ℕ → Type 0) where
 
   pub visits-same : (ss ts : List StateValue) (p : IsMinimalAutomaton IsMember ss) (q : IsMinimalAutomaton IsMember ts) → p.visits ≡ q.visits
   visits-same ss ts p q =
-      ordered-same IsEarlier earlier-both p.visits q.visits p.rising q.rising (visits_in ss ts p q) (visits_in ts ss q p)
+      order-same IsEarlier earlier-both p.visits q.visits p.rising q.rising (visits_in ss ts p q) (visits_in ts ss q p)
 
   pub bools_same : (a b : Bool) → ((IsTrue a) ↔ (IsTrue b)) → a ≡ b
   bools_same true true same = refl
@@ -96,7 +91,7 @@ module _ (IsMember : List ℕ → Type 0) where
   state_same : (visits : List (List ℕ)) (prefix : List ℕ) (s t : StateValue) → IsStateAfter IsMember visits prefix s → IsStateAfter IsMember visits prefix t → s ≡ t
   state_same visits prefix s t p q =
       let accepts : s.accepts ≡ t.accepts = bools_same s.accepts t.accepts ((λ good. q.accepts.1 (p.accepts.0 good)), (λ good. p.accepts.1 (q.accepts.0 good))) in
-      let edges : s.edges ≡ t.edges = ordered-same (λ (low : Edge) (high : Edge). low.rank < high.rank) ranks_apart s.edges t.edges p.rising q.rising
+      let edges : s.edges ≡ t.edges = order-same (λ (low : Edge) (high : Edge). low.rank < high.rank) ranks_apart s.edges t.edges p.rising q.rising
       (λ e held. (q.exact e).1 ((p.exact e).0 held)) (λ e held. (p.exact e).1 ((q.exact e).0 held)) in
       λ i. record { accepts = accepts i; edges = edges i }
 
@@ -128,16 +123,16 @@ module _ (IsMember : List ℕ → Type 0) where
     accepts_forth : (ranks : List ℕ) (k : ℕ) (visit : List ℕ) → slice_get least.visits k ≡ Some visit → Accepts states k ranks → IsMember (visit ++ ranks)
     accepts_forth [] k visit at (s, is, good) =
         let (t, also, after) = zip-there (IsStateAfter IsMember least.visits) least.visits states least.state k visit at in
-        let same : s ≡ t = one_of s t (slice_get states k) is also in
+        let same : s ≡ t = same-some s t (slice_get states k) is also in
         subst IsMember (sym (append-nil visit)) (after.accepts.0 (subst (λ (x : StateValue). IsTrue x.accepts) same good))
     accepts_forth (w ∷ ranks) k visit at (s, edge, is, held, rank, next) =
         let (t, also, after) = zip-there (IsStateAfter IsMember least.visits) least.visits states least.state k visit at in
-        let same : s ≡ t = one_of s t (slice_get states k) is also in
+        let same : s ≡ t = same-some s t (slice_get states k) is also in
         let leads : Leads IsMember least.visits visit edge = (after.exact edge).0 (subst (λ (x : StateValue). Contains x.edges edge) same held) in
         let member : IsMember ((visit ++ edge.rank ∷ []) ++ ranks) = (leads.same ranks).0 (accepts_forth ranks edge.to leads.first leads.numbered next) in
         subst (λ r. IsMember (visit ++ r ∷ ranks)) rank (subst IsMember (append_assoc visit (edge.rank ∷ []) ranks) member)
 
-    accepts_back : (ranks : List ℕ) (k : ℕ) (visit : List ℕ) → slice_get least.visits k ≡ Some visit → IsMember (visit ++ ranks) → Accepts states k ranks
+    pub accepts_back : (ranks : List ℕ) (k : ℕ) (visit : List ℕ) → slice_get least.visits k ≡ Some visit → IsMember (visit ++ ranks) → Accepts states k ranks
     accepts_back [] k visit at member =
         let (t, also, after) = zip-there (IsStateAfter IsMember least.visits) least.visits states least.state k visit at in
         (t, also, after.accepts.1 (subst IsMember (append-nil visit) member))
@@ -145,7 +140,7 @@ module _ (IsMember : List ℕ → Type 0) where
         let (t, also, after) = zip-there (IsStateAfter IsMember least.visits) least.visits states least.state k visit at in
         let moved : IsMember ((visit ++ w ∷ []) ++ ranks) = subst IsMember (sym (append_assoc visit (w ∷ []) ranks)) member in
         let (next, inside, same) = least.all (visit ++ w ∷ []) (inr (ranks, moved)) in
-        let (number, numbered) = get-some_of least.visits next inside in
+        let (number, numbered) = get-place least.visits next inside in
         let edge : Edge = record { rank = w; to = number } in
         let leads : Leads IsMember least.visits visit edge = record { more = ranks; begins = member; first = next; numbered = numbered; same = same } in
         (t, edge, also, (after.exact edge).1 leads, refl, accepts_back ranks number next numbered ((same ranks).1 moved))
@@ -273,7 +268,7 @@ accepts-decided states [] from = elim (get_cases states from) [
   where
     end : (s : StateValue) → slice_get states from ≡ Some s → (b : Bool) → s.accepts ≡ b → Accepts states from [] ⊎ (Accepts states from [] → ⊥)
     end s is true flag = inl (s, is, subst IsTrue (sym flag) refl)
-    end s is false flag = inr (λ (t, also, good). (let same : t ≡ s = one_of t s (slice_get states from) also is in true≢false (sym (subst (λ (x : StateValue). IsTrue x.accepts) same good) ∙ flag)))
+    end s is false flag = inr (λ (t, also, good). (let same : t ≡ s = same-some t s (slice_get states from) also is in true≢false (sym (subst (λ (x : StateValue). IsTrue x.accepts) same good) ∙ flag)))
 accepts-decided states (w ∷ ranks) from = elim (get_cases states from) [
   | inl some ↦ (let (s, is) = some in step s is (any_decided (λ (e : Edge). (e.rank ≡ w) × Accepts states e.to ranks) (each (accepts-decided states ranks)) s.edges))
   | inr none ↦ inr (λ (s, e, is, held, rank, next). nothing_there (slice_get states from) s none is)
@@ -290,4 +285,4 @@ accepts-decided states (w ∷ ranks) from = elim (get_cases states from) [
         → Accepts states from (w ∷ ranks) ⊎ (Accepts states from (w ∷ ranks) → ⊥)
     step s is (inl some) = (let (e, held, both) = some in inl (s, e, is, held, both.0, both.1))
     step s is (inr none) = inr (λ (t, e, also, held, rank, next).
-        (let same : t ≡ s = one_of t s (slice_get states from) also is in none e (subst (λ (x : StateValue). Contains x.edges e) same held) (rank, next)))
+        (let same : t ≡ s = same-some t s (slice_get states from) also is in none e (subst (λ (x : StateValue). Contains x.edges e) same held) (rank, next)))

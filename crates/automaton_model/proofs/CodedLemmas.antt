@@ -9,12 +9,13 @@ use Rattle.mine_model.specs.declared.item.Item.{Item}
 use Rattle.mine_model.specs.Support.{Sequence, Counts}
 use Rattle.mine_model.specs.Answer.{Data}
 use Rattle.mine_model.proofs.SumLemmas.{sum_by-most}
+use Rattle.mine_model.specs.Lists.{IsEarlier}
+use Rattle.mine_model.proofs.ElementLemmas.{decides}
 use Rattle.automaton_model.specs.declared.groups.Group.{Group}
-use Rattle.automaton_model.specs.Codes.{IsEarlier}
 use Rattle.automaton_model.specs.Members.{IsPivotCode}
 use Rattle.automaton_model.specs.Groups.{AreGroups}
 use Rattle.automaton_model.specs.Merges.{IsCodedBy, weight_at, weight_in, AreMerged}
-use Rattle.automaton_model.proofs.MergeLemmas.{code-decides, weight-here, weight-none, min-cases}
+use Rattle.automaton_model.proofs.MergeLemmas.{weight-here, weight-none, min-cases}
 use Rattle.automaton_model.proofs.PivotLemmas.{one_code}
 use Rattle.automaton_model.proofs.ZipLemmas.{zip-first, zip-second}
 
@@ -26,7 +27,7 @@ module _ (d : Data Item) (order : List Item) (pivot : ℕ) where
   coded_count [] (p ∷ parts) code zip = absurd zip
   coded_count (s ∷ sequences) [] code zip = absurd zip
   coded_count (s ∷ sequences) (p ∷ parts) code zip =
-      by (pointwise nat_eq p.automaton code) (code-decides p.automaton code) (coded_count sequences parts code zip.1) (sum_by-append (weight_at code) (p ∷ []) parts)
+      by (pointwise nat_eq p.automaton code) (decides p.automaton code) (coded_count sequences parts code zip.1) (sum_by-append (weight_at code) (p ∷ []) parts)
     where
       by : (test : Bool) → Decides test (p.automaton ≡ code) → Counts (IsPivotCode d order pivot code) sequences (weight_in parts code)
           → weight_in (p ∷ parts) code ≡ weight_in (p ∷ []) code + weight_in parts code → Counts (IsPivotCode d order pivot code) (s ∷ sequences) (weight_in (p ∷ parts) code)

@@ -1,9 +1,9 @@
 -- Counting groups of sequences with equal codes is counting the sequences.
-use Rattle.std.proofs.Common.{◌≡◌, ◌≢◌, ℕ, ◌+◌, ◌↔◌, ◌⊎◌, inl, inr, List, [], ◌∷◌, refl, sym, subst, arith}
+use Rattle.std.proofs.Common.{◌≡◌, ◌≢◌, ℕ, ◌+◌, ◌↔◌, ◌⊎◌, inl, inr, List, [], ◌∷◌, sym, subst, arith}
 use Rattle.std.specs.List.{AllPairs, AllByRecursion, Contains}
 use Rattle.mine_model.specs.Support.{Sequence, Counts}
 use Rattle.mine_model.proofs.ListLemmas.{Contains-cases, Contains-first, Contains-other, Contains-none, AllPairs-tail, AllPairs-head}
-use Rattle.mine_model.proofs.SupportLemmas.{Counts-unique}
+use Rattle.mine_model.proofs.SupportLemmas.{Counts-unique, Counts-decided}
 use Rattle.mine_model.proofs.FrequencyLemmas.{Counts-none}
 use Rattle.automaton_model.specs.declared.groups.Group.{Group}
 use Rattle.automaton_model.specs.Groups.{grouped}
@@ -32,16 +32,6 @@ Counts-within Has Also (s ∷ sequences) same n (inl p) =
     inl ((same s (Contains-first s sequences)).0 p.0, (p.1.0, p.1.1, Counts-within Has Also sequences (λ t held. same t (Contains-other s sequences t held)) p.1.0 p.1.2))
 Counts-within Has Also (s ∷ sequences) same n (inr p) =
     inr ((λ also. p.0 ((same s (Contains-first s sequences)).1 also)), Counts-within Has Also sequences (λ t held. same t (Contains-other s sequences t held)) n p.1)
-
--- what is decided of each sequence is counted
-pub Counts-decided : {A : Type 0} (Has : List A → Type 0) (sequences : List (Sequence A))
-    → ((s : Sequence A) → Contains sequences s → Has s.items ⊎ (Has s.items → ⊥)) → (n : ℕ) × Counts Has sequences n
-Counts-decided Has [] each = (0, refl)
-Counts-decided {A} Has (s ∷ sequences) each = go (each s (Contains-first s sequences)) (Counts-decided Has sequences (λ t held. each t (Contains-other s sequences t held)))
-  where
-    go : Has s.items ⊎ (Has s.items → ⊥) → (n : ℕ) × Counts Has sequences n → (n : ℕ) × Counts Has (s ∷ sequences) n
-    go (inl has) (n, counted) = (s.weight + n, inl (has, (n, refl, counted)))
-    go (inr hasnt) (n, counted) = (n, inr (hasnt, counted))
 
 -- The sequences have codes, at most one each; some codes have a property.
 module _ {A : Type 0} (IsCode : List ℕ → List A → Type 0) (one : (items : List A) (code other : List ℕ) → IsCode code items → IsCode other items → code ≡ other)

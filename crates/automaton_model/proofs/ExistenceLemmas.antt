@@ -10,12 +10,12 @@ use Rattle.std.specs.Str.{bytes_eq}
 use Rattle.std.proofs.lemmas.Slice.Eq.{bytes_eq-Decides}
 use Rattle.std.proofs.lemmas.Option.{slice_get_within}
 use Rattle.mine_model.proofs.ListLemmas.{Contains-cases, Contains-first, Contains-other, Contains-none, Contains-by, Contains-from, AllPairs-tail, AllPairs-head, AllByRecursion-contained}
-use Rattle.mine_model.proofs.ElementLemmas.{get-some}
+use Rattle.mine_model.proofs.ElementLemmas.{get-some, get-place}
 use Rattle.automaton_model.specs.Automata.{Edge, StateValue, Accepts, state_code}
 use Rattle.automaton_model.specs.Codes.{IsCodeOf}
 use Rattle.automaton_model.specs.Registry.{IsRegistry}
 use Rattle.automaton_model.specs.Languages.{IsRightLanguageOf, IsEdgeOf, IsStateOf}
-use Rattle.automaton_model.proofs.AutomatonLemmas.{code-same, code-also, get-some_of}
+use Rattle.automaton_model.proofs.AutomatonLemmas.{code-same, code-also}
 use Rattle.automaton_model.proofs.LanguageLemmas.{node-stays, node-found, node-pushed, registry-pushed}
 use Rattle.automaton_model.proofs.NumberLemmas.{state-code}
 
@@ -327,7 +327,7 @@ state_for : (lists : List (List ℕ)) (states : List StateValue) (heads : List �
     → (state : StateValue) → IsStateOf (Contains lists) (states ++ has.more) state
     → Contains (states ++ has.more) state ⊎ (Contains (states ++ has.more) state → ⊥) → HasNode (Contains lists) states
 state_for lists states heads are has state is (inl held) =
-    let (number, at) = get-some_of (states ++ has.more) state held in
+    let (number, at) = get-place (states ++ has.more) state held in
     record {
       more = has.more;
       registry = has.registry;

@@ -3,11 +3,10 @@ use Rattle.std.proofs.Common.{◌≡◌, ◌≢◌, ℕ, ◌<◌, ◌↔◌, inl
 use Rattle.std.specs.Prelude.{IsTrue}
 use Rattle.std.specs.List.{Contains, slice_get}
 use Rattle.mine_model.proofs.ListLemmas.{Contains-cases, Contains-none, AllPairs-append}
-use Rattle.mine_model.proofs.ElementLemmas.{get-some, get-left, get_snoc, get_last}
+use Rattle.mine_model.proofs.ElementLemmas.{get-some, get-left, get_snoc, get_last, same-some}
 use Rattle.automaton_model.specs.Automata.{StateValue, Accepts}
 use Rattle.automaton_model.specs.Registry.{IsKeptState, IsRegistry}
 use Rattle.automaton_model.specs.Languages.{IsRightLanguageOf, IsStateOf}
-use Rattle.automaton_model.proofs.AutomatonLemmas.{one_of}
 use Rattle.automaton_model.proofs.RegistryLemmas.{registry-same}
 
 -- what is accepted stays accepted
@@ -28,10 +27,10 @@ module _ (states : List StateValue) (registry : IsRegistry states) where
   pub accepts-less : (more : List StateValue) (ranks : List ℕ) (k : ℕ) → k < length states → Accepts (states ++ more) k ranks → Accepts states k ranks
   accepts-less more [] k below (s, is, accepts) =
       let (t, at) = get-some states k below in
-      (t, at, subst (λ (x : StateValue). IsTrue x.accepts) (one_of s t (slice_get (states ++ more) k) is (get-left states more k t at)) accepts)
+      (t, at, subst (λ (x : StateValue). IsTrue x.accepts) (same-some s t (slice_get (states ++ more) k) is (get-left states more k t at)) accepts)
   accepts-less more (w ∷ ranks) k below (s, e, is, held, rank, next) =
       let (t, at) = get-some states k below in
-      let inside : Contains t.edges e = subst (λ (x : StateValue). Contains x.edges e) (one_of s t (slice_get (states ++ more) k) is (get-left states more k t at)) held in
+      let inside : Contains t.edges e = subst (λ (x : StateValue). Contains x.edges e) (same-some s t (slice_get (states ++ more) k) is (get-left states more k t at)) held in
       let less : e.to < length states = omega (arith, (registry.kept k t at).back e inside, below) in
       (t, e, at, inside, rank, accepts-less more ranks e.to less next)
 
@@ -63,12 +62,12 @@ module _ (states : List StateValue) (registry : IsRegistry states) where
     pub node-here : (all : List StateValue) (k : ℕ) → slice_get all k ≡ Some state
         → ((ranks : List ℕ) (j : ℕ) → j < length states → Accepts all j ranks ↔ Accepts states j ranks) → IsRightLanguageOf IsMember all k
     node-here all k at same [] = (
-      (λ (s, s_is, accepts). is.accepts.0 (subst (λ (x : StateValue). IsTrue x.accepts) (one_of s state (slice_get all k) s_is at) accepts)),
+      (λ (s, s_is, accepts). is.accepts.0 (subst (λ (x : StateValue). IsTrue x.accepts) (same-some s state (slice_get all k) s_is at) accepts)),
       (λ member. (state, at, is.accepts.1 member)),
     )
     node-here all k at same (w ∷ ranks) = (
       (λ (s, e, s_is, held, rank, next).
-          let edge = is.edge e (subst (λ (x : StateValue). Contains x.edges e) (one_of s state (slice_get all k) s_is at) held) in
+          let edge = is.edge e (subst (λ (x : StateValue). Contains x.edges e) (same-some s state (slice_get all k) s_is at) held) in
           subst (λ r. IsMember (r ∷ ranks)) rank ((edge.node ranks).0 ((same ranks e.to edge.inside).0 next))),
       (λ member.
           let (e, held, rank) = is.all w ranks member in

@@ -1,5 +1,4 @@
 pub mod ZipLemmas
-pub mod OrderLemmas
 pub mod AutomatonLemmas
 pub mod CountLemmas
 pub mod MergeLemmas

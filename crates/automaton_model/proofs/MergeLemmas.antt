@@ -5,9 +5,7 @@ use Rattle.std.specs.List.{AllPairs, Contains}
 use Rattle.std.specs.List.Sorted.{IsPermutation, IsSortedBy}
 use Rattle.std.specs.Ordering.{nat_cmp, is_lt}
 use Rattle.std.specs.Cmp.Lexicographic.{pointwise, slice_cmp}
-use Rattle.std.proofs.lemmas.Bool.Decides.{Decides-eqb}
 use Rattle.std.proofs.lemmas.Cmp.{nat_list_cmp_total}
-use Rattle.std.proofs.lemmas.Slice.Eq.{slice_eq-Decides}
 use Rattle.std.proofs.lemmas.List.{map-append}
 use Rattle.std.proofs.lemmas.List.Elements.{Contains-append_left, Contains-append_right, Contains-append_cases}
 use Rattle.std.proofs.lemmas.List.MinMax.{ranks_by}
@@ -15,10 +13,11 @@ use Rattle.std.proofs.lemmas.List.Sorted.{sorted_far, sum_by-IsPermutation, Cont
 use Rattle.std.proofs.lemmas.List.Sums.{sum_by-append}
 use Rattle.mine_model.proofs.ListLemmas.{Contains-cases, Contains-first, Contains-none, Contains-from, AllPairs-tail, AllPairs-head, AllPairs-append}
 use Rattle.mine_model.proofs.SumLemmas.{sum_by-none}
+use Rattle.mine_model.specs.Lists.{IsEarlier}
+use Rattle.mine_model.proofs.EarlierLemmas.{earlier-itself, earlier-chain, earlier-cases}
+use Rattle.mine_model.proofs.ElementLemmas.{decides}
 use Rattle.automaton_model.specs.declared.groups.Group.{Group}
-use Rattle.automaton_model.specs.Codes.{IsEarlier}
 use Rattle.automaton_model.specs.Merges.{ComesNotBefore, weight_at, weight_in, IsMerged, AreMerged, with_count_of, IsJoined}
-use Rattle.automaton_model.proofs.OrderLemmas.{earlier-itself, earlier-chain, earlier-cases}
 
 abbrev limit : ℕ
 limit = 18446744073709551615
@@ -39,14 +38,11 @@ across (first ∷ seen) rest part one sorted held = elim (Contains-cases first s
 weight_more : (seen : List Group) (part : Group) (list : List ℕ) → weight_in (seen ++ part ∷ []) list ≡ weight_in seen list + (0 + weight_at list part)
 weight_more seen part list = sum_by-append (weight_at list) seen (part ∷ [])
 
-pub code-decides : (first second : List ℕ) → Decides (pointwise nat_eq first second) (first ≡ second)
-code-decides first second = slice_eq-Decides Decides-eqb first second (pointwise nat_eq first second) refl
-
 pub weight-here : (part : Group) (list : List ℕ) → part.automaton ≡ list → weight_at list part ≡ part.count
-weight-here part list same = ap (λ (b : Bool). cond b part.count 0) ((code-decides part.automaton list).1 same)
+weight-here part list same = ap (λ (b : Bool). cond b part.count 0) ((decides part.automaton list).1 same)
 
 pub weight-none : (part : Group) (list : List ℕ) → part.automaton ≢ list → weight_at list part ≡ 0
-weight-none part list other = by (pointwise nat_eq part.automaton list) (code-decides part.automaton list)
+weight-none part list other = by (pointwise nat_eq part.automaton list) (decides part.automaton list)
   where
     by : (test : Bool) → Decides test (part.automaton ≡ list) → cond test part.count 0 ≡ 0
     by true decides = absurd (other (decides.0 refl))
@@ -210,7 +206,7 @@ module _ (seen rest : List Group) (part : Group) (sorted : AllPairs ComesNotBefo
 
 -- codes that a test tells apart
 pub codes-differ : (first second : List ℕ) (test : Bool) → test ≡ pointwise nat_eq first second → test ≡ false → first ≢ second
-codes-differ first second test is fails same = true≢false (sym ((code-decides first second).1 same) ∙ sym is ∙ fails)
+codes-differ first second test is fails same = true≢false (sym ((decides first second).1 same) ∙ sym is ∙ fails)
 
 -- the order of the parts does not matter
 pub merged-permuted : (parts sorted groups : List Group) → IsPermutation parts sorted → AreMerged sorted groups → AreMerged parts groups

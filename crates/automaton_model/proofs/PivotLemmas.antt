@@ -1,6 +1,6 @@
 -- The rows of groups are the frequent patterns with the pivot, and those of all pivots are the answer.
-use Rattle.std.proofs.Common.{◌≡◌, ◌≢◌, ◌⊎◌, ◌↔◌, ℕ, zero, suc, ◌≤◌, ◌<◌, inl, inr, List, [], ◌∷◌, length, get_or, sym, ◌∙◌, subst, arith}
-use Rattle.std.specs.List.{AllByRecursion, AllPairs, AllZip, Contains, flat_map}
+use Rattle.std.proofs.Common.{◌≡◌, ◌≢◌, ◌⊎◌, ◌↔◌, ℕ, ◌≤◌, ◌<◌, inl, inr, List, [], ◌∷◌, get_or, sym, ◌∙◌, subst, arith}
+use Rattle.std.specs.List.{AllPairs, AllZip, Contains, flat_map}
 use Rattle.mine_model.specs.declared.item.Item.{Item}
 use Rattle.mine_model.specs.declared.row.Row.{Row}
 use Rattle.mine_model.specs.Generation.{IsPatternOf}
@@ -8,22 +8,23 @@ use Rattle.mine_model.specs.Support.{Sequence, Counts, HasFrequency}
 use Rattle.mine_model.specs.Answer.{Data, IsFrequent}
 use Rattle.mine_model.specs.Ranks.{Ranking, AreRanked, AreRanks}
 use Rattle.mine_model.specs.Numbered.{AreFrequent, PatternsDiffer}
-use Rattle.mine_model.specs.Pivots.{IsRankedUpTo, IsWithinPivot, IsAliveLabel}
+use Rattle.mine_model.specs.Pivots.{IsWithinPivot, IsAliveLabel}
 use Rattle.mine_model.proofs.ListLemmas.{Contains-first, Contains-other, AllPairs-append, AllPairs-tail, AllPairs-head}
 use Rattle.mine_model.proofs.ElementLemmas.{flat-cases, flat-held}
 use Rattle.mine_model.proofs.SupportLemmas.{Counts-one}
 use Rattle.mine_model.proofs.FrequencyLemmas.{Counts-by, frequent-items}
-use Rattle.mine_model.proofs.RankedLemmas.{ranked-same}
+use Rattle.mine_model.proofs.RankedLemmas.{ranked-same, within-ranks}
 use Rattle.mine_model.proofs.AliveLemmas.{Counts-part, IsAlive-frequent, IsAlive-shorter}
+use Rattle.mine_model.specs.Lists.{IsEarlier}
+use Rattle.mine_model.proofs.EarlierLemmas.{earlier-itself}
 use Rattle.search_tree.proofs.SearchAnswerLemmas.{frequent-ranks}
 use Rattle.search_tree.proofs.PivotLemmas.{pivot-same, place_of}
 use Rattle.automaton_model.specs.Automata.{Accepts}
-use Rattle.automaton_model.specs.Codes.{IsEarlier, IsCodeOf}
+use Rattle.automaton_model.specs.Codes.{IsCodeOf}
 use Rattle.automaton_model.specs.Members.{IsPivotMember, IsPivotCode}
 use Rattle.automaton_model.specs.declared.groups.Group.{Group}
 use Rattle.automaton_model.specs.Groups.{AreGroups, LieIn, grouped, IsGroupRow, AreGroupRows, AreOfPivot, part_of, AreRowsOfPivot}
 use Rattle.automaton_model.proofs.ZipLemmas.{zip-first, zip-second}
-use Rattle.automaton_model.proofs.OrderLemmas.{earlier-itself}
 use Rattle.automaton_model.proofs.AutomatonLemmas.{code-same, code-unique, accepts-exact, accepts-decided}
 use Rattle.automaton_model.proofs.CountLemmas.{Counts-within, IsIn, groups-sequences, sequences-groups}
 
@@ -44,6 +45,12 @@ lie-decided IsMember code ranks (states, least, is) = elim (accepts-decided stat
   | inr never ↦ inr (λ (others, also, accepts). never (subst (λ l. Accepts l 0 ranks) (code-same others states (sym also ∙ is)) accepts))
 ]
 
+-- the groups have different codes
+pub codes-apart : (d : Data Item) (order : List Item) (pivot : ℕ) (sequences : List (Sequence Item)) (groups : List Group)
+    → AreGroups d order pivot sequences groups → AllPairs (λ (low : Group) (high : Group). low.automaton ≢ high.automaton) groups
+codes-apart d order pivot sequences groups are i j e less inside same =
+    earlier-itself (get_or groups i e).automaton (subst (IsEarlier (get_or groups i e).automaton) (sym same) (are.rising i j e less inside))
+
 module _ (d : Data Item) (order : List Item) (pivot : ℕ) where
   -- a sequence has at most one code
   pub one_code : (items : List Item) (code other : List ℕ) → IsPivotCode d order pivot code items → IsPivotCode d order pivot other items → code ≡ other
@@ -51,9 +58,6 @@ module _ (d : Data Item) (order : List Item) (pivot : ℕ) where
 
   -- COUNTING groups is counting sequences
   module _ (sequences : List (Sequence Item)) (groups : List Group) (are : AreGroups d order pivot sequences groups) (ranks : List ℕ) where
-    codes_apart : AllPairs (λ (low : Group) (high : Group). low.automaton ≢ high.automaton) groups
-    codes_apart i j e less inside same = earlier-itself (get_or groups i e).automaton (subst (IsEarlier (get_or groups i e).automaton) (sym same) (are.rising i j e less inside))
-
     counted : (group : Group) → Contains groups group → Counts (IsPivotCode d order pivot group.automaton) sequences group.count
     counted group held = (are.group group held).counted
 
@@ -72,20 +76,12 @@ module _ (d : Data Item) (order : List Item) (pivot : ℕ) where
     pub groups-count : (n : ℕ) → Counts (LieIn ranks) (grouped groups) n ↔ Counts (λ items. IsPivotMember d order pivot items ranks) sequences n
     groups-count n = (
       (λ c. Counts-within In (λ items. IsPivotMember d order pivot items ranks) sequences member_in n
-          (groups-sequences (IsPivotCode d order pivot) one_code (LieIn ranks) sequences groups codes_apart counted n c)),
-      (λ c. sequences-groups (IsPivotCode d order pivot) one_code (LieIn ranks) sequences groups codes_apart counted decided n
+          (groups-sequences (IsPivotCode d order pivot) one_code (LieIn ranks) sequences groups (codes-apart d order pivot sequences groups are) counted n c)),
+      (λ c. sequences-groups (IsPivotCode d order pivot) one_code (LieIn ranks) sequences groups (codes-apart d order pivot sequences groups are) counted decided n
           (Counts-within (λ items. IsPivotMember d order pivot items ranks) In sequences (λ s held. ((member_in s held).1, (member_in s held).0)) n c)),
     )
 
 -- The rows of one pivot
-
-within_ranks : (order : List Item) (top : ℕ) (items : List Item) → AllByRecursion (IsRankedUpTo order top) items → (ranks : List ℕ) × AreRanked order items ranks
-within_ranks order top [] all = ([], tt)
-within_ranks order top (v ∷ items) ((rank, has, most), all) = let (ranks, ranked) = within_ranks order top items all in (rank ∷ ranks, (has, ranked))
-
-pub pivot-ranks : (order : List Item) (pivot : ℕ) (items : List Item) → IsWithinPivot order pivot items → (ranks : List ℕ) × AreRanked order items ranks
-pivot-ranks order zero items within = within_ranks order (length order) items within.ranked
-pivot-ranks order (suc before) items within = within_ranks order (suc before) items within.ranked
 
 module _ (d : Data Item) (order : List Item) (pivot : ℕ) where
   abbrev IsPattern : List Item → List Item → Type 0
@@ -134,7 +130,7 @@ module _ (d : Data Item) (order : List Item) (pivot : ℕ) where
 
         back : IsFrequent d row.pattern row.support × IsWithinPivot order pivot row.pattern → IsGroupRow order d.threshold groups row
         back (frequent, within) =
-            let (ranks, ranked) = pivot-ranks order pivot row.pattern within in
+            let (ranks, ranked) = within-ranks order pivot row.pattern within in
             record {
               ranks = ranks;
               ranked = ranked;

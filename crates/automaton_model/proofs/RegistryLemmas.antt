@@ -5,11 +5,11 @@ use Rattle.std.specs.Prelude.{IsTrue}
 use Rattle.std.specs.List.{AllPairs, Contains, slice_get}
 use Rattle.std.proofs.lemmas.Bool.{cases_lt}
 use Rattle.std.proofs.lemmas.Option.{slice_get_within, get_or_from_slice_get}
-use Rattle.mine_model.proofs.ListLemmas.{Contains-cases, Contains-none, AllPairs-tail, AllPairs-head}
+use Rattle.mine_model.proofs.ListLemmas.{Contains-cases, Contains-none, AllPairs-tail, AllPairs-head, order-same}
+use Rattle.mine_model.proofs.ElementLemmas.{same-some}
 use Rattle.automaton_model.specs.Automata.{Edge, StateValue, Accepts}
 use Rattle.automaton_model.specs.Registry.{AcceptTheSame, IsKeptState, IsRegistry}
-use Rattle.automaton_model.proofs.OrderLemmas.{ordered-same}
-use Rattle.automaton_model.proofs.AutomatonLemmas.{one_of, bools_same, ranks_apart}
+use Rattle.automaton_model.proofs.AutomatonLemmas.{bools_same, ranks_apart}
 
 -- where something is accepted a state stands
 pub stands : (states : List StateValue) (k : ℕ) (ranks : List ℕ) → Accepts states k ranks → (s : StateValue) × (slice_get states k ≡ Some s)
@@ -51,7 +51,7 @@ module _ (states : List StateValue) (registry : IsRegistry states) where
       let also = registry.kept j t q in
       let (ranks, next) = kept.alive e held in
       let (u, f, is, inside, rank, there) = (same (e.rank ∷ ranks)).0 (s, e, p, held, refl, next) in
-      let here : Contains t.edges f = subst (λ (x : StateValue). Contains x.edges f) (one_of u t (slice_get states j) is q) inside in
+      let here : Contains t.edges f = subst (λ (x : StateValue). Contains x.edges f) (same-some u t (slice_get states j) is q) inside in
       let left : e.to < i = kept.back e held in
       let right : f.to < j = also.back f here in
       let (x, x_is) = stands states e.to ranks next in
@@ -67,14 +67,14 @@ module _ (states : List StateValue) (registry : IsRegistry states) where
       accepted : (i : ℕ) (s : StateValue) → slice_get states i ≡ Some s → IsKeptState states i s → (e : Edge) → Contains s.edges e
           → (more : List ℕ) {w : ℕ} → Accepts states i (w ∷ more) → e.rank ≡ w → Accepts states e.to more
       accepted i s p kept e held more (u, f, is, inside, rank, next) same =
-          let here : Contains s.edges f = subst (λ (x : StateValue). Contains x.edges f) (one_of u s (slice_get states i) is p) inside in
+          let here : Contains s.edges f = subst (λ (x : StateValue). Contains x.edges f) (same-some u s (slice_get states i) is p) inside in
           let one : f ≡ e = rank_same s.edges kept.rising f e here held (rank ∙ sym same) in
           subst (λ (x : Edge). Accepts states x.to more) one next
 
   flag_there : (i j : ℕ) (s t : StateValue) → slice_get states i ≡ Some s → slice_get states j ≡ Some t → AcceptTheSame states i j → IsTrue s.accepts → IsTrue t.accepts
   flag_there i j s t p q same accepts =
       let (u, is, also) = (same []).0 (s, p, accepts) in
-      subst (λ (x : StateValue). IsTrue x.accepts) (one_of u t (slice_get states j) is q) also
+      subst (λ (x : StateValue). IsTrue x.accepts) (same-some u t (slice_get states j) is q) also
 
   same_back : (i j : ℕ) → AcceptTheSame states i j → AcceptTheSame states j i
   same_back i j same = λ ranks. ((same ranks).1, (same ranks).0)
@@ -85,7 +85,7 @@ module _ (states : List StateValue) (registry : IsRegistry states) where
       let earlier : (k l : ℕ) (u v : StateValue) → k < bound → l < bound → slice_get states k ≡ Some u → slice_get states l ≡ Some v → AcceptTheSame states k l → k ≡ l = λ k l u v left right is as_well one.
       below bound k l left right u v is as_well one in
       let accepts : s.accepts ≡ t.accepts = bools_same (λ (ranks : List ℕ). Unit {0}) s.accepts t.accepts (flag_there i j s t p q same, flag_there j i t s q p (same_back i j same)) in
-      let edges : s.edges ≡ t.edges = ordered-same (λ (low : Edge) (high : Edge). low.rank < high.rank) (ranks_apart (λ (ranks : List ℕ). Unit {0})) s.edges t.edges
+      let edges : s.edges ≡ t.edges = order-same (λ (low : Edge) (high : Edge). low.rank < high.rank) (ranks_apart (λ (ranks : List ℕ). Unit {0})) s.edges t.edges
       (registry.kept i s p).rising (registry.kept j t q).rising
       (edge_there bound earlier i j s t p q (omega (arith, low)) (omega (arith, high)) same)
       (edge_there bound earlier j i t s q p (omega (arith, high)) (omega (arith, low)) (same_back i j same)) in

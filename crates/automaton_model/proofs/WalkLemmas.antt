@@ -2,40 +2,23 @@
 use Rattle.std.proofs.Common.{◌≡◌, ◌≢◌, ℕ, zero, suc, ◌≤◌, ◌<◌, ◌⊎◌, inl, inr, Some, List, [], ◌∷◌, ◌++◌, map, length, get_or, refl, sym, ap, ◌∙◌, subst, arith, append_assoc}
 use Rattle.std.specs.Prelude.{IsTrue}
 use Rattle.std.specs.List.{AllPairs, AllZip, Contains, slice_get}
-use Rattle.std.specs.Ordering.{nat_cmp, ordering_then}
-use Rattle.std.specs.Cmp.{nat_cmp_is}
-use Rattle.std.specs.Cmp.Lexicographic.{slice_cmp}
-use Rattle.std.specs.declared.cmp.Ordering.{Ordering}
-use Rattle.std.specs.declared.cmp.Ordering.TheVariants.{Less, Equal}
-use Rattle.std.proofs.lemmas.List.{append-nil}
+use Rattle.std.proofs.lemmas.List.{append-nil, append_cancel_left}
 use Rattle.std.proofs.lemmas.Bool.{cases_lt}
 use Rattle.std.proofs.lemmas.Option.{slice_get_within, get_or_from_slice_get, slice_get-get_or}
 use Rattle.mine_model.proofs.ListLemmas.{Contains-cases, Contains-first, Contains-other, Contains-none, Contains-by, Contains-from, AllPairs-tail, AllPairs-head, AllPairs-append}
-use Rattle.mine_model.proofs.ElementLemmas.{get-held}
+use Rattle.mine_model.proofs.ElementLemmas.{get-held, same-some}
+use Rattle.mine_model.specs.Lists.{IsEarlier}
+use Rattle.mine_model.proofs.EarlierLemmas.{prefix-earlier, branch-earlier, earlier-itself, earlier-chain, earlier-both}
 use Rattle.std.proofs.lemmas.List.Elements.{Contains-append_left, Contains-append_right, Contains-append_cases}
 use Rattle.std.proofs.lemmas.List.Kept.{AllPairs-cons}
 use Rattle.automaton_model.specs.Automata.{Edge, StateValue, Accepts}
-use Rattle.automaton_model.specs.Codes.{IsEarlier, IsPrefixIn, AreNerodeEquivalent, IsFirstVisit, Leads, IsStateAfter, IsMinimalAutomaton}
+use Rattle.automaton_model.specs.Codes.{IsPrefixIn, AreNerodeEquivalent, IsFirstVisit, Leads, IsStateAfter, IsMinimalAutomaton}
 use Rattle.automaton_model.specs.Registry.{IsRegistry}
 use Rattle.automaton_model.specs.Walks.{Reaches, Path, PartsBefore, IsVisited, IsAheadOn, IsWalk, paths_from, IsRenumberedEdge, IsRenumbered}
 use Rattle.automaton_model.proofs.ZipLemmas.{zip-first, zip-second}
-use Rattle.automaton_model.proofs.OrderLemmas.{earlier-itself, earlier-both, earlier-chain}
-use Rattle.automaton_model.proofs.AutomatonLemmas.{one_of}
 use Rattle.automaton_model.proofs.RegistryLemmas.{rank_same, registry-same, stands}
 
 -- The order of prefixes
-
-same_start : (x : ℕ) (xs ys : List ℕ) → IsEarlier xs ys → IsEarlier (x ∷ xs) (x ∷ ys)
-same_start x xs ys e = subst (λ (o : Ordering). ordering_then o (slice_cmp nat_cmp xs ys) ≡ Less) (nat_cmp_is x x Equal refl) e
-
-pub prefix-earlier : (q : List ℕ) (w : ℕ) (more : List ℕ) → IsEarlier q (q ++ w ∷ more)
-prefix-earlier [] w more = refl
-prefix-earlier (x ∷ q) w more = same_start x q (q ++ w ∷ more) (prefix-earlier q w more)
-
-pub branch-earlier : (q : List ℕ) (w v : ℕ) (more others : List ℕ) → w < v → IsEarlier (q ++ w ∷ more) (q ++ v ∷ others)
-branch-earlier [] w v more others less =
-    subst (λ (o : Ordering). ordering_then o (slice_cmp nat_cmp more others) ≡ Less) (nat_cmp_is w v Less less) refl
-branch-earlier (x ∷ q) w v more others less = same_start x (q ++ w ∷ more) (q ++ v ∷ others) (branch-earlier q w v more others less)
 
 -- what goes on from a prefix does not come before it
 pub not_before : (q more : List ℕ) → IsEarlier (q ++ more) q → ⊥
@@ -64,10 +47,6 @@ cut_cases (x ∷ xs) ys (u ∷ us) vs same =
       | inr two ↦ (let (r, t, is) = two in inr (r, t, (λ i. first i ∷ is i)))
     ]
 
-cut_off : (common us vs : List ℕ) → common ++ us ≡ common ++ vs → us ≡ vs
-cut_off [] us vs same = same
-cut_off (x ∷ common) us vs same = let rest : common ++ us ≡ common ++ vs = cc in cut_off common us vs rest
-
 module _ (states : List StateValue) (registry : IsRegistry states) where
   -- Paths
 
@@ -82,7 +61,7 @@ module _ (states : List StateValue) (registry : IsRegistry states) where
   -- one edge for each rank
   pub edge_one : (i : ℕ) (s t : StateValue) (e f : Edge) → slice_get states i ≡ Some s → slice_get states i ≡ Some t → Contains s.edges e → Contains t.edges f → e.rank ≡ f.rank → e ≡ f
   edge_one i s t e f p q here there same =
-      let moved : Contains s.edges f = subst (λ (x : StateValue). Contains x.edges f) (one_of t s (slice_get states i) q p) there in
+      let moved : Contains s.edges f = subst (λ (x : StateValue). Contains x.edges f) (same-some t s (slice_get states i) q p) there in
       rank_same states registry s.edges (registry.kept i s p).rising e f here moved same
 
   accepts-after : (xs ys : List ℕ) (i j : ℕ) → Reaches states i xs j → Accepts states i (xs ++ ys) → Accepts states j ys
@@ -168,7 +147,7 @@ module _ (states : List StateValue) (registry : IsRegistry states) where
             | inl one ↦ (let (t, is, tail) = one in
                 circle (t ++ p.low ∷ p.left) (p.first_is ∙ ap (λ l. l ++ p.low ∷ p.left) is ∙ append_assoc visit.prefix t (p.low ∷ p.left)))
             | inr two ↦ (let (r, t, is) = two in
-                let tail : (r ∷ t) ++ u ≡ p.high ∷ p.right = cut_off p.common ((r ∷ t) ++ u) (p.high ∷ p.right)
+                let tail : (r ∷ t) ++ u ≡ p.high ∷ p.right = append_cancel_left p.common ((r ∷ t) ++ u) (p.high ∷ p.right)
                 (sym (append_assoc p.common (r ∷ t) u) ∙ ap (λ l. l ++ u) (sym is) ∙ sym cut ∙ p.second_is) in
                 let rank : r ≡ p.high = cc in
                 let less : p.low < r = omega (arith, p.less, rank) in
@@ -339,7 +318,7 @@ module _ (states : List StateValue) (registry : IsRegistry states) where
                 → IsVisited (visits ++ path ∷ []) to ⊎ IsAheadOn states (kids ++ waiting) prefix to
             onward prefix to [] cut rest = inl (path, now_seen, rest)
             onward prefix to (w ∷ more) cut (t, edge, also, inside, rank, next) =
-                let held : Contains s.edges edge = subst (λ (x : StateValue). Contains x.edges edge) (one_of t s (slice_get states path.state) also is) inside in
+                let held : Contains s.edges edge = subst (λ (x : StateValue). Contains x.edges edge) (same-some t s (slice_get states path.state) also is) inside in
                 inr (
                   record { prefix = path.prefix ++ edge.rank ∷ []; state = edge.to },
                   more,
@@ -458,7 +437,7 @@ module _ (states : List StateValue) (registry : IsRegistry states) where
           }
         where
           flag_back : Accepts states visit.state [] → IsTrue new_state.accepts
-          flag_back (t, also, accepts) = subst IsTrue (sym is.accepts) (subst (λ (x : StateValue). IsTrue x.accepts) (one_of t is.old (slice_get states visit.state) also is.old_is) accepts)
+          flag_back (t, also, accepts) = subst IsTrue (sym is.accepts) (subst (λ (x : StateValue). IsTrue x.accepts) (same-some t is.old (slice_get states visit.state) also is.old_is) accepts)
 
           on : (e : Edge) → Contains is.old.edges e → Reaches states root (visit.prefix ++ e.rank ∷ []) e.to
           on e inside = reaches-join visit.prefix (e.rank ∷ []) root visit.state e.to (walk.visited visit held) (is.old, e, is.old_is, inside, refl, refl)
@@ -481,7 +460,7 @@ module _ (states : List StateValue) (registry : IsRegistry states) where
           back : (edge : Edge) → Leads Member prefixes visit.prefix edge → Contains new_state.edges edge
           back edge leads =
               let (t, e, also, inside, rank, accepts) = accepts-after visit.prefix (edge.rank ∷ leads.more) root visit.state (walk.visited visit held) leads.begins in
-              let old_one : Contains is.old.edges e = subst (λ (x : StateValue). Contains x.edges e) (one_of t is.old (slice_get states visit.state) also is.old_is) inside in
+              let old_one : Contains is.old.edges e = subst (λ (x : StateValue). Contains x.edges e) (same-some t is.old (slice_get states visit.state) also is.old_is) inside in
               let (f, new_one, renumbered) = zip-first (IsRenumberedEdge visits) is.old.edges new_state.edges is.edges e old_one in
               let (v, v_at, v_is) = visit_at edge.to leads.first leads.numbered in
               let v_reached : Reaches states root leads.first v.state = subst (λ l. Reaches states root l v.state) v_is (walk.visited v (get-held visits edge.to v v_at)) in

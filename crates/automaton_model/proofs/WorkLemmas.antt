@@ -10,15 +10,16 @@ use Rattle.mine_model.specs.Support.{Sequence}
 use Rattle.mine_model.specs.Answer.{Data}
 use Rattle.mine_model.specs.Pivots.{IsAliveLabel}
 use Rattle.mine_model.proofs.ListLemmas.{Contains-cases, Contains-none, Contains-first, Contains-other, Contains-by, Contains-from, AllPairs-append, AllPairs-tail, AllPairs-head}
+use Rattle.mine_model.specs.Lists.{IsEarlier}
+use Rattle.mine_model.proofs.EarlierLemmas.{earlier-itself}
+use Rattle.mine_model.proofs.RankedLemmas.{within-ranks}
 use Rattle.automaton_model.specs.declared.groups.Group.{Group}
-use Rattle.automaton_model.specs.Codes.{IsEarlier}
 use Rattle.automaton_model.specs.Members.{IsPivotMember, IsPivotCode}
 use Rattle.automaton_model.specs.Groups.{AreGroupsOfPivot}
 use Rattle.automaton_model.specs.Work.{CodeOfPart, IsCounted, IsAutomatonWork, pairs_of}
-use Rattle.automaton_model.proofs.OrderLemmas.{earlier-itself}
-use Rattle.automaton_model.proofs.PivotLemmas.{pivot-ranks, one_code}
+use Rattle.automaton_model.proofs.PivotLemmas.{one_code}
 
-sequence_is : (sequences : List (Sequence Item)) (s : Sequence Item) → Contains sequences s → (i : ℕ) × (i < length sequences) × (sequence_at sequences i ≡ s)
+pub sequence_is : (sequences : List (Sequence Item)) (s : Sequence Item) → Contains sequences s → (i : ℕ) × (i < length sequences) × (sequence_at sequences i ≡ s)
 sequence_is sequences s (k, inside, is) =
     (k, inside, get_or_from_slice_get sequences k s (record { items = []; weight = 0 }) (slice_get-get_or sequences k s inside ∙ ap (λ (x : Sequence Item). Some x) is))
 
@@ -33,7 +34,7 @@ module _ (d : Data Item) (order : List Item) where
       let is = are.are.group group held in
       let (i, inside, same) = Contains-from (λ i. sequence_at d.sequences i) are.numbers is.one is.held in
       let (below, (pattern, generated, within)) = (are.of_pivot.exact i).0 inside in
-      let (ranks, ranked) = pivot-ranks order pivot pattern within in
+      let (ranks, ranked) = within-ranks order pivot pattern within in
       record {
         least = least;
         alive = alive;

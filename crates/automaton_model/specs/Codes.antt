@@ -2,14 +2,8 @@
 -- theorem of Myhill and Nerode. They are numbered as a depth-first walk by rising rank comes to them.
 use Rattle.std.specs.Prelude.{◌≡◌, ℕ, ◌<◌, ◌⊎◌, ◌↔◌, IsTrue, List, [], ◌∷◌, ◌++◌, Some, slice_get, AllPairs, Contains}
 use Rattle.std.specs.List.{AllZip}
-use Rattle.std.specs.Ordering.{nat_cmp}
-use Rattle.std.specs.Cmp.Lexicographic.{slice_cmp}
-use Rattle.std.specs.declared.cmp.Ordering.TheVariants.{Less}
 use Rattle.automaton_model.specs.Automata.{Edge, StateValue, code_of}
-
--- the first list comes earlier: rank by rank, a proper prefix first
-abbrev pub IsEarlier : List ℕ → List ℕ → Type 0
-IsEarlier first second = slice_cmp nat_cmp first second ≡ Less
+use Rattle.mine_model.specs.Lists.{IsEarlier}
 
 -- the list begins a member of the set; the empty one is where each walk begins, even if there is no member
 abbrev pub IsPrefixIn : (List ℕ → Type 0) → List ℕ → Type 0

@@ -9,9 +9,9 @@ use Rattle.mine_model.specs.Pivots.{IsWithinPivot}
 use Rattle.mine_model.specs.Ranks.{AreRanked}
 use Rattle.mine_model.specs.Numbered.{PatternsDiffer}
 use Rattle.mine_model.specs.Database.{sequence_at}
+use Rattle.mine_model.specs.Lists.{IsEarlier}
 use Rattle.automaton_model.specs.declared.groups.Group.{Group}
 use Rattle.automaton_model.specs.Automata.{StateValue, Accepts, code_of}
-use Rattle.automaton_model.specs.Codes.{IsEarlier}
 use Rattle.automaton_model.specs.Members.{IsPivotCode}
 
 -- some of the sequences have the code, and they weigh so much

@@ -2,7 +2,7 @@
 use Rattle.std.specs.Prelude.{◌≡◌, ◌≢◌, ℕ, ◌<◌, ◌⊎◌, ◌==◌, false, List, [], ◌∷◌, ◌++◌, map, Some, slice_get, AllPairs, Contains}
 use Rattle.std.specs.List.{AllZip, position_or_len}
 use Rattle.automaton_model.specs.Automata.{Edge, StateValue}
-use Rattle.automaton_model.specs.Codes.{IsEarlier}
+use Rattle.mine_model.specs.Lists.{IsEarlier}
 
 -- edges with these ranks lead from the one state to the other
 abbrev pub Reaches : List StateValue → ℕ → List ℕ → ℕ → Type 0

@@ -9,6 +9,7 @@ use Rattle.mine_model.proofs.RankLemmas.{HasRank-most}
 use Rattle.mine_model.proofs.RankedLemmas.{item_rank}
 use Rattle.mining_job.specs.Problems.{Problem, data_of, items_of}
 use Rattle.snapshot_project.specs.Extensions.{GeneratesWithin}
+use Rattle.snapshot_project.proofs.BoundLemmas.{within-pivot}
 use Rattle.automaton_model.specs.Automata.{StateValue, Accepts}
 use Rattle.automaton_model.specs.Members.{IsPivotMember}
 use Rattle.candidate_graph.specs.Graphs.{Node}
@@ -16,7 +17,6 @@ use Rattle.candidate_graph.specs.Paths.{Accepts as IsPath}
 use Rattle.candidate_states.specs.Roots.{HasPivot, IsPivotRootOf}
 use Rattle.cand_automaton.specs.Roots.{IsRootFor}
 use Rattle.cand_automaton.specs.Wholes.{part_alone}
-use Rattle.cand_automaton.proofs.RootLemmas.{within-pivot}
 
 -- ---- ranks up to a pivot
 

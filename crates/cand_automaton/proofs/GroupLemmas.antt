@@ -1,6 +1,6 @@
 -- Groups of a part, and what they weigh.
-use Rattle.std.proofs.Common.{◌≡◌, ◌≢◌, ℕ, ◌+◌, ◌*◌, ◌≤◌, ◌<◌, List, [], ◌∷◌, ◌++◌, length, get_or, sum_by, refl, sym, subst, arith}
-use Rattle.std.specs.List.{All, AllByRecursion, AllPairs, AllZip, Contains}
+use Rattle.std.proofs.Common.{◌≡◌, ℕ, ◌+◌, ◌*◌, ◌≤◌, ◌<◌, List, [], ◌∷◌, ◌++◌, length, get_or, sum_by, refl, sym, subst, arith}
+use Rattle.std.specs.List.{All, AllByRecursion, AllZip, Contains}
 use Rattle.std.proofs.lemmas.List.{length-map}
 use Rattle.std.proofs.lemmas.List.Sums.{sum_by-cons}
 use Rattle.std.proofs.lemmas.List.Elements.{Contains-get_or}
@@ -12,13 +12,11 @@ use Rattle.mine_model.specs.Answer.{Data}
 use Rattle.mine_model.proofs.ListLemmas.{Contains-from, AllByRecursion-from}
 use Rattle.mine_model.proofs.FrequencyLemmas.{Counts-most}
 use Rattle.automaton_model.specs.declared.groups.Group.{Group}
-use Rattle.automaton_model.specs.Codes.{IsEarlier}
 use Rattle.automaton_model.specs.Members.{IsPivotCode}
 use Rattle.snapshot_project.proofs.PartLemmas.{rising-few}
 use Rattle.automaton_model.specs.Groups.{AreGroups, AreOfPivot, grouped, part_of}
 use Rattle.automaton_model.specs.Merges.{IsCodedBy}
-use Rattle.automaton_model.proofs.OrderLemmas.{earlier-itself}
-use Rattle.automaton_model.proofs.PivotLemmas.{one_code}
+use Rattle.automaton_model.proofs.PivotLemmas.{one_code, codes-apart}
 use Rattle.automaton_model.proofs.CountLemmas.{IsIn, groups-sequences}
 use Rattle.cand_automaton.proofs.PartLemmas.{Counts-whole}
 
@@ -40,15 +38,12 @@ grouped-sum (g ∷ groups) =
     omega (arith, first, second, grouped-sum groups)
 
 module _ (d : Data Item) (order : List Item) (pivot : ℕ) (sequences : List (Sequence Item)) (groups : List Group) (are : AreGroups d order pivot sequences groups) where
-  codes-apart : AllPairs (λ (low : Group) (high : Group). low.automaton ≢ high.automaton) groups
-  codes-apart i j e less inside same = earlier-itself (get_or groups i e).automaton (subst (IsEarlier (get_or groups i e).automaton) (sym same) (are.rising i j e less inside))
-
   -- groups weigh no more than their sequences may
   pub groups-most : ((s : Sequence Item) → Contains sequences s → s.weight ≤ most_weight) → sum_by (λ (group : Group). group.count) groups ≤ length sequences * most_weight
   groups-most light =
       let All_codes : List ℕ → Type 0 = λ (code : List ℕ). Unit {0} in
       let whole = Counts-whole All_codes (grouped groups) (λ s held. tt) in
-      let counted = groups-sequences (IsPivotCode d order pivot) (one_code d order pivot) All_codes sequences groups codes-apart (λ group held. (are.group group held).counted)
+      let counted = groups-sequences (IsPivotCode d order pivot) (one_code d order pivot) All_codes sequences groups (codes-apart d order pivot sequences groups are) (λ group held. (are.group group held).counted)
       (sum_by (λ (s : Sequence ℕ). s.weight) (grouped groups)) whole in
       let most = Counts-most (IsIn (IsPivotCode d order pivot) (one_code d order pivot) All_codes groups) most_weight sequences (sum_by (λ (s : Sequence ℕ). s.weight) (grouped groups))
       (λ k e inside. light (get_or sequences k e) (Contains-get_or sequences k e inside)) counted in

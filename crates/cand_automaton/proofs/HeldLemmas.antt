@@ -6,9 +6,8 @@ use Rattle.std.proofs.lemmas.List.Sums.{sum_by-cons}
 use Rattle.std.proofs.lemmas.Option.{slice_get_within, get_or_from_slice_get}
 use Rattle.std.proofs.lemmas.Bool.{eqb-true, eqb-false}
 use Rattle.mine_model.proofs.ListLemmas.{Contains-cases, Contains-none}
-use Rattle.mine_model.proofs.ElementLemmas.{get-some, slice_get-mapped_by}
+use Rattle.mine_model.proofs.ElementLemmas.{get-some, slice_get-mapped_by, same-some}
 use Rattle.automaton_model.specs.Searches.{Load}
-use Rattle.automaton_model.proofs.AutomatonLemmas.{one_of}
 use Rattle.group_search.specs.declared.loads.LoadedState.{LoadedState}
 use Rattle.group_search.specs.Found.{load_of}
 use Rattle.cand_automaton.specs.Loads.{IsLoaded}
@@ -56,7 +55,7 @@ held-at held k state at =
     let state_in : LoadedState → ℕ = λ (x : LoadedState). x.state in
     let below : k < length held = omega (arith, slice_get_within (states_of held) k state at, length-map held state_in) in
     let (one, here) = get-some held k below in
-    (one, here, one_of one.state state (slice_get (states_of held) k) (slice_get-mapped_by state_in held k one here) at)
+    (one, here, same-some one.state state (slice_get (states_of held) k) (slice_get-mapped_by state_in held k one here) at)
 
 none-next : (state : ℕ) (x : LoadedState) (xs : List LoadedState) (load : Load) (test : Bool) → eqb state x.state ≡ test → (test || list_any (eqb state) (states_of xs)) ≡ false
     → Contains (map load_of (x ∷ xs)) load → (list_any (eqb state) (states_of xs) ≡ false → Contains (map load_of xs) load → load.state ≢ state) → load.state ≢ state

@@ -19,7 +19,7 @@ use Rattle.cand_automaton.specs.Roots.{IsRootFor}
 use Rattle.cand_automaton.specs.Loads.{IsLoaded, IsLoadOf, AreLoadsOf}
 use Rattle.cand_automaton.proofs.WeighLemmas.{Weigh-within, Weigh-append, Weigh-more, Weigh-no_more, Counts-split}
 
-abbrev Apart : Load → Load → Type 0
+abbrev pub Apart : Load → Load → Type 0
 Apart first second = first.state ≢ second.state
 
 abbrev weights : List Load → ℕ

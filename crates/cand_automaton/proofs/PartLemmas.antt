@@ -1,10 +1,9 @@
 -- The rows and the sets of one pivot, from the loads of its sequences.
-use Rattle.std.proofs.Common.{◌≡◌, ◌≢◌, ◌↔◌, ◌⊎◌, ℕ, suc, ◌+◌, ◌*◌, ◌≤◌, ◌<◌, inl, inr, Some, List, [], ◌∷◌, map, length, get_or, sum_by, refl, sym, ap, ◌∙◌, subst, arith}
+use Rattle.std.proofs.Common.{◌≡◌, ◌≢◌, ◌↔◌, ◌⊎◌, ℕ, suc, ◌+◌, ◌*◌, ◌≤◌, ◌<◌, inl, inr, List, [], ◌∷◌, map, length, get_or, sum_by, refl, sym, ap, ◌∙◌, subst, arith}
 use Rattle.std.specs.List.{All, AllPairs, AllZip, Contains, slice_get}
 use Rattle.std.proofs.lemmas.List.Sums.{sum_by-cons}
 use Rattle.std.proofs.lemmas.List.Elements.{Contains-get_or}
 use Rattle.std.proofs.lemmas.List.Kept.{AllPairs-cons}
-use Rattle.std.proofs.lemmas.Option.{slice_get-get_or, get_or_from_slice_get}
 use Rattle.mine_model.specs.declared.item.Item.{Item}
 use Rattle.mine_model.specs.declared.row.Row.{Row}
 use Rattle.mine_model.specs.Database.{sequence_at, IsWithinLimits}
@@ -17,10 +16,10 @@ use Rattle.mine_model.specs.Ranks.{AreRanked}
 use Rattle.mine_model.specs.Pivots.{IsWithinPivot, IsAliveLabel}
 use Rattle.mine_model.proofs.ListLemmas.{Contains-cases, Contains-none, Contains-first, Contains-other, Contains-by, Contains-from, AllPairs-tail, AllPairs-head}
 use Rattle.mine_model.proofs.ElementLemmas.{get-some}
-use Rattle.mine_model.proofs.SupportLemmas.{Counts-one}
+use Rattle.mine_model.proofs.SupportLemmas.{Counts-one, Counts-decided}
 use Rattle.mine_model.proofs.FrequencyLemmas.{Counts-by, Counts-most}
 use Rattle.mine_model.proofs.AboveLemmas.{pattern-shorter}
-use Rattle.mine_model.proofs.RankedLemmas.{ranked-same, ranked-length, ranked-bounds}
+use Rattle.mine_model.proofs.RankedLemmas.{ranked-same, ranked-length, ranked-bounds, within-ranks}
 use Rattle.mine_model.proofs.AliveLemmas.{Counts-part}
 use Rattle.automaton_model.specs.Automata.{StateValue, Accepts}
 use Rattle.automaton_model.specs.Codes.{IsCodeOf}
@@ -31,28 +30,21 @@ use Rattle.automaton_model.specs.Searches.{Load, Weigh}
 use Rattle.automaton_model.specs.Work.{CodeOfPart, IsCounted}
 use Rattle.automaton_model.proofs.ZipLemmas.{zip-first, zip-second}
 use Rattle.automaton_model.proofs.AutomatonLemmas.{accepts-decided, code-unique, code-also, equal-codes}
-use Rattle.automaton_model.proofs.CountLemmas.{Counts-decided}
 use Rattle.automaton_model.proofs.NumberLemmas.{state-code}
-use Rattle.automaton_model.proofs.PivotLemmas.{pivot-ranks}
 use Rattle.automaton_model.proofs.RegistryLemmas.{registry-same}
+use Rattle.automaton_model.proofs.WorkLemmas.{sequence_is}
 use Rattle.group_search.specs.Found.{IsLoadedRow, AreLoadedRows}
 use Rattle.group_search.specs.Searched.{AreFinite}
+use Rattle.group_search.proofs.WeighLemmas.{weigh-one}
 use Rattle.cand_automaton.specs.Loads.{AreLoadsOf}
 use Rattle.cand_automaton.specs.Pivots.{AreSetsOfPivots}
-use Rattle.cand_automaton.proofs.WeighLemmas.{Weigh-unique}
-
-abbrev Apart : Load → Load → Type 0
-Apart first second = first.state ≢ second.state
+use Rattle.cand_automaton.proofs.LoadLemmas.{Apart}
 
 zip-long : {X Y : Type 0} (R : X → Y → Type 0) (xs : List X) (ys : List Y) → AllZip R xs ys → length xs ≡ length ys
 zip-long R [] [] zip = refl
 zip-long R [] (y ∷ ys) zip = absurd zip
 zip-long R (x ∷ xs) [] zip = absurd zip
 zip-long R (x ∷ xs) (y ∷ ys) zip = ap suc (zip-long R xs ys zip.1)
-
-sequence-at : (sequences : List (Sequence Item)) (s : Sequence Item) → Contains sequences s → (i : ℕ) × (i < length sequences) × (sequence_at sequences i ≡ s)
-sequence-at sequences s (k, inside, is) =
-    (k, inside, get_or_from_slice_get sequences k s (record { items = []; weight = 0 }) (slice_get-get_or sequences k s inside ∙ ap (λ (x : Sequence Item). Some x) is))
 
 -- what all sequences have, all weigh
 pub Counts-whole : {A : Type 0} (Has : List A → Type 0) (sequences : List (Sequence A)) → ((s : Sequence A) → Contains sequences s → Has s.items)
@@ -105,7 +97,7 @@ module _ (d : Data Item) (order : List Item) (pivot : ℕ) (numbers : List ℕ) 
     weigh-exact ranks n = (
       (λ weigh.
           let (m, counted) = Counts-decided (Member ranks) (part_of d numbers) (decided ranks) in
-          let same : m ≡ n = Weigh-unique (At ranks) loads m n (are.weigh ranks m counted) weigh in
+          let same : m ≡ n = weigh-one (At ranks) loads m n (are.weigh ranks m counted) weigh in
           (part-count ranks n).0 (subst (Counts (Member ranks) (part_of d numbers)) same counted)),
       (λ counted. are.weigh ranks n ((part-count ranks n).1 counted)),
     )
@@ -134,7 +126,7 @@ module _ (d : Data Item) (order : List Item) (pivot : ℕ) (numbers : List ℕ) 
 
     row-back : (row : Row) → IsFrequent d row.pattern row.support × IsWithinPivot order pivot row.pattern → IsLoadedRow order d.threshold states loads row
     row-back row (frequent, over) =
-        let (ranks, ranked) = pivot-ranks order pivot row.pattern over in
+        let (ranks, ranked) = within-ranks order pivot row.pattern over in
         record {
           ranks = ranks;
           ranked = ranked;
@@ -213,7 +205,7 @@ module _ (d : Data Item) (order : List Item) (pivot : ℕ) (numbers : List ℕ) 
         let is = are.each load held in
         let (i, inside, same) = Contains-from (λ i. sequence_at d.sequences i) numbers is.one is.held in
         let (below, (pattern, generated, over)) = (of_pivot.exact i).0 inside in
-        let (ranks, ranked) = pivot-ranks order pivot pattern over in
+        let (ranks, ranked) = within-ranks order pivot pattern over in
         let code : IsPivotCode d order pivot pair.code is.one.items = code-also (Accepts states load.state) (IsPivotMember d order pivot is.one.items) is.root.language pair.code coded in
         let member : IsPivotMember d order pivot is.one.items ranks =
         subst (λ (s : Sequence Item). IsPivotMember d order pivot s.items ranks) (sym same) (record { pattern = pattern; ranked = ranked; generated = generated; within = over }) in (
@@ -235,7 +227,7 @@ module _ (d : Data Item) (order : List Item) (pivot : ℕ) (numbers : List ℕ) 
       | inl same_pivot ↦
           let member : IsPivotMember d order pivot is.one.items is.some = subst (λ p. IsPivotMember d order p is.one.items is.some) same_pivot is.member in
           let coded : IsPivotCode d order pivot pair.code is.one.items = subst (λ p. IsPivotCode d order p pair.code is.one.items) same_pivot is.coded in
-          let (i, below, same) = sequence-at d.sequences is.one is.held in
+          let (i, below, same) = sequence_is d.sequences is.one is.held in
           let here : IsPivotMember d order pivot (sequence_at d.sequences i).items is.some = subst (λ (s : Sequence Item). IsPivotMember d order pivot s.items is.some) (sym same) member in
           let inside : Contains numbers i = (of_pivot.exact i).1 (below, (here.pattern, here.generated, here.within)) in
           let (load, there, root) = are.all (sequence_at d.sequences i) (Contains-by (λ i. sequence_at d.sequences i) numbers i inside) in

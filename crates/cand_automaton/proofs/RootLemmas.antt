@@ -1,10 +1,10 @@
 -- The state of a sequence's candidates, whatever pivot the part is that of.
-use Rattle.std.proofs.Common.{◌≡◌, ◌≢◌, ◌↔◌, ℕ, zero, suc, ◌≤◌, ◌<◌, Option, Some, None, List, [], ◌∷◌, length, refl, sym, ap, ◌∙◌, subst, arith}
+use Rattle.std.proofs.Common.{◌≡◌, ◌≢◌, ◌↔◌, ℕ, ◌≤◌, ◌<◌, Option, Some, List, [], ◌∷◌, length, refl, sym, ap, ◌∙◌, subst, arith}
 use Rattle.std.specs.Prelude.{IfSome, slice_get}
 use Rattle.std.proofs.lemmas.List.{length-map}
 use Rattle.std.proofs.lemmas.Option.{slice_get_within}
 use Rattle.mine_model.specs.declared.item.Item.{Item}
-use Rattle.mine_model.specs.Pivots.{IsWithin, IsWithinPivot}
+use Rattle.mine_model.specs.Pivots.{IsWithin}
 use Rattle.mine_model.proofs.RankedLemmas.{ranked-length}
 use Rattle.mining_job.specs.declared.bound.Bound.{Bound}
 use Rattle.mining_job.specs.Parts.{pivot_of}
@@ -12,6 +12,7 @@ use Rattle.mining_job.specs.Problems.{Problem, data_of, items_of}
 use Rattle.sequence_grids.specs.Grids.{GridList, items_at}
 use Rattle.snapshot_project.specs.Snapshots.{bound_of}
 use Rattle.snapshot_project.specs.Extensions.{GeneratesWithin}
+use Rattle.snapshot_project.proofs.BoundLemmas.{within-pivot}
 use Rattle.automaton_model.specs.Automata.{StateValue, Accepts}
 use Rattle.automaton_model.specs.Codes.{IsCodeOf}
 use Rattle.automaton_model.specs.Members.{IsPivotMember, IsPivotCode}
@@ -22,13 +23,6 @@ use Rattle.graph_order.specs.Orders.{IsSomeGraph}
 use Rattle.candidate_states.specs.Roots.{IsRootOf}
 use Rattle.sequence_candidates.specs.Candidates.{AreCandidates}
 use Rattle.cand_automaton.specs.Roots.{IsRootFor, IsRootWithin, IsCodeWithin}
-
--- the bound of a pivot's part is that of the pivot
-pub within-pivot : (order : List Item) (pivot : Option ℕ) → IfSome pivot (λ rank. 1 ≤ rank) → (items : List Item)
-    → IsWithin order (bound_of (length order) pivot).top (bound_of (length order) pivot).need items ↔ IsWithinPivot order (pivot_of pivot) items
-within-pivot order None least items = ((λ h. h), (λ h. h))
-within-pivot order (Some zero) least items = absurd (omega (arith, least))
-within-pivot order (Some (suc before)) least items = ((λ h. h), (λ h. h))
 
 -- the patterns within the bound are the candidates with the pivot
 member-within : (part : GridList) (items : List Item) (pivot : Option ℕ) → IfSome pivot (λ rank. 1 ≤ rank) → part.bound ≡ bound_of (length part.problem.ranking.order) pivot

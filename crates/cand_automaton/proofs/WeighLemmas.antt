@@ -1,18 +1,9 @@
 -- What loads weigh.
-use Rattle.std.proofs.Common.{◌≡◌, ◌≢◌, ◌↔◌, ℕ, ◌+◌, ◌*◌, ◌≤◌, ◌<◌, inl, inr, List, [], ◌∷◌, ◌++◌, refl, sym, ap, ◌∙◌, subst, arith}
+use Rattle.std.proofs.Common.{◌≡◌, ◌≢◌, ◌↔◌, ℕ, ◌+◌, ◌*◌, ◌≤◌, ◌<◌, inl, inr, List, [], ◌∷◌, ◌++◌, refl, subst, arith}
 use Rattle.std.specs.List.{Contains}
 use Rattle.mine_model.specs.Support.{Sequence, Counts}
 use Rattle.mine_model.proofs.ListLemmas.{Contains-first, Contains-other}
 use Rattle.automaton_model.specs.Searches.{Load, Weigh}
-
--- there is at most one weight
-pub Weigh-unique : (Has : ℕ → Type 0) (loads : List Load) (m n : ℕ) → Weigh Has loads m → Weigh Has loads n → m ≡ n
-Weigh-unique Has [] m n p q = p ∙ sym q
-Weigh-unique Has (load ∷ loads) m n (inl p) (inl q) =
-    p.1.1 ∙ ap (λ k. load.weight + k) (Weigh-unique Has loads p.1.0 q.1.0 p.1.2 q.1.2) ∙ sym q.1.1
-Weigh-unique Has (load ∷ loads) m n (inl p) (inr q) = absurd (q.0 p.0)
-Weigh-unique Has (load ∷ loads) m n (inr p) (inl q) = absurd (p.0 q.0)
-Weigh-unique Has (load ∷ loads) m n (inr p) (inr q) = Weigh-unique Has loads m n p.1 q.1
 
 -- properties that follow from each other at these loads weigh alike
 pub Weigh-within : (Has Also : ℕ → Type 0) (loads : List Load) → ((load : Load) → Contains loads load → Has load.state ↔ Also load.state)

@@ -9,12 +9,12 @@ use Rattle.std.proofs.lemmas.Map.Keys.{IsStrictlyIncreasing-dedup}
 use Rattle.std.proofs.lemmas.List.{append-nil, take_all, get_or-map, length-map, take_more}
 use Rattle.std.proofs.lemmas.List.Elements.{Contains-append_left, Contains-append_right, Contains-append_cases}
 use Rattle.mine_model.proofs.ListLemmas.{Contains-by, Contains-from, Contains-cases, Contains-none, AllPairs-append}
+use Rattle.mine_model.specs.Lists.{IsEarlier}
+use Rattle.mine_model.proofs.EarlierLemmas.{branch-earlier}
 use Rattle.candidate_gen.specs.declared.place.Place.{Place}
 use Rattle.candidate_gen.specs.Paths.{Space}
-use Rattle.candidate_gen.specs.Candidates.{IsEarlier}
 use Rattle.candidate_gen.specs.Places.{Follows, Fits, OnlyEnds, prefix_of}
 use Rattle.candidate_gen.specs.Walk.{IsToCome, IsListed, AreRanksOf}
-use Rattle.candidate_gen.proofs.OrderLemmas.{branch-earlier}
 use Rattle.candidate_gen.proofs.StepLemmas.{cut-at}
 
 -- the path with each of the ranks behind it

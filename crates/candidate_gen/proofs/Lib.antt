@@ -1,5 +1,4 @@
 pub mod PathLemmas
-pub mod OrderLemmas
 pub mod PairLemmas
 pub mod StepLemmas
 pub mod ViewLemmas

@@ -5,12 +5,12 @@ use Rattle.std.proofs.Math.Seq.{drop-cons}
 use Rattle.std.proofs.lemmas.List.{append-nil, take-append-drop, length-append, length-take-le, take-take, take-append-le, take_all, get_or_append_left, get_or-take, get_or_at}
 use Rattle.std.proofs.lemmas.List.Elements.{Contains-append_left, Contains-append_right, Contains-append_cases}
 use Rattle.mine_model.proofs.ListLemmas.{Contains-cases, Contains-first, Contains-none, AllPairs-append}
+use Rattle.mine_model.specs.Lists.{IsEarlier}
+use Rattle.mine_model.proofs.EarlierLemmas.{prefix-earlier, branch-earlier}
 use Rattle.candidate_gen.specs.declared.place.Place.{Place}
 use Rattle.candidate_gen.specs.Paths.{Space}
-use Rattle.candidate_gen.specs.Candidates.{IsEarlier}
 use Rattle.candidate_gen.specs.Places.{Follows, prefix_of, grown, IsBelow, Fits, AreWaiting, IsOf}
 use Rattle.candidate_gen.specs.Walk.{IsToCome, IsListed, Takes}
-use Rattle.candidate_gen.proofs.OrderLemmas.{prefix-earlier, branch-earlier}
 use Rattle.candidate_gen.proofs.PairLemmas.{pairs-front, pairs-across}
 
 -- a list is what stands before a place, the element there, and what stands behind it

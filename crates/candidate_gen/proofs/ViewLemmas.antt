@@ -9,20 +9,13 @@ use Rattle.fst_compile.specs.Transducer.{IsPath}
 use Rattle.mining_job.specs.declared.bound.Bound.{Bound}
 use Rattle.mining_job.specs.Problems.{Problem}
 use Rattle.sequence_grids.specs.Grids.{IsAllowed, HoldsNeeded, Completes, Ends, WritesRank, GridList, items_at, rest_at}
+use Rattle.sequence_grids.proofs.GridLemmas.{allowed-ranked}
 use Rattle.candidate_gen.specs.Paths.{Space, Writes}
 use Rattle.candidate_gen.specs.Views.{IsGridOf, WritesMore, WritesAs}
 
 -- the bound under which any frequent item may be written
 abbrev pub whole_bound : Ranking → Bound
 whole_bound ranking = record { top = length ranking.order; need = None }
-
-allowed-ranked : (ranking : Ranking) (bound : Bound) (output : List Item) → AllByRecursion (IsAllowed ranking bound) output
-    → (ranks : List ℕ) × AreRanked ranking.order output ranks
-allowed-ranked ranking bound [] allowed = ([], tt)
-allowed-ranked ranking bound (v ∷ output) allowed =
-    let (rank, has, few) = allowed.0 in
-    let (ranks, ranked) = allowed-ranked ranking bound output allowed.1 in
-    (rank ∷ ranks, (has, ranked))
 
 ranked-allowed : (ranking : Ranking) (output : List Item) (ranks : List ℕ) → AreRanked ranking.order output ranks
     → AllByRecursion (IsAllowed ranking (whole_bound ranking)) output

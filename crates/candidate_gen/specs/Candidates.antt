@@ -1,20 +1,14 @@
 -- The candidates of a sequence: its patterns of frequent items. From the DESQ article; their order is own.
-use Rattle.std.specs.Prelude.{◌≡◌, ℕ, ◌↔◌, List, AllPairs, Contains}
-use Rattle.std.specs.Ordering.{nat_cmp}
-use Rattle.std.specs.Cmp.Lexicographic.{slice_cmp}
-use Rattle.std.specs.declared.cmp.Ordering.TheVariants.{Less}
+use Rattle.std.specs.Prelude.{ℕ, ◌↔◌, List, AllPairs, Contains}
 use Rattle.mine_model.specs.declared.item.Item.{Item}
 use Rattle.mine_model.specs.Candidates.{IsCandidate}
 use Rattle.mine_model.specs.Ranks.{AreRanked}
+use Rattle.mine_model.specs.Lists.{IsEarlier}
 use Rattle.mining_job.specs.Problems.{Problem, data_of, items_of}
 
 -- a candidate of the sequence with this number
 abbrev pub IsCandidateAt : Problem → ℕ → List Item → Type 0
 IsCandidateAt problem seq pattern = IsCandidate (data_of problem) (items_of problem seq) pattern
-
--- the first list of ranks comes earlier: rank by rank, a proper prefix first
-abbrev pub IsEarlier : List ℕ → List ℕ → Type 0
-IsEarlier first second = slice_cmp nat_cmp first second ≡ Less
 
 -- the lists are exactly the ranks of the candidates of the sequence, rising, so each once
 pub record AreCandidateRanks (problem : Problem) (seq : ℕ) (listed : List (List ℕ)) : Type 0 where

@@ -2,9 +2,9 @@
 use Rattle.std.specs.Prelude.{◌≡◌, ◌≢◌, ℕ, ◌+◌, ◌-◌, ◌^◌, ◌<◌, ◌⊎◌, ◌↔◌, Bool, IsTrue, List, [], ◌∷◌, ◌++◌, length, map, Contains, AllPairs}
 use Rattle.std.specs.List.Sorted.{IsPermutation}
 use Rattle.candidate_gen.specs.declared.place.Place.{Place}
-use Rattle.candidate_gen.specs.Candidates.{IsEarlier}
 use Rattle.candidate_gen.specs.Paths.{Space, Writes}
 use Rattle.candidate_gen.specs.Places.{Follows, FollowsOf, FollowsFound, IsOf, IsPlace, IsBelow, prefix_of}
+use Rattle.mine_model.specs.Lists.{IsEarlier}
 
 -- a path through the whole sequence writes these ranks, and something
 abbrev pub IsWritten : Space → List ℕ → Type 0

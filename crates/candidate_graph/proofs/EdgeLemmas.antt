@@ -6,25 +6,27 @@ use Rattle.std.proofs.lemmas.Option.{same_Some, slice_get_within, get_or_from_sl
 use Rattle.std.proofs.lemmas.List.{length-append, length-take, length-drop}
 use Rattle.std.proofs.lemmas.List.Elements.{Contains-append_cases}
 use Rattle.mine_model.proofs.ListLemmas.{Contains-cases, Contains-none}
-use Rattle.mine_model.proofs.ElementLemmas.{get-some, get-held, get-left, stands_last}
+use Rattle.mine_model.proofs.ElementLemmas.{get-some, get-held, get-left, stands_last, get-place}
 use Rattle.place_walk.specs.declared.stand.Stand.{Stand}
 use Rattle.place_walk.specs.declared.visit.Visit.{Visit}
 use Rattle.place_walk.specs.Courses.{Course}
 use Rattle.place_walk.specs.Stands.{Arrives, IsAt}
 use Rattle.place_walk.specs.Visits.{AreVisits}
+use Rattle.place_walk.specs.Groups.{IsMarked}
 use Rattle.stand_sums.specs.declared.aim.Aim.{Aim}
 use Rattle.stand_sums.specs.declared.next_rank.NextRank.{NextRank}
 use Rattle.stand_sums.specs.Aims.{sees}
 use Rattle.stand_sums.specs.Writings.{Ranks, opens, ends, follows}
 use Rattle.stand_sums.specs.Sequences.{HasOne}
 use Rattle.stand_sums.specs.Sums.{stands_among}
+use Rattle.stand_sums.proofs.GroupLemmas.{stands-marked}
 use Rattle.candidate_graph.specs.declared.edge.Edge.{Edge}
-use Rattle.candidate_graph.specs.Courses.{IsMarked, AreStandsOn, IsGround}
+use Rattle.candidate_graph.specs.Courses.{AreStandsOn, IsGround}
 use Rattle.candidate_graph.specs.Graphs.{Standpoint, point_behind, LeadsTo, AreEdges}
 use Rattle.candidate_graph.specs.Kept.{AreFound, AreInRun, point_in, IsMade, AreMade}
-use Rattle.candidate_graph.proofs.BasicLemmas.{get-place, get-ranged, ranged-get}
+use Rattle.candidate_graph.proofs.BasicLemmas.{get-ranged, ranged-get}
 use Rattle.candidate_graph.proofs.FoundLemmas.{in-long}
-use Rattle.candidate_graph.proofs.PointLemmas.{at-marked, next-on}
+use Rattle.candidate_graph.proofs.PointLemmas.{next-on}
 
 -- ---- one edge more
 
@@ -95,7 +97,7 @@ made-one now aim run next number seen stands seen_is stands_is at = record {
 module _ (ranks : Ranks) (aim : Aim) (end : ℕ) (visits : List Visit) (found : List NextRank) (run : List Stand) (are : AreFound ranks aim end visits found)
     (in-run : AreInRun ranks aim visits found run) where
   pub run-marked : (next : NextRank) → Contains found next → IsMarked (slice_range run next.first next.last)
-  run-marked next held = subst IsMarked (sym (in-run next held)) (at-marked (filter (opens ranks aim next.rank) visits))
+  run-marked next held = subst IsMarked (sym (in-run next held)) (stands-marked (filter (opens ranks aim next.rank) visits))
 
   pub run-within : (next : NextRank) → Contains found next → next.first < next.last → next.last ≤ length run
   run-within next held some =

@@ -1,22 +1,22 @@
 -- What follows in one sequence, from sums and files.
-use Rattle.std.proofs.Common.{◌≡◌, ℕ, ◌+◌, ◌-◌, ◌≤◌, ◌<◌, take, drop, ◌&&◌, ◌||◌, ◌==◌, inl, inr, Bool, true, false, true≢false, nat_le, nat_lt, Some, List, [], ◌∷◌, length, map, filter, replicate, refl, sym, ap, ◌∙◌, subst, arith}
+use Rattle.std.proofs.Common.{◌≡◌, ℕ, ◌+◌, ◌-◌, ◌≤◌, ◌<◌, take, drop, ◌==◌, inl, inr, Bool, true, false, true≢false, nat_le, nat_lt, Some, List, [], ◌∷◌, length, map, filter, replicate, refl, sym, ap, ◌∙◌, subst, arith}
 use Rattle.std.specs.List.{All, Contains, slice_get, slice_range}
 use Rattle.std.proofs.lemmas.Bool.{cases_lt, lt-ltb, le-ltb, le-leb}
 use Rattle.std.proofs.lemmas.Option.{slice_get_within, slice_get-get_or}
-use Rattle.std.proofs.lemmas.List.{append-nil, length-map, length-replicate, get_or-replicate}
+use Rattle.std.proofs.lemmas.List.{append-nil, length-replicate, get_or-replicate, nil_from_length}
 use Rattle.std.proofs.lemmas.List.Elements.{All-contains}
-use Rattle.mine_model.proofs.ListLemmas.{Contains-cases, Contains-none, Contains-filter, Contains-by, Contains-from}
-use Rattle.mine_model.proofs.ElementLemmas.{get-some, no_members}
+use Rattle.mine_model.proofs.ListLemmas.{Contains-cases, Contains-none, Contains-filter, Contains-by, Contains-from, all-from}
+use Rattle.mine_model.proofs.ElementLemmas.{get-some, no_members, any-held}
 use Rattle.place_walk.specs.declared.stand.Stand.{Stand}
 use Rattle.place_walk.specs.declared.visit.Visit.{Visit}
 use Rattle.stand_sums.specs.declared.aim.Aim.{Aim}
 use Rattle.stand_sums.specs.declared.next_rank.NextRank.{NextRank}
-use Rattle.stand_sums.specs.Writings.{Ranks, IsReadable, writes, goes_on, stops, opens, ends, follows}
+use Rattle.stand_sums.specs.Writings.{Ranks, IsReadable, opens, ends, follows}
 use Rattle.stand_sums.specs.Sequences.{IsSequence, AreSequences, HasOne, weight_of, all_weighed}
 use Rattle.stand_sums.specs.Sums.{AreLaidOut, Tally, empty_tally, Grows, stands_among, AreCounted, room_for, AreNext, IsTold}
-use Rattle.stand_sums.specs.Files.{stand_at, stands_at, stands_in, stands_of, Filed, unfiled, with_more, HasRoom, IsFull}
+use Rattle.stand_sums.specs.Files.{stands_in, stands_of, Filed, unfiled, with_more, HasRoom, IsFull}
+use Rattle.stand_sums.proofs.WritingLemmas.{laid-forward, at-long, follows-writes}
 use Rattle.candidate_graph.specs.Kept.{AreFound, AreInRun}
-use Rattle.candidate_graph.proofs.BasicLemmas.{all-from, any-held}
 
 -- visits of one sequence, and no other
 pub one-sequence : (visits : List Visit) → IsSequence visits → AreSequences visits (visits ∷ [])
@@ -52,13 +52,6 @@ none-long test visits none =
     ap length (no_members (filter test visits) (λ visit held.
     let (there, passes) = Contains-filter test visits visit held in
     none (visit, there, passes)))
-
-writes-if : (w g s : Bool) → ((w && g) || (w && s)) ≡ true → w ≡ true
-writes-if true g s is = refl
-writes-if false g s is = absurd (true≢false (sym is))
-
-follows-writes : (ranks : Ranks) (aim : Aim) (rank : ℕ) (visit : Visit) → follows ranks aim rank visit ≡ true → writes ranks rank visit ≡ true
-follows-writes ranks aim rank visit is = writes-if (writes ranks rank visit) (goes_on aim rank visit.action) (stops aim rank visit.action) is
 
 same-rank : (one other : ℕ) → (one == other) ≡ true → one ≡ other
 same-rank one other is = grind (arith, is)
@@ -128,10 +121,6 @@ empty-at n rank below =
 
 -- ---- places
 
-laid-forward : (from : ℕ) (found : List NextRank) (end : ℕ) → AreLaidOut from found end → from ≤ end
-laid-forward from [] end same = omega (arith, same)
-laid-forward from (next ∷ found) end (first, forward, others) = let rest = laid-forward next.last found end others in omega (arith, forward, rest)
-
 laid-most : (from : ℕ) (found : List NextRank) (end : ℕ) → AreLaidOut from found end → (next : NextRank) → Contains found next → next.last ≤ end
 laid-most from [] end laid next held = absurd (Contains-none next held)
 laid-most from (first ∷ found) end (begun, forward, others) next held = elim (Contains-cases first found next held) [
@@ -140,14 +129,6 @@ laid-most from (first ∷ found) end (begun, forward, others) next held = elim (
 ]
 
 -- ---- files
-
-no-stands : (stands : List Stand) → length stands ≡ 0 → stands ≡ []
-no-stands [] none = refl
-no-stands (stand ∷ stands) none = absurd (omega (arith, none))
-
-at-long : (visits : List Visit) → length (stands_at visits) ≡ length visits
-at-long [] = refl
-at-long (visit ∷ visits) = let rest : length (map (stand_at false) visits) ≡ length visits = length-map visits (stand_at false) in omega (arith, rest)
 
 module _ (ranks : Ranks) (aim : Aim) (visits : List Visit) where
   -- those of one sequence are all
@@ -181,7 +162,7 @@ module _ (ranks : Ranks) (aim : Aim) (visits : List Visit) where
         let places = (are.right next among).places in
         let nothing' : next.last - next.first ≡ 0 = omega (arith, zero', most, places) in
         let bare : slice_range [] next.first next.last ≡ [] = ap (λ (n : ℕ). let none : List Stand = [] in take n (drop next.first none)) nothing' in
-        let empty : stands_in ranks aim next.rank visits ≡ [] = no-stands (stands_in ranks aim next.rank visits) (omega (arith, zero', most, places, in-long next.rank)) in
+        let empty : stands_in ranks aim next.rank visits ≡ [] = nil_from_length (stands_in ranks aim next.rank visits) (omega (arith, zero', most, places, in-long next.rank)) in
         bare ∙ sym empty
 
     pub files-within : All (λ next. next.rank < end) found
@@ -220,6 +201,6 @@ module _ (ranks : Ranks) (aim : Aim) (visits : List Visit) where
           | inl kept ↦ subst (λ (f : Filed). slice_range run f.first f.last ≡ f.stands) (kept-one next kept) fact
           | inr none ↦
               let bare : slice_range run next.first next.last ≡ [] = subst (λ (f : Filed). slice_range run f.first f.last ≡ f.stands) (bare-one next none) fact in
-              let empty : stands_in ranks aim next.rank visits ≡ [] = no-stands (stands_in ranks aim next.rank visits) (omega (arith, places, none, in-long next.rank)) in
+              let empty : stands_in ranks aim next.rank visits ≡ [] = nil_from_length (stands_in ranks aim next.rank visits) (omega (arith, places, none, in-long next.rank)) in
               bare ∙ sym empty
         ]

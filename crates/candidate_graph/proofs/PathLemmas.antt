@@ -1,9 +1,10 @@
 -- Paths of the graph are the candidates.
-use Rattle.std.proofs.Common.{◌≡◌, ◌↔◌, ℕ, ◌≤◌, ◌<◌, ◌||◌, ◌⊎◌, inl, inr, Bool, true, false, IsTrue, Option, Some, List, [], ◌∷◌, filter, get_or, refl, sym, ap, ◌∙◌, subst, arith}
+use Rattle.std.proofs.Common.{◌≡◌, ◌↔◌, ℕ, ◌≤◌, ◌<◌, ◌⊎◌, inl, inr, Bool, true, IsTrue, Option, Some, List, [], ◌∷◌, filter, get_or, refl, sym, ap, ◌∙◌, subst, arith}
 use Rattle.std.specs.List.{AllPairs, Contains, slice_get}
-use Rattle.std.proofs.lemmas.Bool.{cases_lt}
+use Rattle.std.proofs.lemmas.Bool.{cases_lt, or_left, or_right}
 use Rattle.std.proofs.lemmas.Option.{same_Some, slice_get_within, get_or_from_slice_get}
 use Rattle.mine_model.proofs.ListLemmas.{Contains-cases, Contains-first, Contains-none, Contains-filter, filter-Contains}
+use Rattle.mine_model.proofs.ElementLemmas.{get-place, get-from}
 use Rattle.walk_memo.specs.declared.action.Action.{Action}
 use Rattle.place_walk.specs.declared.stand.Stand.{Stand}
 use Rattle.place_walk.specs.declared.visit.Visit.{Visit}
@@ -15,28 +16,17 @@ use Rattle.stand_sums.specs.Aims.{sees}
 use Rattle.stand_sums.specs.Writings.{Ranks, opens, ends}
 use Rattle.stand_sums.specs.Sequences.{HasOne}
 use Rattle.stand_sums.specs.Files.{stand_at, stands_in}
+use Rattle.stand_sums.proofs.WritingLemmas.{bare}
 use Rattle.candidate_graph.specs.declared.edge.Edge.{Edge}
 use Rattle.candidate_graph.specs.Courses.{Courses, course_in}
 use Rattle.candidate_graph.specs.Graphs.{Standpoint, Node, points_of, aim_at, point_behind, AreEdges, IsGraph, IsWhole}
 use Rattle.candidate_graph.specs.Paths.{step_to, CanWrite, HasEdge, Accepts}
-use Rattle.candidate_graph.proofs.BasicLemmas.{get-from, get-place}
 use Rattle.candidate_graph.proofs.PointLemmas.{at-from, at-by, visit-is, visit-more, visit-behind, on-rising}
 
 -- what a visit writes hangs on its kind and its action
 tests-same : (test : Visit → Bool) (by : ℕ → Action → Bool) → ((visit : Visit) → test visit ≡ by visit.kind visit.action) → (one other : Visit) → one.kind ≡ other.kind
     → one.action ≡ other.action → test one ≡ test other
 tests-same test by is one other kind action = is one ∙ ap (λ (k : ℕ). by k one.action) kind ∙ ap (by other.kind) action ∙ sym (is other)
-
-abbrev bare : ℕ → Action → Visit
-bare kind action = record { place = 0; kind = kind; action = action; first = false }
-
-or-left : (o e : Bool) → o ≡ true → (o || e) ≡ true
-or-left true e is = refl
-or-left false e is = absurd (let no' : false ≡ true = is in cc)
-
-or-right : (o e : Bool) → e ≡ true → (o || e) ≡ true
-or-right true e is = refl
-or-right false e is = is
 
 -- the only stand
 stands-one : (one stand : Stand) → Contains (one ∷ []) stand → stand ≡ one
@@ -74,13 +64,13 @@ module _ (each : (course : Course) (stands : List Stand) (place kind : ℕ) (act
 
     ends-forth : (visit : Visit) → Contains are.visits visit → rest ≡ [] → ends ranks aim' rank visit ≡ true → Behind
     ends-forth visit held none passes =
-        let (edge, in', is) = are.all rank (visit, held, or-right (opens ranks aim' rank visit) (ends ranks aim' rank visit) passes) in
+        let (edge, in', is) = are.all rank (visit, held, or_right (opens ranks aim' rank visit) (ends ranks aim' rank visit) passes) in
         let has : HasOne (ends ranks aim' edge.rank) are.visits = subst (λ (r : ℕ). HasOne (ends ranks aim' r) are.visits) (sym is) (visit, held, passes) in
         (edge, in', is, inl (none, (are.right edge in').ends.1 has))
 
     opens-forth : (visit : Visit) → Contains are.visits visit → opens ranks aim' rank visit ≡ true → CanWrite courses ranks need (step_to at need rank visit) rest → Behind
     opens-forth visit held passes can =
-        let (edge, in', is) = are.all rank (visit, held, or-left (opens ranks aim' rank visit) (ends ranks aim' rank visit) passes) in
+        let (edge, in', is) = are.all rank (visit, held, or_left (opens ranks aim' rank visit) (ends ranks aim' rank visit) passes) in
         let all : CanWrite courses ranks need (point_behind ranks aim' rank are.visits) rest =
         write-more (sees aim' rank) (stand_at true visit ∷ []) (stands_in ranks aim' rank are.visits) (λ place state (stand, one, place_is, state_is).
         let same : stand ≡ stand_at true visit = stands-one (stand_at true visit) stand one in

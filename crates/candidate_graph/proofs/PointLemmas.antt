@@ -1,35 +1,26 @@
 -- Stands of longer prefixes, and walks from fewer or more of them.
-use Rattle.std.proofs.Common.{◌≡◌, ◌↔◌, ℕ, zero, suc, ◌+◌, ◌-◌, ◌≤◌, ◌<◌, inl, inr, Bool, true, false, true≢false, IsTrue, Some, List, [], ◌∷◌, ◌++◌, length, map, filter, drop, refl, sym, ap, ◌∙◌, subst, arith}
+use Rattle.std.proofs.Common.{◌≡◌, ◌↔◌, ℕ, zero, suc, ◌+◌, ◌-◌, ◌≤◌, ◌<◌, inl, inr, Bool, true, false, IsTrue, Some, List, [], ◌∷◌, ◌++◌, length, map, filter, drop, refl, sym, ap, ◌∙◌, subst, arith}
 use Rattle.std.specs.List.{All, AllPairs, Contains, slice_get}
 use Rattle.std.proofs.lemmas.Bool.{cases_lt}
 use Rattle.std.proofs.lemmas.Option.{same_Some, slice_get_within}
 use Rattle.std.proofs.lemmas.List.{append-nil, length-drop, length-append}
 use Rattle.std.proofs.lemmas.List.Kept.{AllPairs-filter}
-use Rattle.mine_model.proofs.ListLemmas.{Contains-cases, Contains-first, Contains-other, Contains-none, AllPairs-head, AllPairs-tail, Contains-filter, Contains-by, Contains-from}
+use Rattle.mine_model.proofs.ListLemmas.{Contains-cases, Contains-first, Contains-other, Contains-none, AllPairs-head, AllPairs-tail, Contains-filter, Contains-by, Contains-from, all-from, pairs-mapped}
+use Rattle.mine_model.proofs.ElementLemmas.{get-from}
 use Rattle.walk_memo.specs.declared.action.Action.{Action}
 use Rattle.place_walk.specs.declared.stand.Stand.{Stand}
 use Rattle.place_walk.specs.declared.visit.Visit.{Visit}
 use Rattle.place_walk.specs.Courses.{Course}
 use Rattle.place_walk.specs.Stands.{StandsAt, Arrives}
 use Rattle.place_walk.specs.Visits.{IsVisit, IsBefore, AreVisits, AreVisitsOf}
-use Rattle.place_walk.specs.Groups.{AreGroups, AreWalked}
+use Rattle.place_walk.specs.Groups.{AreGroups, AreWalked, IsMarked}
 use Rattle.stand_sums.specs.declared.aim.Aim.{Aim}
 use Rattle.stand_sums.specs.Writings.{Ranks, IsReadable, opens}
 use Rattle.stand_sums.specs.Files.{stand_at, stands_at, stands_in}
-use Rattle.candidate_graph.specs.Courses.{IsLower, IsMarked, AreStandsOn, IsGround}
-use Rattle.candidate_graph.proofs.BasicLemmas.{all-from, get-from, pairs-mapped}
-use Rattle.stand_sums.proofs.GroupLemmas.{plain-at}
+use Rattle.candidate_graph.specs.Courses.{IsLower, AreStandsOn, IsGround}
+use Rattle.stand_sums.proofs.GroupLemmas.{stands-marked}
 
 -- ---- the stands behind visits
-
-pub at-marked : (visits : List Visit) → IsMarked (stands_at visits)
-at-marked [] k stand at = absurd (cc)
-at-marked (visit ∷ visits) zero stand at =
-    let first : stand.first ≡ true = ap (λ (s : Stand). s.first) (sym (same_Some (stand_at true visit) stand at)) in
-    ((λ marked. refl), (λ none. first))
-at-marked (visit ∷ visits) (suc k) stand at =
-    let plain = plain-at visits k stand at in
-    ((λ marked. absurd (true≢false (sym marked ∙ plain))), (λ none. absurd (let no' : suc k ≡ 0 = none in omega (arith, no'))))
 
 -- a stand is behind a visit, whatever its mark
 abbrev pub IsBehind : Visit → Stand → Type 0
@@ -83,7 +74,7 @@ module _ (course : Course) (stands : List Stand) (visits : List Visit) (are : Ar
 
     pub next-on : (aim : Aim) (rank : ℕ) → AreStandsOn course (stands_in ranks aim rank visits)
     next-on aim rank = record {
-      marked = at-marked (filter (opens ranks aim rank) visits);
+      marked = stands-marked (filter (opens ranks aim rank) visits);
       rising = at-rising (filter (opens ranks aim rank) visits) (AllPairs-filter IsBefore (opens ranks aim rank) visits are.rising);
       states = all-from (λ (stand : Stand). stand.state < length course.rows) (stands_in ranks aim rank visits) (λ stand held.
           let (visit, in', (place, state)) = behind stand held in

@@ -7,12 +7,11 @@ use Rattle.std.proofs.lemmas.List.{map_push, take_more, drop_more}
 use Rattle.std.proofs.lemmas.Option.{slice_get_within, get_or_from_slice_get}
 use Rattle.mine_model.specs.Names.{AreDistinct}
 use Rattle.mine_model.proofs.ListLemmas.{Contains-first, Contains-other}
-use Rattle.mine_model.proofs.ElementLemmas.{get_snoc}
+use Rattle.mine_model.proofs.ElementLemmas.{get_snoc, get-from}
 use Rattle.place_walk.specs.declared.stand.Stand.{Stand}
-use Rattle.candidate_graph.specs.Courses.{IsMarked}
+use Rattle.place_walk.specs.Groups.{IsMarked}
 use Rattle.candidate_graph.specs.Graphs.{Standpoint}
 use Rattle.candidate_graph.specs.Words.{words_of, key_of, stands_from, point_of, IsKey, points_in}
-use Rattle.candidate_graph.proofs.BasicLemmas.{get-from}
 
 abbrev pub AreSmall : List Stand → Type 0
 AreSmall stands = (stand : Stand) → Contains stands stand → stand.state < 65536

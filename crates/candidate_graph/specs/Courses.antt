@@ -1,5 +1,5 @@
 -- What the paths of one sequence go over, and where they stand.
-use Rattle.std.specs.Prelude.{◌≡◌, ℕ, ◌+◌, ◌^◌, ◌<◌, ◌⊎◌, ◌↔◌, Bool, IsTrue, Some, List, length, All, AllPairs, slice_get, slice_index}
+use Rattle.std.specs.Prelude.{◌≡◌, ℕ, ◌+◌, ◌^◌, ◌<◌, ◌⊎◌, Bool, List, length, All, AllPairs, slice_index}
 use Rattle.state_bits.specs.Members.{Has}
 use Rattle.walk_memo.specs.Moves.{MoveSets}
 use Rattle.walk_places.specs.declared.places.Record.{Record}
@@ -7,6 +7,7 @@ use Rattle.place_walk.specs.declared.stand.Stand.{Stand}
 use Rattle.place_walk.specs.declared.visit.Visit.{Visit}
 use Rattle.place_walk.specs.Courses.{Course, Holds}
 use Rattle.place_walk.specs.Visits.{IsVisit}
+use Rattle.place_walk.specs.Groups.{IsMarked}
 use Rattle.stand_sums.specs.Writings.{Ranks, IsReadable}
 
 -- the rows of all states, the records by place, and the moves of paths that have seen what is needed or not
@@ -24,11 +25,6 @@ course_in courses seen =
 abbrev pub IsLower : Stand → Stand → Type 0
 IsLower one other =
     (one.place < other.place) ⊎ ((one.place ≡ other.place) × (one.state < other.state))
-
--- the first of the stands is marked, and no other
-abbrev pub IsMarked : List Stand → Type 0
-IsMarked stands =
-    (k : ℕ) (stand : Stand) → slice_get stands k ≡ Some stand → IsTrue stand.first ↔ (k ≡ 0)
 
 -- Each stand is there once, in order, so equal sets of them are equal lists; and each can be gone on from.
 pub record AreStandsOn (course : Course) (stands : List Stand) : Type 0 where

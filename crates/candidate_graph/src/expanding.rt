@@ -2,10 +2,11 @@
 
 ghost use Rattle.std.specs.Prelude.{◌≡◌, ℕ, ◌≤◌, ◌<◌, ◌++◌, List, length, Contains, slice_range, OnOk};
 ghost use Rattle.place_walk.specs.Courses.{course_of};
+ghost use Rattle.place_walk.specs.Groups.{IsMarked};
 ghost use Rattle.stand_sums.specs.Aims.{sees as sees_with};
 ghost use Rattle.stand_sums.specs.declared.next_rank.NextRank.{NextRank as Next};
 ghost use Rattle.candidate_graph.specs.declared.edge.Edge.{Edge as Edged};
-ghost use Rattle.candidate_graph.specs.Courses.{IsMarked, AreStandsOn, IsGround};
+ghost use Rattle.candidate_graph.specs.Courses.{AreStandsOn, IsGround};
 ghost use Rattle.candidate_graph.specs.Graphs.{Standpoint, AreEdges};
 ghost use Rattle.candidate_graph.specs.Kept.{point_in, AreMade};
 

@@ -1,8 +1,9 @@
 ghost use Rattle.std.specs.Prelude.{◌≡◌, ℕ, ◌≤◌, ◌<◌, [], ◌∷◌, List, Option, Some, None, length, slice_get, option_map, IfOk, OnOk, OnErr};
 ghost use Rattle.place_walk.specs.Courses.{course_of};
+ghost use Rattle.place_walk.specs.Groups.{IsMarked};
 ghost use Rattle.stand_sums.specs.Writings.{Ranks};
 ghost use Rattle.candidate_graph.specs.declared.edge.Edge.{Edge as Edged};
-ghost use Rattle.candidate_graph.specs.Courses.{Courses, course_in, IsMarked, AreStandsOn, IsGround};
+ghost use Rattle.candidate_graph.specs.Courses.{Courses, course_in, AreStandsOn, IsGround};
 ghost use Rattle.candidate_graph.specs.Graphs.{Node, IsGraph, IsExpanded, Grows};
 
 use super::edge::Edge;

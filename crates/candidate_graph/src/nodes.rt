@@ -1,8 +1,8 @@
 //! Standpoints by number.
 
 ghost use Rattle.std.specs.Prelude.{◌≡◌, ℕ, ◌<◌, ◌⊎◌, [], ◌∷◌, ◌++◌, Some, length, slice_get, option_map, IfOk, OnOk, OnErr};
-ghost use Rattle.candidate_graph.specs.Courses.{IsMarked};
 ghost use Rattle.candidate_graph.specs.Graphs.{Standpoint};
+ghost use Rattle.place_walk.specs.Groups.{IsMarked};
 
 use super::words::{first_place, is_seen, read_stands, write_key};
 use mine_model::NoMemory;

@@ -4,6 +4,7 @@ use Rattle.std.specs.List.{AllPairs, Contains}
 use Rattle.mine_model.specs.Numbers.{IsNumberOf}
 use Rattle.mine_model.proofs.ListLemmas.{Contains-cases, Contains-first, Contains-other, Contains-none, AllPairs-head, AllPairs-tail}
 use Rattle.mine_model.proofs.NumberLemmas.{IsNumberOf-by}
+use Rattle.mine_model.proofs.ElementLemmas.{first-same}
 use Rattle.candidate_graph.specs.declared.edge.Edge.{Edge}
 use Rattle.candidate_graph.specs.Graphs.{Node}
 use Rattle.candidate_graph.specs.Paths.{Accepts}
@@ -13,9 +14,6 @@ use Rattle.candidate_pairs.specs.Paths.{HasPaths, ending, HavePaths}
 use Rattle.candidate_pairs.proofs.NumberLemmas.{number-none, number-one, number-also, number-either}
 
 -- ---- one list
-
-first-same : (r s : ℕ) (xs ys : List ℕ) → r ∷ xs ≡ s ∷ ys → r ≡ s
-first-same r s xs ys same = cc
 
 rest-same : (r s : ℕ) (xs ys : List ℕ) → r ∷ xs ≡ s ∷ ys → xs ≡ ys
 rest-same r s xs ys same = cc

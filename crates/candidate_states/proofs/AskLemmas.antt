@@ -6,7 +6,6 @@ use Rattle.std.proofs.lemmas.Option.{same_Some, slice_get_within, get_or_from_sl
 use Rattle.candidate_graph.specs.declared.edge.Edge.{Edge as Step}
 use Rattle.candidate_graph.specs.Graphs.{Node}
 use Rattle.candidate_graph.specs.Paths.{HasEdge}
-use Rattle.candidate_graph.proofs.BasicLemmas.{get-place}
 use Rattle.candidate_states.specs.declared.asked.Asked.{Asked}
 use Rattle.graph_order.specs.declared.order.Turn.{Turn}
 use Rattle.candidate_states.specs.declared.stages.Stage.{Stage}
@@ -14,6 +13,7 @@ use Rattle.candidate_states.specs.declared.stages.Stage.TheVariants.{Before, Goi
 use Rattle.graph_order.specs.Orders.{HasTurnBefore, AreInOrder}
 use Rattle.candidate_states.specs.Stages.{asked_in, stage_behind, IsAsked, KeepsAsked, IsTarget, IsClosedAt, IsClosed}
 use Rattle.graph_order.proofs.StepLemmas.{no-step}
+use Rattle.mine_model.proofs.ElementLemmas.{get-place}
 
 -- ---- one more
 

@@ -7,11 +7,12 @@ use Rattle.std.proofs.lemmas.List.Elements.{Contains-append_left, Contains-appen
 use Rattle.std.proofs.lemmas.List.Quantifiers.{all_pairs_push}
 use Rattle.std.proofs.lemmas.Option.{same_Some, slice_get_within}
 use Rattle.mine_model.proofs.ListLemmas.{Contains-cases, Contains-first, Contains-none}
+use Rattle.mine_model.proofs.ElementLemmas.{same-some}
 use Rattle.automaton_model.specs.declared.state.Edge.{Edge}
 use Rattle.automaton_model.specs.Automata.{StateValue, Accepts as IsAccepted}
 use Rattle.automaton_model.specs.Registry.{IsKeptState, IsRegistry}
-use Rattle.automaton_model.proofs.AutomatonLemmas.{one_of}
 use Rattle.automaton_model.proofs.LanguageLemmas.{node-stays}
+use Rattle.automaton_model.specs.Walks.{dead_state}
 use Rattle.candidate_graph.specs.declared.edge.Edge.{Edge as Step}
 use Rattle.candidate_graph.specs.Graphs.{Node}
 use Rattle.candidate_graph.specs.Paths.{HasEdge}
@@ -225,9 +226,9 @@ module _ (nodes : List Node) (pivot : ℕ) (states : List StateValue) (asked : L
   -- where it stands it accepts what completes
   module _ (alive : can_end stage ≡ false → length edges ≡ 0 → ⊥) (later : List StateValue) (still : AreNumbered nodes pivot later numbers) (place : ℕ) (at : slice_get later place ≡ Some state') where
     forth : (ranks : List ℕ) → IsAccepted later place ranks → Completes nodes pivot node stage ranks
-    forth [] (s, s_is, accepts) = subst (λ (x : StateValue). IsTrue x.accepts) (one_of s state' (slice_get later place) s_is at) accepts
+    forth [] (s, s_is, accepts) = subst (λ (x : StateValue). IsTrue x.accepts) (same-some s state' (slice_get later place) s_is at) accepts
     forth (rank ∷ rest) (s, edge, s_is, held, rank_is, more) =
-        let inside : Contains edges edge = subst (λ (x : StateValue). Contains x.edges edge) (one_of s state' (slice_get later place) s_is at) held in
+        let inside : Contains edges edge = subst (λ (x : StateValue). Contains x.edges edge) (same-some s state' (slice_get later place) s_is at) held in
         let (step, there, same, found) = linked.each edge inside in
         let (has, most) = (exact step).0 there in
         let one : step.rank ≡ rank = sym same ∙ rank_is in (
@@ -279,28 +280,13 @@ root-there nodes pivot states root at = record {
   );
 }
 
--- a state without edges that does not accept is that of no candidates
-abbrev pub dead : StateValue
-dead = record { accepts = false; edges = [] }
-
-pub dead-kept : (states : List StateValue) → IsKeptState states (length states) dead
-dead-kept states = record {
-  rising = λ i j d less within. absurd (omega (arith, within));
-  back = λ edge held. absurd (Contains-none edge held);
-  alive = λ edge held. absurd (Contains-none edge held);
-}
-
-pub root-dead : (nodes : List Node) (pivot : ℕ) (states : List StateValue) (root : ℕ) → slice_get states root ≡ Some dead → ((list : List ℕ) → Completes nodes pivot 0 Before list → ⊥)
+pub root-dead : (nodes : List Node) (pivot : ℕ) (states : List StateValue) (root : ℕ) → slice_get states root ≡ Some dead_state → ((list : List ℕ) → Completes nodes pivot 0 Before list → ⊥)
     → IsPivotRootOf nodes pivot states root
 root-dead nodes pivot states root at never = record {
-  inside = slice_get_within states root dead at;
+  inside = slice_get_within states root dead_state at;
   language = λ ranks. ((λ accepts. absurd (none ranks accepts)), (λ both. absurd (never ranks ((completes-root nodes pivot ranks).1 both))));
 }
   where
     none : (ranks : List ℕ) → IsAccepted states root ranks → ⊥
-    none [] (s, s_is, accepts) = true≢false (sym (subst (λ (x : StateValue). IsTrue x.accepts) (one_of s dead (slice_get states root) s_is at) accepts))
-    none (rank ∷ rest) (s, edge, s_is, held, rank_is, _) = Contains-none edge (subst (λ (x : StateValue). Contains x.edges edge) (one_of s dead (slice_get states root) s_is at) held)
-
-pub none-numbered : (nodes : List Node) (pivot : ℕ) (states : List StateValue) (numbers : List Numbers) → ((node : ℕ) (stage : Stage) → number_in numbers node stage ≡ None)
-    → AreNumbered nodes pivot states numbers
-none-numbered nodes pivot states numbers none node stage number is = (let never : number_in numbers node stage ≡ None = none node stage in absurd (cc))
+    none [] (s, s_is, accepts) = true≢false (sym (subst (λ (x : StateValue). IsTrue x.accepts) (same-some s dead_state (slice_get states root) s_is at) accepts))
+    none (rank ∷ rest) (s, edge, s_is, held, rank_is, _) = Contains-none edge (subst (λ (x : StateValue). Contains x.edges edge) (same-some s dead_state (slice_get states root) s_is at) held)

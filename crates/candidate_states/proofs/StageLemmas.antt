@@ -6,11 +6,10 @@ use Rattle.std.proofs.lemmas.Bool.{cases_lt, cases_eq}
 use Rattle.std.proofs.lemmas.List.{get_or-take, length-take}
 use Rattle.std.proofs.lemmas.Option.{slice_get_within, slice_get-get_or, get_or_from_slice_get}
 use Rattle.mine_model.proofs.ListLemmas.{Contains-cases, Contains-first, Contains-other, Contains-none}
-use Rattle.mine_model.proofs.ElementLemmas.{get-held}
+use Rattle.mine_model.proofs.ElementLemmas.{get-held, get-place}
 use Rattle.candidate_graph.specs.declared.edge.Edge.{Edge as Step}
 use Rattle.candidate_graph.specs.Graphs.{Node}
 use Rattle.candidate_graph.specs.Paths.{HasEdge, Accepts}
-use Rattle.candidate_graph.proofs.BasicLemmas.{get-place}
 use Rattle.candidate_states.specs.declared.stages.Stage.{Stage}
 use Rattle.candidate_states.specs.declared.stages.Stage.TheVariants.{Before}
 use Rattle.candidate_states.specs.Roots.{HasPivot}

@@ -4,18 +4,16 @@ use Rattle.std.specs.List.{AllZip, AllPairs, Contains, slice_get}
 use Rattle.std.proofs.lemmas.Bool.{cases_lt}
 use Rattle.std.proofs.lemmas.Option.{same_Some, slice_get_within, get_or_from_slice_get}
 use Rattle.std.proofs.lemmas.List.{take_more}
-use Rattle.std.proofs.lemmas.Slice.Zip.{AllZip-long}
-use Rattle.mine_model.proofs.ElementLemmas.{get-some}
+use Rattle.std.proofs.lemmas.Slice.Zip.{AllZip-long, all_zipped_more}
+use Rattle.mine_model.proofs.ElementLemmas.{get-some, same-some, get-place}
 use Rattle.automaton_model.specs.declared.state.Edge.{Edge}
 use Rattle.automaton_model.specs.Automata.{StateValue, Accepts as IsAccepted}
 use Rattle.automaton_model.specs.Registry.{IsKeptState, IsRegistry}
-use Rattle.automaton_model.proofs.AutomatonLemmas.{one_of}
 use Rattle.automaton_model.proofs.LanguageLemmas.{node-stays}
 use Rattle.automaton_model.proofs.ZipLemmas.{zip-there, zip-first, zip-second}
 use Rattle.candidate_graph.specs.declared.edge.Edge.{Edge as Step}
 use Rattle.candidate_graph.specs.Graphs.{Node}
 use Rattle.candidate_graph.specs.Paths.{HasEdge, Accepts}
-use Rattle.candidate_graph.proofs.BasicLemmas.{get-place}
 use Rattle.candidate_states.specs.declared.states.Made.{Made}
 use Rattle.graph_order.specs.Orders.{IsSomeGraph}
 use Rattle.candidate_states.specs.Roots.{IsTrim, IsRootOf}
@@ -117,9 +115,9 @@ module _ (nodes : List Node) (states : List StateValue) (made : List Made) (are 
   -- where it stands it accepts what follows
   module _ (place : ℕ) (is : slice_get states place ≡ Some state') where
     forth : (ranks : List ℕ) → IsAccepted states place ranks → Follows nodes number ends ranks
-    forth [] (s, s_is, accepts) = subst (λ (x : StateValue). IsTrue x.accepts) (one_of s state' (slice_get states place) s_is is) accepts
+    forth [] (s, s_is, accepts) = subst (λ (x : StateValue). IsTrue x.accepts) (same-some s state' (slice_get states place) s_is is) accepts
     forth (rank ∷ rest) (s, edge, s_is, held, rank_is, more) =
-        let inside : Contains edges edge = subst (λ (x : StateValue). Contains x.edges edge) (one_of s state' (slice_get states place) s_is is) held in
+        let inside : Contains edges edge = subst (λ (x : StateValue). Contains x.edges edge) (same-some s state' (slice_get states place) s_is is) held in
         let (step, there, moved_is) = zip-second (IsMoved made) steps edges moved edge inside in
         let follows : Follows nodes step.next step.ends rest = ((are step.next step.ends edge.to moved_is.to).language rest).0 more in
         (step, (node, steps, at, known, there, sym moved_is.rank ∙ rank_is), behind nodes step.next step.ends rest follows)
@@ -136,18 +134,12 @@ module _ (nodes : List Node) (states : List StateValue) (made : List Made) (are 
 
 -- ---- step by step
 
-zip-push : {X Y : Type 0} (R : X → Y → Type 0) (xs : List X) (ys : List Y) (x : X) (y : Y) → AllZip R xs ys → R x y → AllZip R (xs ++ x ∷ []) (ys ++ y ∷ [])
-zip-push R [] [] x y all last = (last, tt)
-zip-push R [] (z ∷ ys) x y all last = absurd all
-zip-push R (z ∷ xs) [] x y all last = absurd all
-zip-push R (z ∷ xs) (w ∷ ys) x y all last = (all.0, zip-push R xs ys x y all.1 last)
-
 -- one more is moved
 pub moved-more : (made : List Made) (steps : List Step) (k : ℕ) (edges : List Edge) (edge : Edge) → k < length steps → AllZip (IsMoved made) (take k steps) edges
     → IsMoved made (get_or steps k no-step) edge → AllZip (IsMoved made) (take (k + 1) steps) (edges ++ edge ∷ [])
 moved-more made steps k edges edge inside moved is =
     subst (λ (l : List Step). AllZip (IsMoved made) l (edges ++ edge ∷ [])) (sym (take_more steps k no-step inside))
-    (zip-push (IsMoved made) (take k steps) edges (get_or steps k no-step) edge moved is)
+    (all_zipped_more (IsMoved made) (take k steps) edges (get_or steps k no-step) edge moved is)
 
 -- ---- steps of a node
 

@@ -1,18 +1,18 @@
 -- What is found in options with their values, flags and plain words, each option of which is used once.
-use Rattle.std.proofs.Common.{◌≡◌, ◌≢◌, ◌∙◌, refl, sym, ap, ap₂, subst, ℕ, inl, inr, true, false, Bool, List, [], ◌∷◌, ◌++◌, codes, fold, IfSome, Option, Some, if◌then◌else◌}
+use Rattle.std.proofs.Common.{◌≡◌, ◌≢◌, ◌∙◌, refl, sym, ap, ap₂, subst, ℕ, inl, inr, true, false, Bool, List, [], ◌∷◌, ◌++◌, codes, IfSome, Option, Some, if◌then◌else◌}
 use Rattle.std.specs.Str.{bytes_eq}
 use Rattle.std.specs.List.{AllByRecursion}
 use Rattle.std.proofs.lemmas.Slice.Eq.{bytes_eq-Decides}
 use Rattle.std.proofs.lemmas.List.{append_assoc, append-nil}
 use Rattle.clap.specs.Words.{Kinds, Rule, Text}
 use Rattle.clap.specs.Kinds.{or_else}
-use Rattle.clap.specs.Walk.{Held, Walk, action_of, idle, nothing_held, walked}
+use Rattle.clap.specs.Walk.{Held, Walk, action_of, idle, nothing_held}
 use Rattle.clap.specs.Faults.{walk_fault}
 use Rattle.clap.specs.declared.builder.action.ArgAction.{ArgAction}
 use Rattle.clap.specs.declared.builder.action.ArgAction.TheVariants.{Set, SetTrue, Append}
 use Rattle.command_line.specs.Options.{options, desq}
 use Rattle.command_line.specs.Items.{AreItems, IsEachOnce, IsNameIn, Item, alone, as_they_are, joined, plain, spaced, uses, words_of}
-use Rattle.command_line.proofs.PlainCommand.{top}
+use Rattle.command_line.proofs.PlainCommand.{top, walk_over}
 use Rattle.command_line.proofs.PlainWordLemmas.{between}
 use Rattle.command_line.proofs.Walking.{is_single}
 use Rattle.command_line.proofs.AnyOrder.{Fits, Holds, Takes, Turn, pending_holds, reacted_holds, rule_of, swapped, takes_more, takes_once, values_in, values_in-append}
@@ -292,9 +292,6 @@ away_placed taken word all (one ∷ later) differ away =
 free_more : (taken : Bool) (name value : Text) (all : List (Text × Text)) → IsNamed name → IsFree taken all → IsFree taken (all ++ (name, value) ∷ [])
 free_more false name value all x free = other_use all name value (codes "expression") x.no_expression free
 free_more true name value all x free = tt
-
-abbrev pub walk_over : Walk → List Text → Walk
-walk_over = fold (walked top.rules [])
 
 -- the walk over the words is not refused, and these uses are found in them
 abbrev pub Goes : Walk → List Text → List (Text × Text) → Type 0

@@ -2,6 +2,8 @@
 use Rattle.std.proofs.Common.{◌≡◌, ◌∙◌, ◌&&◌, ◌||◌, refl, ap, ap₂, ℕ, true, false, Bool, List, [], ◌∷◌, ◌++◌, codes, Option, Some, None, if◌then◌else◌, nat_lt}
 use Rattle.std.specs.Str.{bytes_eq}
 use Rattle.std.specs.Option.{option_map_or}
+use Rattle.std.proofs.lemmas.Bool.{and_right}
+use Rattle.std.proofs.Math.Bool.{or-false}
 use Rattle.clap.specs.Words.{Kinds, Rule, Text}
 use Rattle.clap.specs.Kinds.{or_else}
 use Rattle.clap.specs.Lexer.{long_of}
@@ -13,7 +15,7 @@ use Rattle.command_line.proofs.PlainCommand.{top}
 use Rattle.command_line.proofs.PlainWordLemmas.{between, turn_plain, walked_plain}
 use Rattle.command_line.proofs.Walking.{dashes, flag_or_option, is_single}
 use Rattle.command_line.proofs.RefusedWords.{options_single}
-use Rattle.command_line.proofs.RepeatedOptions.{and_off, fault_is, met_is, stood}
+use Rattle.command_line.proofs.RepeatedOptions.{fault_is, met_is, stood}
 use Rattle.command_line.proofs.OptionWords.{strict}
 use Rattle.command_line.proofs.AnyOrder.{Fits, Holds, Takes, Turn, react_clean, rule_of}
 
@@ -138,11 +140,7 @@ module _ (h : Held) (b : Bool) (all : List (Text × Text)) (holds : Holds h all)
   read_word = record (settled top.rules h) { pending = Some (name_at taken, word ∷ []) }
 
   off : (is_pending a h.pending && takes_several a) ≡ false
-  off = and_off (is_pending a h.pending) (takes_several a) x.several
-
-  or_none : (c : Bool) → (c || false) ≡ c
-  or_none true = refl
-  or_none false = refl
+  off = and_right (is_pending a h.pending) (takes_several a) x.several
 
   abbrev shape : Text → Bool → Waiting → ℕ → Bool → Walk
   shape id c waiting n t = record { held = pushed id word (if c then h else settled top.rules h); waiting = waiting; position = n; is_trailing = t; stopped = None }
@@ -154,7 +152,7 @@ module _ (h : Held) (b : Bool) (all : List (Text × Text)) (holds : Holds h all)
       ∙ (ap (λ (id : Text). shape id false (if is_multiple a then positional else idle) (next_position a (position_at taken)) (t || a.trailing_var_arg)) x.same
       ∙ (ap (λ (w : Waiting). shape (name_at taken) false w (next_position a (position_at taken)) (t || a.trailing_var_arg)) x.waits
       ∙ (ap (λ (n : ℕ). shape (name_at taken) false (rests taken) n (t || a.trailing_var_arg)) x.after
-      ∙ ap (λ (c : Bool). shape (name_at taken) false (rests taken) 2 c) (ap (λ (c : Bool). t || c) x.trailing ∙ or_none t)))))
+      ∙ ap (λ (c : Bool). shape (name_at taken) false (rests taken) 2 c) (ap (λ (c : Bool). t || c) x.trailing ∙ or-false t)))))
 
   placed_clean : step_fault top (position_at taken) h value ≡ []
   placed_clean =

@@ -16,8 +16,8 @@ use Rattle.command_line.proofs.PlainWordLemmas.{between, plain_step, walked_plai
 abbrev pub top : Shape
 top = (built desq).top
 
-abbrev walk_on : Walk → List Text → Walk
-walk_on = fold (walked top.rules [])
+abbrev pub walk_over : Walk → List Text → Walk
+walk_over = fold (walked top.rules [])
 
 -- the faults of a parse, by where its walk ends and how
 abbrev pub faults_at : Walk → Kinds → Kinds
@@ -63,8 +63,8 @@ module _ (digits : Text) (p : IsPlainWord digits) where
     abbrev words : List Text
     words = codes "--support" ∷ digits ∷ more
 
-    walk_is : walk top.rules [] nothing_held words ≡ walk_on w2 more
-    walk_is = ap (λ (w : Walk). walk_on (walked top.rules [] w digits) more) first ∙ ap (λ (w : Walk). walk_on w more) second
+    walk_is : walk top.rules [] nothing_held words ≡ walk_over w2 more
+    walk_is = ap (λ (w : Walk). walk_over (walked top.rules [] w digits) more) first ∙ ap (λ (w : Walk). walk_over w more) second
 
     faults2 : walk_fault top [] w1 (digits ∷ more) ≡ walk_fault top [] w2 more
     unfolding options desq
@@ -82,10 +82,10 @@ module _ (digits : Text) (p : IsPlainWord digits) where
     unfolding rows options desq
     rows_are = refl
 
-    faults_end : (w : Walk) → walk_on w2 more ≡ w → walk_fault top [] w2 more ≡ [] → faults words ≡ faults_at w []
+    faults_end : (w : Walk) → walk_over w2 more ≡ w → walk_fault top [] w2 more ≡ [] → faults words ≡ faults_at w []
     faults_end w ends clean = faults_are ∙ ap₂ faults_at (walk_is ∙ ends) (faults1 ∙ clean)
 
-    rows_end : (w : Walk) → walk_on w2 more ≡ w → rows words ≡ finished top.rules w.held
+    rows_end : (w : Walk) → walk_over w2 more ≡ w → rows words ≡ finished top.rules w.held
     rows_end w ends = rows_are ∙ ap (λ (v : Walk). finished top.rules v.held) (walk_is ∙ ends)
 
   module _ (expression file : Text) (n : ℕ) (number : IsNumber 1 most_support digits n) where
@@ -166,7 +166,7 @@ module _ (digits : Text) (p : IsPlainWord digits) where
       unfolding options desq
       fourth = walked_plain top.rules w3.held w3.waiting w3.position file r
 
-      ends : walk_on w2 plain ≡ w4
+      ends : walk_over w2 plain ≡ w4
       ends = ap (λ (w : Walk). walked top.rules [] w file) third ∙ fourth
 
       faults4 : walk_fault top [] w3 (file ∷ []) ≡ []
@@ -187,7 +187,7 @@ module _ (digits : Text) (p : IsPlainWord digits) where
     abbrev b4 : Walk
     b4 = record w4 { is_trailing = true }
 
-    behind_ends : walk_on w2 behind ≡ b4
+    behind_ends : walk_over w2 behind ≡ b4
     unfolding clap_on_literals options desq
     behind_ends = refl
 

@@ -1,8 +1,9 @@
 -- Words in which one option stands twice in front of `--` are refused.
-use Rattle.std.proofs.Common.{◌≡◌, ◌∙◌, ◌⊎◌, ◌&&◌, ◌||◌, refl, sym, ap, subst, ℕ, inl, inr, true, false, true≢false, not, Bool, List, [], ◌∷◌, ◌++◌, fold, Option, Some, None, is_some, if◌then◌else◌}
+use Rattle.std.proofs.Common.{◌≡◌, ◌∙◌, ◌⊎◌, ◌||◌, refl, sym, ap, subst, ℕ, inl, inr, true, false, true≢false, not, Bool, List, [], ◌∷◌, ◌++◌, fold, Option, Some, None, is_some, if◌then◌else◌}
 use Rattle.std.specs.Str.{bytes_eq}
 use Rattle.std.specs.Option.{option_map_or}
 use Rattle.std.proofs.lemmas.Slice.Eq.{bytes_eq-Decides}
+use Rattle.std.proofs.lemmas.Bool.{or_right, and_right}
 use Rattle.clap.specs.Words.{Kinds, Row, Rule, Shape, Text}
 use Rattle.clap.specs.Lexer.{long_of, short_of}
 use Rattle.clap.specs.Walk.{Held, Step, Waiting, Walk, action_of, after_flag, after_step, arg_by_id, arg_by_index, arg_by_long, has_row, idle, is_pending, long_met, long_or_other, more_values, next, nothing_held, option, option_word, plain_word, positional, pushed, reading_by, settled, settled_rows, short_or_plain, started, subcommand, subcommand_or_other, takes_several, takes_values, trailing, used, used_as, used_by_id, value, values_or_missing, walked, with_values, without, word_met}
@@ -24,10 +25,6 @@ nonempty k ks e = cc
 same_id : (id : Text) → bytes_eq id id ≡ true
 same_id id = (bytes_eq-Decides id id).1 refl
 
-or_right : (a b : Bool) → b ≡ true → (a || b) ≡ true
-or_right true b e = refl
-or_right false b e = e
-
 or_map : (a b d : Bool) → (b ≡ true → d ≡ true) → (a || b) ≡ true → (a || d) ≡ true
 or_map true b d f h = refl
 or_map false b d f h = f h
@@ -35,10 +32,6 @@ or_map false b d f h = f h
 or_rest : (a b : Bool) → a ≡ false → (a || b) ≡ true → b ≡ true
 or_rest true b off h = absurd (true≢false off)
 or_rest false b off h = h
-
-pub and_off : (a b : Bool) → b ≡ false → (a && b) ≡ false
-and_off true b off = off
-and_off false b off = refl
 
 -- rows with a value more have its row
 has_added : (id : Text) (how : Reading) (s : ValueSource) (values : List Text) (rows : List Row) → has_row id (with_values id how s values rows) ≡ true
@@ -236,7 +229,7 @@ module _ (s : Shape) (single : AreSingle s.rules) (strict : s.args_override_self
       go : (o : Option Rule) → arg_by_index s.rules position ≡ o → option_map_or (λ a. positional_fault s.rules s.args_override_self a h) o (stray_fault s) ≡ [] → ⊥
       go None e g = stray s.is_leaf g
       go (Some a) e g =
-          let off = and_off (is_pending a h.pending) (takes_several a) (is_false _ (found_has _ (λ r. not (takes_several r)) s.rules a single.several e)) in
+          let off = and_right (is_pending a h.pending) (takes_several a) (is_false _ (found_has _ (λ r. not (takes_several r)) s.rules a single.several e)) in
           settle_refused h q (subst (λ (b : Bool). (if b then [] else settle_fault s.rules s.args_override_self h) ≡ []) off g)
 
   abbrev StandsTwice : Walk → Type 0

@@ -1,7 +1,7 @@
 -- Sums over blocks do not hang on the order of the blocks, and the sum over all blocks is the count of all sequences.
 use Rattle.std.proofs.Common.{◌≡◌, ℕ, zero, suc, ◌+◌, ◌*◌, ◌≤◌, List, [], ◌∷◌, ◌++◌, length, map, take, drop, refl, sym, subst, ap, ◌∙◌, inl, inr, arith, sum_by}
 use Rattle.std.specs.List.{range_with_len}
-use Rattle.std.proofs.lemmas.List.{take-append-drop}
+use Rattle.std.proofs.lemmas.List.{take-append-drop, drop_all}
 use Rattle.std.proofs.lemmas.List.Sums.{sum_by-cons}
 use Rattle.mine_model.specs.declared.item.Item.{Item}
 use Rattle.mine_model.specs.Labels.{SameLabels}
@@ -12,15 +12,9 @@ use Rattle.mining_job.specs.Problems.{Problem}
 use Rattle.count_shards.specs.Blocks.{block_size, sequences_in, block_count, HasCandidate, SumsBy, SumsTo}
 use Rattle.count_shards.specs.Shard.{entry_of}
 
-past_end : {X : Type 0} (n : ℕ) (xs : List X) → length xs ≤ n → drop n xs ≡ []
-past_end zero [] h = refl
-past_end zero (x ∷ xs) h = absurd (omega (arith, h))
-past_end (suc n) [] h = refl
-past_end (suc n) (x ∷ xs) h = past_end n xs (omega (arith, h))
-
 drop_drop : {X : Type 0} (n m : ℕ) (xs : List X) → drop m (drop n xs) ≡ drop (n + m) xs
 drop_drop zero m xs = ap (λ (k : ℕ). drop k xs) (omega arith)
-drop_drop (suc n) m [] = past_end m [] (omega arith) ∙ sym (past_end (suc n + m) [] (omega arith))
+drop_drop (suc n) m [] = drop_all m [] (omega arith) ∙ sym (drop_all (suc n + m) [] (omega arith))
 drop_drop (suc n) m (x ∷ xs) =
     let e : suc (n + m) ≡ suc n + m = omega arith in
     drop_drop n m xs ∙ ap (λ (k : ℕ). drop k (x ∷ xs)) e
@@ -77,7 +71,7 @@ module _ (problem : Problem) (Of : List (Sequence Item) → ℕ → Type 0) (non
   -- the sequences of one block after another, from this one on
   laid : (count from n : ℕ) → length problem.sequences ≤ block_size * (from + count)
       → SumsBy (λ block m. Of (sequences_in problem block) m) (range_with_len from count) n → Of (drop (block_size * from) problem.sequences) n
-  laid zero from n all sums = rw (past_end (block_size * from) problem.sequences (omega (arith, all))) (subst (Of []) (sym sums) none)
+  laid zero from n all sums = rw (drop_all (block_size * from) problem.sequences (omega (arith, all))) (subst (Of []) (sym sums) none)
   laid (suc count) from n all (m, k, here, rest, e) =
       let behind : List (Sequence Item) = drop (block_size * from) problem.sequences in
       let next : drop (block_size * (from + 1)) problem.sequences ≡ drop block_size behind = ap (λ (j : ℕ). drop j problem.sequences) (omega arith) ∙ sym (drop_drop (block_size * from) block_size problem.sequences) in

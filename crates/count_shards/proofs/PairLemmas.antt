@@ -1,11 +1,9 @@
 -- The pairs of a sequence and one of its candidates.
-use Rattle.std.proofs.Common.{◌≡◌, ◌≢◌, ℕ, ◌+◌, List, [], ◌∷◌, ◌++◌, length, get_or, refl, sym, subst, ap, ◌∙◌, arith, true≢false}
-use Rattle.std.specs.Cmp.{tied_itself}
+use Rattle.std.proofs.Common.{◌≡◌, ◌≢◌, ℕ, ◌+◌, List, [], ◌∷◌, ◌++◌, length, get_or, refl, sym, subst, ap, ◌∙◌, arith}
 use Rattle.std.specs.Cmp.Lexicographic.{slice_cmp}
 use Rattle.std.specs.List.{AllPairs, Contains}
-use Rattle.std.specs.Ordering.{nat_cmp, is_eq}
+use Rattle.std.specs.Ordering.{nat_cmp}
 use Rattle.std.specs.declared.cmp.Ordering.TheVariants.{Less}
-use Rattle.std.proofs.lemmas.Cmp.{nat_list_cmp_total}
 use Rattle.mine_model.specs.declared.item.Item.{Item}
 use Rattle.mine_model.specs.Answer.{Data}
 use Rattle.mine_model.specs.Counted.{HasCandidates, HasPairs, told_of}
@@ -13,19 +11,17 @@ use Rattle.mine_model.specs.Ranks.{AreRanked, AreAllRanked}
 use Rattle.mine_model.specs.Support.{Sequence}
 use Rattle.mine_model.proofs.RankedLemmas.{same_ranks}
 use Rattle.mine_model.proofs.ListLemmas.{Contains-first, Contains-other}
+use Rattle.mine_model.specs.Lists.{IsEarlier}
+use Rattle.mine_model.proofs.EarlierLemmas.{earlier-itself}
 use Rattle.mining_job.specs.Problems.{Problem, IsWhole, data_of, items_of}
-use Rattle.candidate_gen.specs.Candidates.{AreCandidateRanks, AreCandidates, IsEarlier, ComesEarlier}
+use Rattle.candidate_gen.specs.Candidates.{AreCandidateRanks, AreCandidates, ComesEarlier}
 use Rattle.candidate_gen.proofs.CandidateLemmas.{patterns-all}
 use Rattle.count_shards.specs.Tallied.{ArePairs}
-
--- a list does not come before itself
-not_earlier : (list : List ℕ) → IsEarlier list list → ⊥
-not_earlier list less = true≢false (sym (ap is_eq (tied_itself nat_list_cmp_total list)) ∙ ap is_eq less)
 
 -- what rises is each once
 pub each_once : (listed : List (List ℕ)) → AllPairs IsEarlier listed → AllPairs (λ first second. first ≢ second) listed
 each_once listed rises i j d before within same =
-    not_earlier (get_or listed i d) (subst (λ xs. slice_cmp nat_cmp (get_or listed i d) xs ≡ Less) (sym same) (rises i j d before within))
+    earlier-itself (get_or listed i d) (subst (λ xs. slice_cmp nat_cmp (get_or listed i d) xs ≡ Less) (sym same) (rises i j d before within))
 
 -- ---- the candidates of a sequence
 
@@ -43,7 +39,7 @@ not_same : (order : List Item) → AllPairs (λ v w. v ≢ w) order → (first s
 not_same order different first second earlier same =
     let (left, right, of_first, of_second, less) = earlier in
     let ranks : right ≡ left = same_ranks order different second right left of_second (subst (λ p. AreRanked order p left) same of_first) in
-    not_earlier left (subst (λ r. IsEarlier left r) ranks less)
+    earlier-itself left (subst (λ r. IsEarlier left r) ranks less)
 
 -- where the lists are the ranks of the candidates of a sequence, it has as many candidates
 pub candidates_listed : (problem : Problem) (seq : ℕ) (listed : List (List ℕ)) → IsWhole problem → AreCandidateRanks problem seq listed

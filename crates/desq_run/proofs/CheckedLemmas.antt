@@ -13,7 +13,7 @@ use Rattle.mine_model.specs.Support.{Sequence}
 use Rattle.mine_model.specs.Text.{lines_of, IsSoundLine}
 use Rattle.mine_model.proofs.ElementLemmas.{flat-held}
 use Rattle.mine_model.proofs.ListLemmas.{Contains-by, AllByRecursion-from, AllByRecursion-contained, AllByRecursion-weaker}
-use Rattle.patex_parser.proofs.RunLemmas.{unfolded_leaves-by}
+use Rattle.mine_model.proofs.NumberingLemmas.{unfolded_leaves-by}
 use Rattle.split_merge.specs.Merging.{IsOutputRow, IsKnownRow}
 use Rattle.proof_names.specs.NamedProofs.{ProofRow, IsGoodProof, IsFullRow, IsProofText}
 use Rattle.proof_names.specs.NamedRefusals.{IsProofFileRefusal}

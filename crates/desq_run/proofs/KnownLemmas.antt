@@ -7,16 +7,13 @@ use Rattle.std.proofs.lemmas.Bool.{cases_Bool}
 use Rattle.std.proofs.lemmas.Bool.Decides.{nat_tests}
 use Rattle.mine_model.specs.Expression.{Tree, tree_by}
 use Rattle.mine_model.specs.Grammar.{Use}
-use Rattle.mine_model.specs.Names.{AreDistinct}
+use Rattle.mine_model.specs.Names.{AreDistinct, IsFileName}
 use Rattle.mine_model.specs.Refusal.{names_of, items_of, sequences_of}
 use Rattle.mine_model.specs.Text.{lines_of, is_name_byte}
 use Rattle.mine_model.specs.Tokens.{Each}
 use Rattle.mine_model.proofs.ListLemmas.{Contains-cases, Contains-none, Contains-from, AllByRecursion-from, AllByRecursion-contained, AllByRecursion-weaker}
 use Rattle.patex_grammar.proofs.RefusalLemmas.{ReadsAs-unique}
 use Rattle.pattern_proof.proofs.FieldLemmas.{file-names}
-use Rattle.proof_names.specs.Numberings.{IsFileName}
-use Rattle.split_merge.proofs.SoundLemmas.{digit-name}
-use Rattle.split_merge.proofs.TextLemmas.{decimal-is}
 use Rattle.made_input.specs.Made.{made_name, made_names}
 use Rattle.made_input.proofs.MakingLemmas.{names-known}
 use Rattle.command_line.specs.Words.{Source, read, embed, make, merge}
@@ -24,6 +21,7 @@ use Rattle.desq_run.specs.Sources.{SaysTree}
 use Rattle.desq_run.specs.Said.{names_said, sequences_said}
 use Rattle.desq_run.specs.Ends.{Input, known_names}
 use Rattle.desq_run.proofs.LinkLemmas.{Contains-both}
+use Rattle.text_ports.proofs.DecimalLemmas.{decimal-is, digit-name}
 
 -- a source says one tree
 pub says-unique : (source : Source) (one other : Tree (List ℕ)) → SaysTree source one → SaysTree source other → one ≡ other

@@ -11,8 +11,8 @@ use Rattle.mine_model.specs.Grammar.{Use, ReadsAs}
 use Rattle.mine_model.specs.Names.{name_of}
 use Rattle.mine_model.specs.First.{FirstOf}
 use Rattle.mine_model.specs.Refusal.{IsExpressionRefusal}
+use Rattle.mine_model.proofs.NumberingLemmas.{unfolded_leaves-by}
 use Rattle.patex_parser.specs.Parsing.{use_at, named_tree}
-use Rattle.patex_parser.proofs.RunLemmas.{unfolded_leaves-by}
 
 -- where nothing is refused first, nothing is refused behind it
 behind : {First Second : Fault → Type 0} → ((fault : Fault) → FirstOf First Second fault → ⊥) → (fault : Fault) → Second fault → ⊥

@@ -21,9 +21,10 @@ use Rattle.mine_model.proofs.ElementLemmas.{flat-cases, flat-held}
 use Rattle.mine_model.proofs.AboveLemmas.{IsAncestor-keeps}
 use Rattle.mine_model.proofs.GenerationLemmas.{Generates-items}
 use Rattle.mine_model.proofs.SupportLemmas.{Counts-some}
+use Rattle.mine_model.specs.Names.{IsFileName}
+use Rattle.mine_model.proofs.FieldLemmas.{pieces-named, texts-named}
 use Rattle.command_line.specs.Words.{Source, read, embed, make, merge}
-use Rattle.split_merge.specs.Merging.{IsNameText, IsOutputRow, IsKnownRow, AreWithinLimits}
-use Rattle.split_merge.proofs.FormLemmas.{pieces-named, texts-named}
+use Rattle.split_merge.specs.Merging.{IsOutputRow, IsKnownRow, AreWithinLimits}
 use Rattle.desq_run.specs.Sources.{IsSourceRefusal, SaysTree}
 use Rattle.desq_run.specs.Said.{names_said, RefusesHierarchy, RefusesSequences}
 use Rattle.desq_run.specs.Ends.{Input, IsDataRefusal, IsRowsRefusal, IsAccepted, input_data}
@@ -73,8 +74,8 @@ sound file number line none fault column has = no_fault line first (suc column) 
     first long_name c is = none (NameTooLong file number c) (c, inr (is, refl))
 
 -- a name of a file: bytes of names, not too many
-abbrev IsFileName : List ℕ → Type 0
-IsFileName name = IsNameText name × (length name ≤ most_name_bytes)
+abbrev IsShortName : List ℕ → Type 0
+IsShortName name = IsFileName name × (length name ≤ most_name_bytes)
 
 held_from : {X Y : Type 0} (f : X → Y) (P : Y → Type 0) (xs : List X) → AllByRecursion P (map f xs) → (x : X) → Contains xs x → P (f x)
 held_from f P [] all x held = absurd (Contains-none x held)
@@ -83,15 +84,15 @@ held_from f P (y ∷ xs) all x held = elim (Contains-cases y xs x held) [
   | inr later ↦ held_from f P xs all.1 x later
 ]
 
-field_name : (line : List ℕ) → IsSoundLine line → (name : List ℕ) → Contains (fields_of line) name → IsFileName name
+field_name : (line : List ℕ) → IsSoundLine line → (name : List ℕ) → Contains (fields_of line) name → IsShortName name
 field_name line is name held =
     let (field, inside, same) = Contains-from (λ (f : Field). f.text) (placed_fields_of line) name held in
-    let text : IsNameText field.text = held_from (λ (f : Field). f.text) IsNameText (placed_fields_of line) (texts-named 1 (pieces_by_blank line) (pieces-named line)) field inside in
+    let text : IsFileName field.text = held_from (λ (f : Field). f.text) IsFileName (placed_fields_of line) (texts-named 1 (pieces_by_blank line) (pieces-named line)) field inside in
     let short : length field.text ≤ most_name_bytes = elim (cases_lt most_name_bytes (length field.text)) [
       | inl long ↦ absurd (is long_name (field.column + most_name_bytes) (field, inside, long, refl))
       | inr most ↦ most
     ] in
-    subst IsFileName (sym same) (text, short)
+    subst IsShortName (sym same) (text, short)
 
 -- The files
 
@@ -103,7 +104,7 @@ module _ (bytes : List ℕ) (none : Nothing (IsHierarchyRefusal bytes)) where
   hierarchy_line front line back cut =
       each_none IsHierarchyLineRefusal [] front line back (subst (λ l. Nothing (FirstAmong IsHierarchyLineRefusal [] l)) cut hierarchy_lines)
 
-  hierarchy_name : (name : List ℕ) → Contains (names_of (lines_of bytes)) name → IsFileName name
+  hierarchy_name : (name : List ℕ) → Contains (names_of (lines_of bytes)) name → IsShortName name
   hierarchy_name name held =
       let (line, inside, part) = flat-cases fields_of (lines_of bytes) name held in
       let (front, back, cut) = cut_at (lines_of bytes) line inside in
@@ -136,7 +137,7 @@ module _ (weighted : Bool) (known : List (List ℕ)) (bytes : List ℕ) (none : 
       by true [] held = held
       by true (digits ∷ items) held = Contains-other digits items name held
 
-  sequence_name : (name : List ℕ) → Contains (items_of (sequences_of weighted bytes)) name → IsFileName name
+  sequence_name : (name : List ℕ) → Contains (items_of (sequences_of weighted bytes)) name → IsShortName name
   sequence_name name held =
       let (s, inside, part) = flat-cases (λ (s : Sequence (List ℕ)). s.items) (sequences_of weighted bytes) name held in
       let (line, at, same) = Contains-from (λ line. sequence_of weighted (fields_of line)) (lines_of bytes) s inside in
@@ -213,7 +214,7 @@ module _ (weighted : Bool) (hierarchy sequences : List ℕ) (threshold : ℕ) (s
   abbrev known : List (List ℕ)
   known = names_of (lines_of hierarchy) ++ items_of (sequences_of weighted sequences)
 
-  known_name : (name : List ℕ) → Contains known name → IsFileName name
+  known_name : (name : List ℕ) → Contains known name → IsShortName name
   known_name name held = elim (Contains-both (names_of (lines_of hierarchy)) (items_of (sequences_of weighted sequences)) name held) [
     | inl front ↦ hierarchy_name hierarchy none name front
     | inr back ↦ sequence_name weighted (names_of (lines_of hierarchy)) sequences also name back
@@ -257,7 +258,7 @@ module _ (weighted : Bool) (hierarchy sequences : List ℕ) (threshold : ℕ) (s
           least = frequent.enough;
           most = support_most row frequent;
           some = frequent.not_empty;
-          names = AllByRecursion-weaker (Contains known) IsNameText (λ name inside. (known_name name inside).0) row.pattern (pattern_known row frequent);
+          names = AllByRecursion-weaker (Contains known) IsFileName (λ name inside. (known_name name inside).0) row.pattern (pattern_known row frequent);
         });
     names = AllByRecursion-from (IsKnownRow known) answer (λ row held.
         AllByRecursion-weaker (Contains known) (λ name. Contains known name × (length name ≤ most_name_bytes))

@@ -11,6 +11,7 @@ use Rattle.mine_model.specs.Refusal.{names_of, links_of_line, links_from, placed
 use Rattle.mine_model.proofs.ListLemmas.{Contains-cases, Contains-first, Contains-other, Contains-none, Contains-from}
 use Rattle.mine_model.proofs.AncestryLemmas.{Item-same}
 use Rattle.mine_model.proofs.NumberingLemmas.{Renames}
+use Rattle.mine_model.proofs.NameLemmas.{number-of}
 use Rattle.made_input.proofs.MakingLemmas.{links-between}
 use Rattle.command_line.specs.Words.{Source, read, embed, make, merge}
 use Rattle.desq_run.specs.Said.{names_said, links_said}
@@ -88,14 +89,6 @@ links-among (read expression file) bytes link inside = file-links bytes link ins
 links-among (embed rule file) bytes link inside = file-links bytes link inside
 links-among (make count expression) bytes link inside = links-between link inside
 links-among (merge files) bytes link inside = absurd (Contains-none link inside)
-
--- a name that is held has a number
-pub number-of : (names : List (List ℕ)) (name : List ℕ) → Contains names name → (w : Item) × HasName names w × (name ≡ name_of names w)
-number-of [] name inside = absurd (Contains-none name inside)
-number-of (first ∷ names) name inside = elim (Contains-cases first names name inside) [
-  | inl same ↦ (record { 0 = 0 }, omega arith, same)
-  | inr other ↦ let (w, held, same) = number-of names name other in (record { 0 = suc w.0 }, omega (arith, held), same)
-]
 
 -- names that come behind change no name of a number
 pub name-front : (names added : List (List ℕ)) (w : Item) → HasName names w → name_of (names ++ added) w ≡ name_of names w

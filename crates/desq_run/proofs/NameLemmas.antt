@@ -1,11 +1,10 @@
 -- Names of files, one by one.
 use Rattle.std.proofs.Common.{ℕ, zero, suc, ◌<◌, ◌≢◌, true, List, [], ◌∷◌, length, arith}
 use Rattle.std.specs.List.{AllByRecursion, slice_index_or}
-use Rattle.mine_model.specs.Names.{AreDistinct}
+use Rattle.mine_model.specs.Names.{AreDistinct, IsFileName}
 use Rattle.mine_model.specs.Text.{is_name_byte}
 use Rattle.mine_model.specs.Tokens.{Each}
 use Rattle.pattern_proof.specs.ProofLines.{AreFileNames}
-use Rattle.proof_names.specs.Numberings.{IsFileName}
 
 index-all : {X : Type 0} (P : X → Type 0) (d : X) (xs : List X) → ((k : ℕ) → k < length xs → P (slice_index_or xs k d)) → AllByRecursion P xs
 index-all P d [] each = tt

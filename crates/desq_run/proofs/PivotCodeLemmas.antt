@@ -10,12 +10,11 @@ use Rattle.mine_model.specs.Ranks.{HasRank, AreRanked}
 use Rattle.mine_model.specs.Pivots.{IsRankedUpTo, HoldsRank, IsWithin, IsWithinPivot}
 use Rattle.mine_model.proofs.ApartLemmas.{item_eq, item_eq-Decides}
 use Rattle.mine_model.proofs.ListLemmas.{Contains-none, Contains-first}
-use Rattle.mine_model.proofs.RankedLemmas.{same_ranks}
+use Rattle.mine_model.proofs.RankedLemmas.{same_ranks, within-ranks}
 use Rattle.answer_laws.proofs.ListingLemmas.{Decided, decided-like, decided-both, decided-contained, IsDiscrete, Listing, listing-like, listing-none, listing-one, listing-from, listing-kept, listing-upto}
 use Rattle.answer_laws.proofs.OutputLemmas.{patterns}
 use Rattle.automaton_model.specs.Members.{IsPivotMember, IsPivotCode}
 use Rattle.automaton_model.proofs.AutomatonLemmas.{code-also}
-use Rattle.automaton_model.proofs.PivotLemmas.{pivot-ranks}
 use Rattle.automaton_model.proofs.ExistenceLemmas.{lists-code}
 
 -- two items are the same, or they are not
@@ -99,7 +98,7 @@ module _ (d : Data Item) (order : List Item) (different : AllPairs (λ v w. v �
   ranks_of : (pattern : List Item) → Listing (HasRanks pattern)
   ranks_of pattern = elim (decided-pivot order pivot least pattern) [
     | inl within ↦
-        let (ranks, ranked) = pivot-ranks order pivot pattern within in
+        let (ranks, ranked) = within-ranks order pivot pattern within in
         listing-like (λ list. list ≡ ranks) (HasRanks pattern)
         (λ list same. (within, subst (AreRanked order pattern) (sym same) ranked))
         (λ list is. same_ranks order different pattern list ranks is.1 ranked) (listing-one ranks)

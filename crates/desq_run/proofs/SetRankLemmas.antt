@@ -8,15 +8,14 @@ use Rattle.mine_model.specs.Answer.{Data}
 use Rattle.mine_model.specs.Ranks.{Ranking, HasRank, AreRanked, AreRanks, AreTiesByName}
 use Rattle.mine_model.specs.Pivots.{IsWithinPivot}
 use Rattle.mine_model.specs.PartitionWork.{IsNamedBefore}
-use Rattle.mine_model.proofs.RankedLemmas.{ranked-same, item_rank, same_ranks}
+use Rattle.mine_model.proofs.RankedLemmas.{ranked-same, item_rank, same_ranks, within-ranks, within-top}
 use Rattle.mining_job.specs.Problems.{Problem, data_of, IsWhole}
 use Rattle.automaton_model.specs.Members.{IsPivotMember, IsPivotCode}
 use Rattle.automaton_model.specs.Work.{CodeOfPart, IsCounted, IsAutomatonWork}
 use Rattle.automaton_model.specs.NamedWork.{IsNumberOfClasses, PivotCandidates, IsPivotCandidate, AreOfPart, AreSameSet, IsCandidateSetWork}
 use Rattle.automaton_model.proofs.AutomatonLemmas.{code-unique, code-also, equal-codes}
-use Rattle.automaton_model.proofs.PivotLemmas.{pivot-ranks}
 use Rattle.automaton_model.proofs.ClassLemmas.{classes-by}
-use Rattle.search_tree.proofs.PartitionRankLemmas.{order-within, Bound, at_rank, bound-same, by_top, item_at, label-same, label-back, label-forth, label-ranked}
+use Rattle.search_tree.proofs.PartitionRankLemmas.{order-within, Bound, at_rank, bound-same, item_at, label-same, label-back, label-forth, label-ranked}
 use Rattle.desq_run.proofs.PivotCodeLemmas.{pivot-code}
 
 module _ (names : List (List ℕ)) (d : Data Item) (ranking : Ranking) (ranks : AreRanks d.links d.sequences d.threshold ranking)
@@ -32,15 +31,15 @@ module _ (names : List (List ℕ)) (d : Data Item) (ranking : Ranking) (ranks : 
     candidate-member : (pattern : List Item) → IsOne of pattern → (list : List ℕ) × AreRanked ranking.order pattern list × IsMember top of list
     candidate-member pattern is =
         let bounded : IsWithinPivot ranking.order top pattern =
-        (by_top names d ranking ranks ties within of.pivot top has top has.least pattern).1 ((bound-same names d ranking ranks ties within of.pivot top has pattern).1 is.bounded) in
-        let (list, ranked) = pivot-ranks ranking.order top pattern bounded in
+        (within-top ranking.order top has.least pattern).1 ((bound-same names d ranking ranks ties within of.pivot top has pattern).1 is.bounded) in
+        let (list, ranked) = within-ranks ranking.order top pattern bounded in
         (list, ranked, record { pattern = pattern; ranked = ranked; generated = is.generated; within = bounded })
 
     member-candidate : (list : List ℕ) (member : IsMember top of list) → IsOne of member.pattern
     member-candidate list member = record {
       generated = member.generated;
       bounded = (bound-same names d ranking ranks ties within of.pivot top has member.pattern).0
-          ((by_top names d ranking ranks ties within of.pivot top has top has.least member.pattern).0 member.within);
+          ((within-top ranking.order top has.least member.pattern).0 member.within);
     }
 
   module _ (first second : PivotCandidates Item) (top : ℕ) (one : HasRank ranking.order first.pivot top) (other : HasRank ranking.order second.pivot top) where

@@ -1,5 +1,5 @@
 -- The search by the pivots of a share, by ranks and by items.
-use Rattle.std.proofs.Common.{◌≡◌, ◌↔◌, ℕ, suc, zero, ◌-◌, ◌≤◌, ◌<◌, Some, List, [], ◌∷◌, length, get_or, refl, sym, ap, ◌∙◌, subst, arith}
+use Rattle.std.proofs.Common.{◌≡◌, ◌↔◌, ℕ, suc, ◌-◌, ◌≤◌, ◌<◌, Some, List, [], ◌∷◌, length, get_or, refl, sym, ap, ◌∙◌, subst, arith}
 use Rattle.std.specs.List.{All, AllByRecursion, AllPairs, Contains, slice_get}
 use Rattle.std.proofs.lemmas.Option.{slice_get-get_or}
 use Rattle.mine_model.specs.declared.item.Item.{Item}
@@ -13,7 +13,7 @@ use Rattle.mine_model.specs.PartitionWork.{IsNamedBefore}
 use Rattle.mine_model.proofs.ListLemmas.{AllByRecursion-weaker}
 use Rattle.mine_model.proofs.NumberingLemmas.{map-none}
 use Rattle.mine_model.proofs.NumberLemmas.{IsNumberOf-by}
-use Rattle.mine_model.proofs.RankedLemmas.{item_rank}
+use Rattle.mine_model.proofs.RankedLemmas.{item_rank, within-top}
 use Rattle.mine_model.proofs.AliveLemmas.{IsAlive-frequent, IsAlive-shorter}
 use Rattle.search_tree.proofs.SearchTreeLemmas.{IsAliveLabel-shorter}
 use Rattle.mining_job.specs.Problems.{Problem, data_of, IsWhole}
@@ -66,10 +66,6 @@ module _ (names : List (List ℕ)) (d : Data Item) (ranking : Ranking) (ranks : 
     needed = (is.item, is.held, to_rank ranking.order is.item top is.rank);
   }
 
-  within_by : (top : ℕ) → 1 ≤ top → (items : List Item) → IsWithinPivot ranking.order top items ↔ IsWithin ranking.order top (Some top) items
-  within_by zero some items = absurd (omega (arith, some))
-  within_by (suc top) some items = ((λ is. is), (λ is. is))
-
   -- of all alive pivots the search has those of the share
   abbrev ArePivotsOfShare : List ℕ → Type 0
   ArePivotsOfShare pivots = (pivot : ℕ) → Contains pivots pivot
@@ -82,9 +78,9 @@ module _ (names : List (List ℕ)) (d : Data Item) (ranking : Ranking) (ranks : 
     share-pattern row frequent = (
       (λ (pivot, inside, is).
           let (alive, in_share) = (exact pivot).0 inside in
-          (pivot, pivot-forth pivot row.pattern ((within_by pivot alive.0 row.pattern).0 is), in_share)),
+          (pivot, pivot-forth pivot row.pattern ((within-top ranking.order pivot alive.0 row.pattern).0 is), in_share)),
       (λ (pivot, here, in_share).
-          let bound : IsWithinPivot ranking.order pivot row.pattern = (within_by pivot here.rank.0 row.pattern).1 (pivot-back pivot row.pattern here) in
+          let bound : IsWithinPivot ranking.order pivot row.pattern = (within-top ranking.order pivot here.rank.0 row.pattern).1 (pivot-back pivot row.pattern here) in
           let alive : IsAliveLabel d ranking.order pivot [] = record {
             prefix = [];
             ranked = tt;

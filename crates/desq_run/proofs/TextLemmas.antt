@@ -8,7 +8,7 @@ use Rattle.mine_model.specs.declared.row.Row.{Row}
 use Rattle.mine_model.specs.Answer.{Data, NamedRow}
 use Rattle.mine_model.specs.Expression.{Tree}
 use Rattle.mine_model.specs.Generation.{IsPatternOf}
-use Rattle.mine_model.specs.Names.{HasName, named_row}
+use Rattle.mine_model.specs.Names.{HasName, named_row, IsFileName}
 use Rattle.mine_model.specs.Text.{lines_of, is_name_byte}
 use Rattle.mine_model.specs.Tokens.{Each}
 use Rattle.mine_model.proofs.ListLemmas.{AllByRecursion-weaker}
@@ -19,7 +19,7 @@ use Rattle.mine_model.specs.declared.mined.Work.{Work}
 use Rattle.mining_job.specs.Problems.{Problem, data_of}
 use Rattle.pattern_proof.specs.Writings.{AreOfAnswer, GainsProof, GainsPart}
 use Rattle.proof_names.specs.NamedProofs.{IsGoodProof, IsProofText}
-use Rattle.proof_names.specs.Numberings.{IsNumbering, IsFileName}
+use Rattle.proof_names.specs.Numberings.{IsNumbering}
 use Rattle.proof_names.proofs.ExistingProofLemmas.{has-proof}
 use Rattle.proof_names.proofs.NumberedLemmas.{text-is-named}
 use Rattle.proof_names.proofs.OneRefusalLemmas.{count-unique}

@@ -15,7 +15,7 @@ use Rattle.proof_names.proofs.OneRefusalLemmas.{file-unique}
 use Rattle.mine_model.specs.Text.{is_name_byte}
 use Rattle.mine_model.specs.Tokens.{Each}
 use Rattle.mine_model.proofs.ListLemmas.{AllByRecursion-weaker}
-use Rattle.proof_names.specs.Numberings.{IsFileName}
+use Rattle.mine_model.specs.Names.{IsFileName}
 use Rattle.command_line.specs.Words.{Source, read, embed, make, merge, Task, mine, prove, check}
 use Rattle.split_merge.specs.Merging.{FileFault}
 use Rattle.split_merge.proofs.RefusalLemmas.{merge-unique}

@@ -10,13 +10,13 @@ use Rattle.mine_model.specs.Limits.{most_file_bytes}
 use Rattle.mine_model.specs.Text.{lines_of, IsSoundLine}
 use Rattle.mine_model.proofs.ListLemmas.{front_of_both, back_of_both}
 use Rattle.mine_model.proofs.TextLemmas.{no_text_fault}
+use Rattle.mine_model.specs.Names.{IsFileName}
 use Rattle.pattern_proof.specs.ProofLines.{Cited, is_path_line}
 use Rattle.pattern_proof.proofs.RiseLemmas.{places-front, places-before}
 use Rattle.pattern_proof.proofs.SayLemmas.{snoc-unique, say-unique}
 use Rattle.pattern_proof.proofs.TextLemmas.{path-line}
 use Rattle.proof_names.specs.NamedProofs.{ProofRow, AddsLine, AddLines, SayRows, Shows, IsShown, IsProvedRow, IsGoodProof}
 use Rattle.proof_names.specs.NamedRefusals.{IsGoodBehind, IsProofLineRefusal, IsProofFileRefusal}
-use Rattle.proof_names.specs.Numberings.{IsFileName}
 use Rattle.proof_names.proofs.KnownLemmas.{distinct-names}
 use Rattle.proof_names.proofs.NamedSayLemmas.{named_entry, say-back}
 

@@ -1,53 +1,28 @@
 -- The lines of a proof that is written are sound.
-use Rattle.std.proofs.Common.{◌≡◌, ◌≤◌, ◌<◌, ◌^◌, ◌-◌, ◌+◌, ◌∙◌, ◌↔◌, ℕ, true, false, List, [], ◌∷◌, ◌++◌, map, length, Contains, refl, sym, ap, subst, arith}
+use Rattle.std.proofs.Common.{◌≡◌, ◌≤◌, ◌<◌, ◌^◌, ◌+◌, ◌∙◌, ◌↔◌, ℕ, true, List, [], ◌∷◌, ◌++◌, map, length, Contains, refl, sym, ap, subst, arith}
 use Rattle.std.specs.List.{AllByRecursion, flat_map}
 use Rattle.std.specs.Char.{is_ascii_digit}
 use Rattle.std.specs.Fmt.{decimal}
 use Rattle.std.proofs.lemmas.Fmt.{length-decimal-le}
-use Rattle.std.proofs.lemmas.List.{length-map}
-use Rattle.std.proofs.lemmas.Option.{slice_get_within}
 use Rattle.mine_model.specs.Answer.{Data}
-use Rattle.mine_model.specs.Expression.{Tree, tree_by, unfolded_leaves}
-use Rattle.mine_model.specs.Hierarchy.{Link}
+use Rattle.mine_model.specs.Expression.{unfolded_leaves}
 use Rattle.mine_model.specs.Limits.{most_leaves, most_sequences, most_name_bytes}
-use Rattle.mine_model.specs.Names.{name_of, named_row}
+use Rattle.mine_model.specs.Names.{name_of, named_row, IsFileName}
 use Rattle.mine_model.specs.Text.{lines_of, is_name_byte, pieces_by_blank, Field, fields_from, placed_fields_of, IsSoundLine}
 use Rattle.mine_model.proofs.ListLemmas.{of_both, AllByRecursion-weaker}
 use Rattle.text_ports.specs.Scanning.{IsLineByte}
 use Rattle.text_ports.proofs.FieldLemmas.{sound_line}
 use Rattle.text_ports.proofs.LineLemmas.{name_is_line, blank_is_line}
-use Rattle.fst_compile.specs.Shape.{ShapeOf, labels_of, unfold_tree}
-use Rattle.fst_compile.proofs.AutomatonLemmas.{length-labels}
-use Rattle.fst_compile.proofs.UnfoldLemmas.{size-unfold}
-use Rattle.patex_parser.proofs.RunLemmas.{unfolded_leaves-by}
-use Rattle.split_merge.specs.Merging.{IsNameText, IsOutputRow}
-use Rattle.split_merge.proofs.SoundLemmas.{digit-name, join-pieces, body-sound}
-use Rattle.split_merge.proofs.TextLemmas.{decimal-is}
+use Rattle.text_ports.proofs.DecimalLemmas.{decimal-is, digit-name}
+use Rattle.split_merge.specs.Merging.{IsOutputRow}
+use Rattle.split_merge.proofs.SoundLemmas.{join-pieces, body-sound}
 use Rattle.pattern_proof.specs.ProofLines.{Cited, Entry, spaced, AreFileNames, text_of_entry}
-use Rattle.pattern_proof.specs.Runs.{Passes}
 use Rattle.pattern_proof.proofs.TextLemmas.{join-spaced}
 use Rattle.pattern_proof.proofs.WrittenLemmas.{path_text, texts_of, IsWritable, lines-written}
 use Rattle.proof_names.specs.NamedProofs.{ProofRow, Shows, proof_text}
-use Rattle.proof_names.proofs.EncodingLemmas.{item_of}
 use Rattle.proof_names.proofs.FullLemmas.{text-named}
 use Rattle.proof_names.proofs.NamedSayLemmas.{named_entry, names-back}
-use Rattle.proof_names.proofs.ShapeLemmas.{entry_by, labels-by, unfold-by}
-
--- The states of a path are among the item expressions
-
-labels-count : (tree : Tree (List ℕ)) → length (labels_of (unfold_tree tree false)) ≡ unfolded_leaves tree
-labels-count tree =
-    let shape = unfold_tree tree false in
-    sym (length-map (labels_of shape) (entry_by item_of)) ∙ ap length (sym (labels-by item_of shape))
-    ∙ ap (λ s. length (labels_of s)) (sym (unfold-by item_of tree false))
-    ∙ length-labels (unfold_tree (tree_by item_of tree) false) ∙ size-unfold (tree_by item_of tree) false ∙ unfolded_leaves-by item_of tree
-
-states-within : {A : Type 0} (links : List (Link A)) (shape : ShapeOf A) (at : ℕ) (states : List ℕ) (items output : List A)
-    → Passes links shape at states items output → AllByRecursion (λ n. n ≤ length (labels_of shape)) states
-states-within links shape at [] items output passes = tt
-states-within links shape at (next ∷ states) [] output passes = absurd passes
-states-within links shape at (next ∷ states) (t ∷ items) output (entry, here, there, may, found, matches, writes, joined, rest) =
-    (let below = slice_get_within (labels_of shape) (next - 1) entry found in omega (arith, below), states-within links shape next states items there rest)
+use Rattle.proof_names.proofs.AnswerProofLemmas.{path-small}
 
 -- Lines
 
@@ -61,7 +36,7 @@ line-sound : (text : List ℕ) (pieces : List (List ℕ)) → AllByRecursion IsL
 line-sound text pieces clean same short =
     sound_line text (placed_fields_of text) clean (subst (λ l. AllByRecursion (λ (f : Field). length f.text ≤ 255) (fields_from 1 l)) (sym same) (fields-short 1 pieces short)) refl
 
-number-named : (n : ℕ) → n < 2 ^ 64 → IsNameText (decimal n)
+number-named : (n : ℕ) → n < 2 ^ 64 → IsFileName (decimal n)
 number-named n small = (
   (decimal-is n small).1,
   AllByRecursion-weaker (λ b. is_ascii_digit b ≡ true) (λ b. is_name_byte b ≡ true) digit-name (decimal n) (decimal-is n small).0,
@@ -74,7 +49,7 @@ number-clean : (n : ℕ) → n < 2 ^ 64 → AllByRecursion IsLineByte (decimal n
 number-clean n small =
     AllByRecursion-weaker (λ b. is_ascii_digit b ≡ true) IsLineByte (λ b is. name_is_line b (digit-name b is)) (decimal n) (decimal-is n small).0
 
-numbers-named : (numbers : List ℕ) → AllByRecursion (λ n. n < 2 ^ 64) numbers → AllByRecursion IsNameText (map (λ n. decimal n) numbers)
+numbers-named : (numbers : List ℕ) → AllByRecursion (λ n. n < 2 ^ 64) numbers → AllByRecursion IsFileName (map (λ n. decimal n) numbers)
 numbers-named [] small = tt
 numbers-named (n ∷ numbers) small = (number-named n small.0, numbers-named numbers small.1)
 
@@ -107,14 +82,6 @@ module _ (d : Data (List ℕ)) (few : length d.sequences ≤ most_sequences) (sm
     pub short : AllByRecursion (λ name. length name ≤ most_name_bytes) row.row.pattern
     pub each : AllByRecursion (Shows d row.row.pattern) row.paths
 
-  path-small : (pattern : List (List ℕ)) (path : Cited) → Shows d pattern path → (path.place + 1 < 2 ^ 64) × AllByRecursion (λ n. n < 2 ^ 64) path.states
-  path-small pattern path (s, found, passes) = (
-    (let below = slice_get_within d.sequences path.place s found in omega (arith, below, few)),
-    AllByRecursion-weaker (λ n. n ≤ length (labels_of (unfold_tree d.expression false))) (λ n. n < 2 ^ 64)
-        (λ n less. let count = labels-count d.expression in omega (arith, less, count, small)) path.states
-        (states-within d.links (unfold_tree d.expression false) 0 path.states s.items pattern passes),
-  )
-
   entries-of : (rows : List ProofRow) → AllByRecursion IsFit rows
       → (entries : List Entry) × (map (named_entry names) entries ≡ rows) × AllByRecursion (IsWritable names) entries × AllByRecursion (λ (e : Entry). IsFit (named_entry names e)) entries
   entries-of [] fit = ([], refl, tt, tt)
@@ -131,7 +98,7 @@ module _ (d : Data (List ℕ)) (few : length d.sequences ≤ most_sequences) (sm
             some = λ none. fit.0.output.some (sym same ∙ ap (map (name_of names)) none);
             known = inside;
             paths = AllByRecursion-weaker (Shows d row.row.pattern) (λ (path : Cited). (path.place + 1 < 2 ^ 64) × AllByRecursion (λ n. n < 2 ^ 64) path.states)
-                (λ path shows. path-small row.row.pattern path shows) row.paths fit.0.each;
+                (λ path shows. path-small d few small row.row.pattern path shows) row.paths fit.0.each;
           },
           writable,
         ),

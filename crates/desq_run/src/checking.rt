@@ -4,9 +4,10 @@ ghost use Rattle.std.specs.Prelude.{◌≡◌, ◌≢◌, ◌↔◌, ◌≤◌, 
 ghost use Rattle.text_ports.specs.Faults.{Rose};
 ghost use Rattle.mine_model.specs.declared.fault.Fault.TheVariants.{Read, Write};
 ghost use Rattle.mine_model.specs.declared.fault.Which.{Which};
+ghost use Rattle.mine_model.specs.Names.{IsFileName};
 ghost use Rattle.mine_model.specs.Text.{is_name_byte};
 ghost use Rattle.pattern_proof.specs.ProofLines.{AreFileNames};
-ghost use Rattle.proof_names.specs.Numberings.{IsFileName, fault_of};
+ghost use Rattle.proof_names.specs.Numberings.{fault_of};
 ghost use Rattle.command_line.specs.Words.{check as to_check, SuitsTask, IsCommand, NamesFile};
 ghost use Rattle.command_line.specs.Commands.{source_said, task_said, command_said};
 ghost use Rattle.desq_run.specs.Said.{checked_text};

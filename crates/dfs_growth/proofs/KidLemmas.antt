@@ -1,15 +1,13 @@
 -- The kids of a label are the ranks that can follow in sequences that weigh enough.
-use Rattle.std.proofs.Common.{ℕ, ◌≤◌, ◌<◌, List, [], ◌∷◌, ◌++◌, map, get_or, sym, subst, arith}
+use Rattle.std.proofs.Common.{ℕ, ◌≤◌, ◌<◌, List, [], ◌∷◌, ◌++◌, map, sym, subst, arith}
 use Rattle.std.specs.List.{AllPairs, Contains}
-use Rattle.std.proofs.lemmas.List.{get_or_default}
-use Rattle.std.proofs.lemmas.List.Kept.{AllPairs-cons}
 use Rattle.std.proofs.lemmas.Simd.{map-map}
 use Rattle.mine_model.specs.declared.item.Item.{Item}
 use Rattle.mine_model.specs.Support.{Counts}
 use Rattle.mine_model.specs.Growth.{WeighAtLeast}
 use Rattle.mine_model.specs.Pivots.{label_of, IsAliveLabel}
 use Rattle.search_tree.specs.SearchTree.{AreKids}
-use Rattle.mine_model.proofs.ListLemmas.{Contains-by, Contains-from, AllPairs-head, AllPairs-tail}
+use Rattle.mine_model.proofs.ListLemmas.{Contains-by, Contains-from, pairs-mapped}
 use Rattle.mine_model.proofs.FrequencyLemmas.{Counts-by}
 use Rattle.mine_model.proofs.AliveLemmas.{WeighAtLeast-counted, WeighAtLeast-weaker, WeighAtLeast-some}
 use Rattle.mining_job.specs.declared.part_seed.PartSeed.{PartSeed}
@@ -47,18 +45,8 @@ module _ (problem : Problem) (seed : PartSeed) (complete : IsComplete problem se
       WeighAtLeast-weaker Has (GrowsBehind part ranks) (λ items. (grows-behind problem seed complete alive.prefix ranks alive.ranked items).1) (sequences_of part) problem.threshold
       (part-weighs problem seed complete Has (behind-any problem seed complete alive.prefix) problem.threshold alive.alive)
 
--- pairs of images
-pairs-map : {X Y : Type 0} (f : X → Y) (R : Y → Y → Type 0) (xs : List X) → AllPairs (λ x y. R (f x) (f y)) xs → AllPairs R (map f xs)
-pairs-map f R [] pairs = λ i j d less inside. absurd (omega (arith, inside))
-pairs-map f R (x ∷ xs) pairs =
-    AllPairs-cons R (f x) (map f xs)
-    (λ k d below.
-    let (y, held, is) = Contains-from f xs (get_or (map f xs) k d) (k, below, get_or_default (map f xs) k (get_or (map f xs) k d) d below) in
-    subst (R (f x)) (sym is) (AllPairs-head (λ x y. R (f x) (f y)) x xs pairs y held))
-    (pairs-map f R xs (AllPairs-tail (λ x y. R (f x) (f y)) x xs pairs))
-
 rising-ranks : (found : List NextRank) → AllPairs (λ low high. low.rank < high.rank) found → AllPairs (λ low high. low < high) (map rank_of found)
-rising-ranks found rising = pairs-map rank_of (λ low high. low < high) found rising
+rising-ranks found rising = pairs-mapped rank_of (λ low high. low < high) found rising
 
 pub kids-are : (problem : Problem) (pivot : ℕ) (part : GridList) → IsPartBy problem pivot part → 1 ≤ problem.threshold → (ranks : List ℕ) (found : List NextRank)
     → AreNextRanks part ranks problem.threshold found

@@ -15,16 +15,16 @@ use Rattle.mine_model.specs.Ranks.{HasRank, AreRanked}
 use Rattle.mine_model.specs.Growth.{HasPatternBehind}
 use Rattle.mine_model.specs.Pivots.{item_of_rank, IsWithinPivot}
 use Rattle.mine_model.proofs.ListLemmas.{Contains-cases, Contains-first, Contains-none, Contains-by, Contains-from, Contains-filter, filter-Contains}
-use Rattle.mine_model.proofs.ElementLemmas.{flat-cases, flat-held}
+use Rattle.mine_model.proofs.ElementLemmas.{flat-cases, flat-held, any-held}
 use Rattle.mine_model.proofs.RankLemmas.{HasRank-most}
-use Rattle.mine_model.proofs.RankedLemmas.{ranked-none, ranked-first, ranked-split, ranked-cut, ranked-append, same_ranks}
+use Rattle.mine_model.proofs.RankedLemmas.{ranked-none, ranked-first, ranked-split, ranked-cut, ranked-append, same_ranks, within-ranks}
 use Rattle.fst_compile.specs.declared.edge.Edge.{Edge}
 use Rattle.fst_compile.specs.Transducer.{edges_from, IsPath}
 use Rattle.mining_job.specs.Problems.{Problem, IsWhole, data_of}
 use Rattle.mine_model.specs.Decided.{matches, may_write}
 use Rattle.mine_model.proofs.DecidedLemmas.{matches-Decides, may_write-Decides}
 use Rattle.dfs_growth.specs.Tree.{all_ranks, written_by, outputs_by, outputs_from, begin_with, is_some_rank, are_within, grows, generates}
-use Rattle.dfs_growth.proofs.TestLemmas.{any-forth, any-back, range-forth, range-back, begin_with-Decides, within-Decides, within-ranks}
+use Rattle.dfs_growth.proofs.TestLemmas.{any-back, range-forth, range-back, begin_with-Decides, within-Decides}
 
 -- the item with a rank up to the number of ranks has it
 pub item-ranked : (order : List Item) (rank : ℕ) → 1 ≤ rank → rank ≤ length order → HasRank order (item_of_rank order rank) rank
@@ -170,7 +170,7 @@ module _ (problem : Problem) where
         × HasPatternBehind (data_of problem) (IsWithinPivot problem.ranking.order pivot) prefix items
     unfolding grows
     grows-forth pivot ranks items passes =
-        let (output, held, is) = any-forth (λ output. is_some_rank output && (begin_with ranks output && are_within pivot output)) (outputs_from problem 0 items) passes in
+        let (output, held, is) = any-held (λ output. is_some_rank output && (begin_with ranks output && are_within pivot output)) (outputs_from problem 0 items) passes in
         let both = and_parts (is_some_rank output) (begin_with ranks output && are_within pivot output) is in
         let tests = and_parts (begin_with ranks output) (are_within pivot output) both.1 in
         let (others, cut) = (begin_with-Decides ranks output).0 tests.0 in
@@ -200,7 +200,7 @@ module _ (problem : Problem) where
         × IsPatternOf problem.hierarchy.links (tree_of problem.machine.expression) items pattern
     unfolding generates
     generates-forth ranks items passes =
-        let (output, held, is) = any-forth (λ output. is_some_rank output && bytes_eq ranks output) (outputs_from problem 0 items) passes in
+        let (output, held, is) = any-held (λ output. is_some_rank output && bytes_eq ranks output) (outputs_from problem 0 items) passes in
         let both = and_parts (is_some_rank output) (bytes_eq ranks output) is in
         let (pattern, path, ranked) = outputs-forth items 0 output held in
         let same : ranks ≡ output = (bytes_eq-Decides ranks output).0 both.1 in (

@@ -1,5 +1,5 @@
 -- What is counted in the part of a complete seed is what is counted in all sequences.
-use Rattle.std.proofs.Common.{◌≡◌, ◌↔◌, ℕ, zero, suc, ◌≤◌, ◌<◌, Option, Some, None, IfSome, List, [], ◌++◌, length, refl, sym, ap, ◌∙◌, subst, arith}
+use Rattle.std.proofs.Common.{◌≡◌, ◌↔◌, ℕ, ◌<◌, Option, Some, None, IfSome, List, [], ◌++◌, length, refl, sym, ap, ◌∙◌, subst, arith}
 use Rattle.std.specs.List.{Contains}
 use Rattle.mine_model.specs.declared.item.Item.{Item}
 use Rattle.mine_model.specs.Generation.{IsPatternOf}
@@ -19,14 +19,8 @@ use Rattle.mining_job.specs.Parts.{pivot_of, IsComplete}
 use Rattle.snapshot_project.specs.Snapshots.{bound_of}
 use Rattle.snapshot_project.specs.Extensions.{sequences_of, GrowsBehind, GeneratesWithin}
 use Rattle.snapshot_project.specs.Rooms.{RoomValue}
+use Rattle.snapshot_project.proofs.BoundLemmas.{within-pivot}
 use Rattle.dfs_growth.specs.Projections.{part_of, IsPartBy, IsRoomFor}
-
--- the bound of a pivot's part is that of the pivot
-pub within-pivot : (order : List Item) (pivot : Option ℕ) → IfSome pivot (λ rank. 1 ≤ rank) → (items : List Item)
-    → IsWithin order (bound_of (length order) pivot).top (bound_of (length order) pivot).need items ↔ IsWithinPivot order (pivot_of pivot) items
-within-pivot order None least items = ((λ h. h), (λ h. h))
-within-pivot order (Some zero) least items = absurd (omega (arith, least))
-within-pivot order (Some (suc before)) least items = ((λ h. h), (λ h. h))
 
 -- what holds of the parts of complete seeds holds of this one
 pub for_part : (problem : Problem) (pivot : ℕ) (part : GridList) → IsPartBy problem pivot part → (P : ℕ → GridList → Type 0)

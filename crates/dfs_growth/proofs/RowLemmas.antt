@@ -16,8 +16,9 @@ use Rattle.mining_job.specs.Problems.{Problem, data_of}
 use Rattle.sequence_grids.specs.Grids.{GridList}
 use Rattle.mining_job.specs.Parts.{IsComplete}
 use Rattle.snapshot_project.specs.Extensions.{sequences_of, GeneratesWithin}
+use Rattle.snapshot_project.proofs.BoundLemmas.{within-pivot}
 use Rattle.dfs_growth.specs.Projections.{part_of, IsPartBy}
-use Rattle.dfs_growth.proofs.PartLemmas.{for_part, Within, part-counts, generates-within, within-pivot}
+use Rattle.dfs_growth.proofs.PartLemmas.{for_part, Within, part-counts, generates-within}
 
 module _ (problem : Problem) (seed : PartSeed) (complete : IsComplete problem seed) where
   abbrev IsPattern : List Item → List Item → Type 0

@@ -1,10 +1,10 @@
 -- The tests say what the words say of lists and of ranks.
-use Rattle.std.proofs.Common.{◌≡◌, ◌≢◌, ℕ, zero, suc, ◌+◌, ◌-◌, ◌≤◌, ◌<◌, ◌==◌, inl, inr, Bool, true, ◌&&◌, List, [], ◌∷◌, ◌++◌, length, refl, sym, ◌∙◌, subst, arith, leb}
+use Rattle.std.proofs.Common.{◌≡◌, ◌≢◌, ℕ, zero, suc, ◌+◌, ◌-◌, ◌≤◌, ◌<◌, ◌==◌, inl, inr, Bool, true, ◌&&◌, List, [], ◌∷◌, ◌++◌, refl, sym, ◌∙◌, subst, arith, leb}
 use Rattle.std.specs.Bool.{Decides}
 use Rattle.std.specs.List.{AllByRecursion, AllPairs, Contains, list_any, list_all, range_with_len}
 use Rattle.std.proofs.lemmas.Bool.{and_parts, and_from, or_cases, or_left, or_right, false≢true, eqb-true, eq-eqb, leb-true, le-leb}
 use Rattle.std.proofs.lemmas.Bool.Decides.{Decides-eqb, Decides-like, Decides-and}
-use Rattle.std.proofs.lemmas.List.Folds.{Any-from_list_any, list_any-from_Any}
+use Rattle.std.proofs.lemmas.List.Folds.{list_any-from_Any}
 use Rattle.std.proofs.lemmas.List.FromFn.{length-range_with_len, get_or-range_with_len}
 use Rattle.mine_model.specs.declared.item.Item.{Item}
 use Rattle.mine_model.specs.Ranks.{HasRank, AreRanked}
@@ -13,9 +13,6 @@ use Rattle.mine_model.proofs.ListLemmas.{Contains-cases, Contains-first, Contain
 use Rattle.mine_model.proofs.RankedLemmas.{item_rank}
 use Rattle.search_tree.proofs.SearchAnswerLemmas.{ranked-within}
 use Rattle.dfs_growth.specs.Tree.{begin_with, are_within}
-
-pub any-forth : {X : Type 0} (p : X → Bool) (xs : List X) → list_any p xs ≡ true → (x : X) × Contains xs x × (p x ≡ true)
-any-forth p xs passes = let (k, x, below, at, is) = Any-from_list_any p xs passes in (x, (k, below, at), is)
 
 pub any-back : {X : Type 0} (p : X → Bool) (xs : List X) (x : X) → Contains xs x → p x ≡ true → list_any p xs ≡ true
 any-back p xs x (k, below, at) is = list_any-from_Any p xs (k, x, below, at, is)
@@ -100,12 +97,3 @@ module _ (order : List Item) (different : AllPairs (λ v w. v ≢ w) order) wher
     (λ within. and_from (list_all (λ rank. leb rank (suc before)) ranks) (list_any (λ rank. rank == suc before) ranks)
         (up-back (suc before) items ranks ranked within.ranked) (holds-back (suc before) items ranks ranked within.needed)),
   )
-
--- items with ranks up to a top have ranks
-pub up-ranks : (order : List Item) (top : ℕ) (items : List Item) → AllByRecursion (IsRankedUpTo order top) items → (ranks : List ℕ) × AreRanked order items ranks
-up-ranks order top [] all = ([], tt)
-up-ranks order top (v ∷ items) ((rank, has, most), all) = let (ranks, ranked) = up-ranks order top items all in (rank ∷ ranks, (has, ranked))
-
-pub within-ranks : (order : List Item) (pivot : ℕ) (items : List Item) → IsWithinPivot order pivot items → (ranks : List ℕ) × AreRanked order items ranks
-within-ranks order zero items within = up-ranks order (length order) items within.ranked
-within-ranks order (suc before) items within = up-ranks order (suc before) items within.ranked

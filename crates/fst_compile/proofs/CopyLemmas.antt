@@ -15,6 +15,7 @@ use Rattle.fst_compile.proofs.RowLemmas.{Adds-nothing, Adds-same, Adds-both}
 use Rattle.fst_compile.proofs.UnfoldLemmas.{size-unfold}
 use Rattle.fst_compile.proofs.FragmentLemmas.{first-joined, last-joined, IsFragment-both, IsWithin-fragment}
 use Rattle.std.proofs.Math.Nat.{mul-le-mul_left}
+use Rattle.std.proofs.Math.Bool.{or-false}
 
 -- ---- the shape of the copies from an index on
 
@@ -68,10 +69,6 @@ more-fragment shape at f g is alike = record {
 
 alike-as : (f g : Fragment) (empty other : Bool) → empty ≡ other → IsAlike f empty g → IsAlike f other g
 alike-as f g empty other same alike = subst (λ (b : Bool). IsAlike f b g) same alike
-
-or-false : (b : Bool) → (b || false) ≡ b
-or-false true = refl
-or-false false = refl
 
 or-true : (b : Bool) → (b || true) ≡ true
 or-true true = refl

@@ -8,12 +8,11 @@ use Rattle.std.proofs.lemmas.List.Sorted.{IsPermutation-sym, Contains-permutatio
 use Rattle.std.proofs.lemmas.Option.{slice_get_within, get_or_from_slice_get}
 use Rattle.std.proofs.lemmas.List.Elements.{Contains-append_left, Contains-append_right, Contains-append_cases}
 use Rattle.mine_model.proofs.ListLemmas.{Contains-cases, Contains-first, Contains-none}
-use Rattle.mine_model.proofs.ElementLemmas.{get-held, slice_get-mapped_by}
+use Rattle.mine_model.proofs.ElementLemmas.{get-held, slice_get-mapped_by, get-place, get-from}
 use Rattle.place_walk.specs.declared.stand.Stand.{Stand}
 use Rattle.candidate_graph.specs.declared.edge.Edge.{Edge as Step}
 use Rattle.candidate_graph.specs.Graphs.{Node, points_of}
 use Rattle.candidate_graph.specs.Paths.{HasEdge}
-use Rattle.candidate_graph.proofs.BasicLemmas.{get-from, get-place}
 use Rattle.candidate_graph.proofs.PathLemmas.{places-rise, edge-leaves, edge-leads}
 use Rattle.graph_order.specs.declared.order.Turn.{Turn}
 use Rattle.graph_order.specs.Orders.{IsSomeGraph, HasTurnBefore, AreInOrder}

@@ -1,5 +1,5 @@
 -- Codes that are read.
-use Rattle.std.proofs.Common.{◌≡◌, ℕ, ◌+◌, ◌-◌, ◌*◌, ◌≤◌, ◌<◌, ◌↔◌, ◌⊎◌, inl, inr, Bool, true, false, nat_eq, if◌then◌else◌, Some, slice_get, List, [], ◌∷◌, ◌++◌, length, map, take, drop, slice_range, get_or, sum_by, refl, sym, ap, ◌∙◌, subst, arith, append_assoc, length-append, length-drop}
+use Rattle.std.proofs.Common.{◌≡◌, ℕ, ◌+◌, ◌-◌, ◌*◌, ◌≤◌, ◌<◌, ◌↔◌, ◌⊎◌, inl, inr, Bool, true, false, nat_eq, Some, slice_get, List, [], ◌∷◌, ◌++◌, length, map, take, drop, slice_range, get_or, sum_by, refl, sym, ap, ◌∙◌, subst, arith, append_assoc, length-append, length-drop}
 use Rattle.std.specs.List.{AllZip, Contains, flat_map}
 use Rattle.std.proofs.lemmas.List.{append-nil, map-append, length-map, take-append-le, drop-append-le, take_all, drop_all}
 use Rattle.std.proofs.lemmas.List.Concat.{flat_map-cons}
@@ -7,6 +7,7 @@ use Rattle.std.proofs.lemmas.List.Sums.{sum_by-cons}
 use Rattle.std.proofs.lemmas.Option.{slice_get-get_or}
 use Rattle.mine_model.proofs.ElementLemmas.{slice_get-mapped_by}
 use Rattle.std.proofs.lemmas.List.Elements.{Contains-get_or, Contains-append_cases, All-contains}
+use Rattle.std.proofs.lemmas.Slice.Zip.{all_zipped_more}
 use Rattle.mine_model.proofs.ListLemmas.{Contains-cases, Contains-first, Contains-other, Contains-none, Contains-from, slice_range-append}
 use Rattle.mine_model.proofs.AncestryLemmas.{slice_range-behind}
 use Rattle.automaton_model.specs.declared.groups.Group.{Group}
@@ -14,15 +15,16 @@ use Rattle.automaton_model.specs.declared.state.Edge.{Edge}
 use Rattle.automaton_model.specs.Automata.{StateValue, Accepts, edge_code, state_code, code_of}
 use Rattle.automaton_model.specs.Groups.{LieIn}
 use Rattle.automaton_model.specs.Searches.{Load}
-use Rattle.automaton_model.proofs.AutomatonLemmas.{code-same}
+use Rattle.automaton_model.proofs.AutomatonLemmas.{code-same, flag_of}
 use Rattle.automaton_model.proofs.ZipLemmas.{zip-first}
+use Rattle.automaton_model.proofs.LanguageLemmas.{accepts-more}
 use Rattle.group_search.specs.declared.loads.LoadedState.{LoadedState}
 use Rattle.group_search.specs.declared.decoded.Head.{Head}
 use Rattle.group_search.specs.Found.{load_of}
 use Rattle.group_search.specs.Searched.{IsTrim, AreFinite, IsSearched}
 use Rattle.group_search.specs.Decoded.{state_in, states_in, AreHeld, edges_in, shifted, IsAdded, IsRoot}
 use Rattle.group_search.proofs.LawLemmas.{Stands}
-use Rattle.group_search.proofs.ShiftLemmas.{shifted_edge, longer-forth, longer-back, shift-forth, shift-back, both-trim}
+use Rattle.group_search.proofs.ShiftLemmas.{shifted_edge, longer-back, shift-forth, shift-back, both-trim}
 
 -- Two numbers at a time
 
@@ -88,9 +90,6 @@ reading-first base code states heads edges is held = record {
   left_is = is;
   added = record { held = held; states = sym (append-nil (states_in heads edges)) };
 }
-
-abbrev flag_of : Bool → ℕ
-flag_of b = if b then 1 else 0
 
 flag-back : (b : Bool) → nat_eq (flag_of b) 1 ≡ b
 flag-back true = refl
@@ -183,7 +182,7 @@ root-longer states more trim load group root = record {
   there = (let inside = root.there in let long = length-append states more in omega (arith, inside, long));
   same = λ list. (
     (λ accepts. (root.same list).0 (longer-back states more trim list load.state root.there accepts)),
-    (λ lies. longer-forth states more list load.state ((root.same list).1 lies)),
+    (λ lies. accepts-more states more list load.state ((root.same list).1 lies)),
   );
   weight = root.weight;
 }
@@ -193,12 +192,6 @@ roots-longer states more trim [] [] zip = zip
 roots-longer states more trim [] (group ∷ groups) zip = absurd zip
 roots-longer states more trim (load ∷ loads) [] zip = absurd zip
 roots-longer states more trim (load ∷ loads) (group ∷ groups) zip = (root-longer states more trim load group zip.0, roots-longer states more trim loads groups zip.1)
-
-zip-push : {X Y : Type 0} (R : X → Y → Type 0) (xs : List X) (ys : List Y) (x : X) (y : Y) → AllZip R xs ys → R x y → AllZip R (xs ++ x ∷ []) (ys ++ y ∷ [])
-zip-push R [] [] x y zip is = (is, tt)
-zip-push R [] (w ∷ ys) x y zip is = absurd zip
-zip-push R (v ∷ xs) [] x y zip is = absurd zip
-zip-push R (v ∷ xs) (w ∷ ys) x y zip is = (zip.0, zip-push R xs ys x y zip.1 is)
 
 module _ (front states : List StateValue) (group : Group) (count most : ℕ) (searched : IsSearched count most group.automaton) (coded : group.automaton ≡ code_of states)
     (base : ℕ) (base_is : base ≡ length front) where
@@ -247,7 +240,7 @@ read-more groups heads edges loads read group count most searched base base_is s
       held = added.held;
       trim = subst IsTrim (sym whole) (grown-trim (states_in heads edges) states group count most searched coded base here read.trim);
       roots = subst (λ s. AllZip (IsRoot s) (loads ++ (record { state = base; weight = group.count }) ∷ []) (groups ++ group ∷ [])) (sym whole)
-          (zip-push (IsRoot (states_in heads edges ++ map (shifted (length (states_in heads edges))) states)) loads groups (record { state = base; weight = group.count }) group
+          (all_zipped_more (IsRoot (states_in heads edges ++ map (shifted (length (states_in heads edges))) states)) loads groups (record { state = base; weight = group.count }) group
           (roots-longer (states_in heads edges) (map (shifted (length (states_in heads edges))) states) read.trim loads groups read.roots)
           (root-new (states_in heads edges) states group count most searched coded base here));
     }

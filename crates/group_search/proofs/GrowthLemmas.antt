@@ -2,7 +2,7 @@
 use Rattle.std.proofs.Common.{◌≡◌, ◌≢◌, ℕ, ◌+◌, ◌≤◌, ◌<◌, ◌⊎◌, inl, inr, true, List, [], ◌∷◌, ◌++◌, length, map, sym, ap, ◌∙◌, subst, arith, append_assoc, length-append}
 use Rattle.std.specs.List.{AllPairs, Contains}
 use Rattle.std.specs.List.Sorted.{IsPermutation}
-use Rattle.std.proofs.lemmas.List.{append-nil}
+use Rattle.std.proofs.lemmas.List.{append-nil, append_cancel_left}
 use Rattle.std.proofs.lemmas.List.Elements.{Contains-append_left, Contains-append_right, Contains-append_cases, Contains-push, All-contains}
 use Rattle.std.proofs.lemmas.List.Sorted.{Contains-permutation, IsPermutation-sym}
 use Rattle.std.proofs.lemmas.Option.{slice_get_within}
@@ -10,7 +10,7 @@ use Rattle.mine_model.specs.declared.item.Item.{Item}
 use Rattle.mine_model.specs.declared.row.Row.{Row}
 use Rattle.mine_model.specs.Ranks.{AreRanked}
 use Rattle.mine_model.specs.Numbered.{PatternsDiffer}
-use Rattle.mine_model.proofs.ListLemmas.{Contains-cases, Contains-first, Contains-none, Contains-from, Contains-by, AllPairs-append, AllPairs-tail, AllPairs-head}
+use Rattle.mine_model.proofs.ListLemmas.{Contains-cases, Contains-first, Contains-none, Contains-from, Contains-by, AllPairs-append, AllPairs-tail, AllPairs-head, pairs-front}
 use Rattle.mine_model.proofs.ElementLemmas.{flat-cases}
 use Rattle.mine_model.proofs.RankedLemmas.{ranked-same, same_ranks}
 use Rattle.automaton_model.specs.declared.state.Edge.{Edge}
@@ -25,7 +25,7 @@ use Rattle.group_search.specs.Steps.{state_at, weigh_by, steps_along, steps_of, 
 use Rattle.group_search.specs.Waits.{Wait, waits_behind}
 use Rattle.group_search.specs.Search.{IsSound, IsBehind, IsOwn, AreApart, IsPast, IsSearching}
 use Rattle.group_search.proofs.WeighLemmas.{is_accepted, weight_behind, behind-weighs, behind-is, state-there, steps-behind, steps-most, by-permuted, trim-at}
-use Rattle.group_search.proofs.StackLemmas.{pairs-front, pairs-across}
+use Rattle.group_search.proofs.StackLemmas.{pairs-across}
 
 abbrev pub wait_by : List ℕ → Kid → Wait
 wait_by prefix kid = record { prefix = prefix ++ kid.rank ∷ []; loads = kid.loads }
@@ -163,13 +163,9 @@ module _ (states : List StateValue) (trim : IsTrim states) (count most threshold
 pub apart-behind : (prefix other : List ℕ) (rank : ℕ) → AreApart prefix other → AreApart prefix (other ++ rank ∷ [])
 apart-behind prefix other rank apart = λ more rest is. apart more (rank ∷ rest) (is ∙ through other rest rank)
 
-same-front : (prefix first second : List ℕ) → prefix ++ first ≡ prefix ++ second → first ≡ second
-same-front [] first second is = is
-same-front (x ∷ prefix) first second is = same-front prefix first second cc
-
 pub apart-ranks : (prefix : List ℕ) (low high : ℕ) → low < high → AreApart (prefix ++ low ∷ []) (prefix ++ high ∷ [])
 apart-ranks prefix low high less = λ more rest is.
-    let same : low ∷ more ≡ high ∷ rest = same-front prefix (low ∷ more) (high ∷ rest) (sym (through prefix more low) ∙ is ∙ through prefix rest high) in
+    let same : low ∷ more ≡ high ∷ rest = append_cancel_left prefix (low ∷ more) (high ∷ rest) (sym (through prefix more low) ∙ is ∙ through prefix rest high) in
     let equal : low ≡ high = cc in
     omega (arith, less, equal)
 

@@ -1,7 +1,6 @@
 -- Which automata can be searched, and that their rows are those of groups.
-use Rattle.std.proofs.Common.{◌≡◌, ℕ, ◌+◌, ◌≤◌, ◌<◌, ◌↔◌, inl, inr, Some, List, [], ◌∷◌, ◌++◌, length, get_or, refl, sym, ap, ◌∙◌, subst, arith, append_assoc}
-use Rattle.std.specs.List.{AllZip, Contains, slice_get}
-use Rattle.std.proofs.lemmas.List.{append-nil}
+use Rattle.std.proofs.Common.{◌≡◌, ℕ, ◌+◌, ◌≤◌, ◌<◌, ◌↔◌, inl, inr, List, [], ◌∷◌, ◌++◌, length, get_or, sym, ap, ◌∙◌, subst, arith, append_assoc}
+use Rattle.std.specs.List.{AllZip, Contains}
 use Rattle.std.proofs.lemmas.List.Elements.{Contains-get_or}
 use Rattle.std.proofs.lemmas.Option.{slice_get_within}
 use Rattle.mine_model.specs.declared.item.Item.{Item}
@@ -10,15 +9,15 @@ use Rattle.mine_model.specs.Support.{Sequence, Counts}
 use Rattle.mine_model.specs.Answer.{Data}
 use Rattle.mine_model.proofs.AboveLemmas.{pattern-shorter}
 use Rattle.mine_model.proofs.RankedLemmas.{ranked-bounds, ranked-length}
+use Rattle.mine_model.proofs.ElementLemmas.{get-place}
 use Rattle.automaton_model.specs.declared.groups.Group.{Group}
-use Rattle.automaton_model.specs.declared.state.Edge.{Edge}
 use Rattle.automaton_model.specs.Automata.{StateValue, Accepts}
-use Rattle.automaton_model.specs.Codes.{IsMinimalAutomaton, IsStateAfter, Leads}
+use Rattle.automaton_model.specs.Codes.{IsMinimalAutomaton, IsStateAfter}
 use Rattle.automaton_model.specs.Registry.{IsRegistry}
 use Rattle.automaton_model.specs.Searches.{Load, Weigh}
 use Rattle.automaton_model.specs.Members.{IsPivotMember, IsPivotCode}
 use Rattle.automaton_model.specs.Groups.{LieIn, grouped, AreGroups, AreGroupRows}
-use Rattle.automaton_model.proofs.AutomatonLemmas.{get-some_of, accepts-exact, first-visit}
+use Rattle.automaton_model.proofs.AutomatonLemmas.{accepts-exact, first-visit, accepts_back}
 use Rattle.automaton_model.proofs.PivotLemmas.{lie-exact}
 use Rattle.automaton_model.proofs.ZipLemmas.{zip-there, zip-second}
 use Rattle.group_search.specs.Found.{AreLoadedRows, StandsFor}
@@ -28,7 +27,7 @@ use Rattle.group_search.specs.Searched.{IsTrim, IsSearched}
 
 pub registry-trim : (states : List StateValue) → IsRegistry states → IsTrim states
 registry-trim states registry = λ state held.
-    let (number, is) = get-some_of states state held in
+    let (number, is) = get-place states state held in
     let kept = registry.kept number state is in
     record { rising = kept.rising; alive = kept.alive }
 
@@ -42,20 +41,6 @@ registry-short states registry number (rank ∷ list) (state, edge, is, held, by
 -- Minimal automata
 
 module _ (IsMember : List ℕ → Type 0) (states : List StateValue) (least : IsMinimalAutomaton IsMember states) where
-  -- from the state of a visit the rest after it is accepted
-  rest-accepted : (ranks : List ℕ) (k : ℕ) (visit : List ℕ) → slice_get least.visits k ≡ Some visit → IsMember (visit ++ ranks) → Accepts states k ranks
-  rest-accepted [] k visit at member =
-      let (t, also, after) = zip-there (IsStateAfter IsMember least.visits) least.visits states least.state k visit at in
-      (t, also, after.accepts.1 (subst IsMember (append-nil visit) member))
-  rest-accepted (w ∷ ranks) k visit at member =
-      let (t, also, after) = zip-there (IsStateAfter IsMember least.visits) least.visits states least.state k visit at in
-      let moved : IsMember ((visit ++ w ∷ []) ++ ranks) = subst IsMember (sym (append_assoc visit (w ∷ []) ranks)) member in
-      let (next, inside, same) = least.all (visit ++ w ∷ []) (inr (ranks, moved)) in
-      let (number, numbered) = get-some_of least.visits next inside in
-      let edge : Edge = record { rank = w; to = number } in
-      let leads : Leads IsMember least.visits visit edge = record { more = ranks; begins = member; first = next; numbered = numbered; same = same } in
-      (t, edge, also, (after.exact edge).1 leads, refl, rest-accepted ranks number next numbered ((same ranks).1 moved))
-
   pub least-trim : IsTrim states
   least-trim = λ state held.
       let (visit, inside, after) = zip-second (IsStateAfter IsMember least.visits) least.visits states least.state state held in
@@ -64,7 +49,7 @@ module _ (IsMember : List ℕ → Type 0) (states : List StateValue) (least : Is
         alive = λ edge on.
             (let leads = (after.exact edge).0 on in
             let moved : IsMember ((visit ++ edge.rank ∷ []) ++ leads.more) = subst IsMember (sym (append_assoc visit (edge.rank ∷ []) leads.more)) leads.begins in
-            (leads.more, rest-accepted leads.more edge.to leads.first leads.numbered ((leads.same leads.more).1 moved)));
+            (leads.more, accepts_back IsMember states least leads.more edge.to leads.first leads.numbered ((leads.same leads.more).1 moved)));
       }
 
   pub least-some : 0 < length states

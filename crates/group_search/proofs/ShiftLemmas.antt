@@ -4,11 +4,11 @@ use Rattle.std.specs.List.{AllPairs, Contains, slice_get}
 use Rattle.std.proofs.lemmas.List.Elements.{Contains-append_cases}
 use Rattle.std.proofs.lemmas.Option.{slice_get_within}
 use Rattle.mine_model.proofs.ListLemmas.{Contains-cases, Contains-none, Contains-by, Contains-from, AllPairs-append, AllPairs-tail, AllPairs-head}
-use Rattle.mine_model.proofs.ElementLemmas.{get-some, get-held, get-left, slice_get-mapped_by}
+use Rattle.mine_model.proofs.ElementLemmas.{get-some, get-held, get-left, slice_get-mapped_by, same-some}
 use Rattle.automaton_model.specs.declared.state.Edge.{Edge}
 use Rattle.automaton_model.specs.Automata.{StateValue, Accepts}
-use Rattle.automaton_model.proofs.AutomatonLemmas.{one_of}
 use Rattle.automaton_model.proofs.RegistryLemmas.{stands}
+use Rattle.automaton_model.proofs.LanguageLemmas.{accepts-more}
 use Rattle.group_search.specs.Searched.{IsTrimState, IsTrim}
 use Rattle.group_search.specs.Decoded.{shifted}
 
@@ -21,18 +21,14 @@ edge-there states trim k state edge is held =
 
 -- States behind alter nothing
 
-pub longer-forth : (states more : List StateValue) (list : List ℕ) (k : ℕ) → Accepts states k list → Accepts (states ++ more) k list
-longer-forth states more [] k (state, is, good) = (state, get-left states more k state is, good)
-longer-forth states more (rank ∷ list) k (state, edge, is, held, by, next) = (state, edge, get-left states more k state is, held, by, longer-forth states more list edge.to next)
-
 pub longer-back : (states more : List StateValue) → IsTrim states → (list : List ℕ) (k : ℕ) → k < length states → Accepts (states ++ more) k list → Accepts states k list
 longer-back states more trim [] k inside (state, is, good) =
     let (here, at) = get-some states k inside in
-    let same : state ≡ here = one_of state here (slice_get (states ++ more) k) is (get-left states more k here at) in
+    let same : state ≡ here = same-some state here (slice_get (states ++ more) k) is (get-left states more k here at) in
     (here, at, subst (λ (s : StateValue). (s.accepts ≡ true)) same good)
 longer-back states more trim (rank ∷ list) k inside (state, edge, is, held, by, next) =
     let (here, at) = get-some states k inside in
-    let same : state ≡ here = one_of state here (slice_get (states ++ more) k) is (get-left states more k here at) in
+    let same : state ≡ here = same-some state here (slice_get (states ++ more) k) is (get-left states more k here at) in
     let on : Contains here.edges edge = subst (λ (s : StateValue). Contains s.edges edge) same held in
     (here, edge, at, on, by, longer-back states more trim list edge.to (edge-there states trim k here edge at on) next)
 
@@ -62,11 +58,11 @@ module _ (front states : List StateValue) where
   pub shift-back : IsTrim states → (list : List ℕ) (k : ℕ) → k < length states → Accepts (front ++ map (shifted (length front)) states) (k + length front) list → Accepts states k list
   shift-back trim [] k inside (state, is, good) =
       let (here, at) = get-some states k inside in
-      let same : state ≡ shifted (length front) here = one_of state (shifted (length front) here) (slice_get all (k + length front)) is (shifted-there k here at) in
+      let same : state ≡ shifted (length front) here = same-some state (shifted (length front) here) (slice_get all (k + length front)) is (shifted-there k here at) in
       (here, at, subst (λ (s : StateValue). (s.accepts ≡ true)) same good)
   shift-back trim (rank ∷ list) k inside (state, edge, is, held, by, next) =
       let (here, at) = get-some states k inside in
-      let same : state ≡ shifted (length front) here = one_of state (shifted (length front) here) (slice_get all (k + length front)) is (shifted-there k here at) in
+      let same : state ≡ shifted (length front) here = same-some state (shifted (length front) here) (slice_get all (k + length front)) is (shifted-there k here at) in
       let (from, on, moved) = Contains-from (shifted_edge (length front)) here.edges edge (subst (λ (s : StateValue). Contains s.edges edge) same held) in (
         here,
         from,
@@ -95,7 +91,7 @@ module _ (front states : List StateValue) where
   both-trim before behind = λ state held. elim (Contains-append_cases front (map (shifted (length front)) states) state held) [
     | inl old ↦ record {
       rising = (before state old).rising;
-      alive = λ edge on. (let (list, accepts) = (before state old).alive edge on in (list, longer-forth front (map (shifted (length front)) states) list edge.to accepts));
+      alive = λ edge on. (let (list, accepts) = (before state old).alive edge on in (list, accepts-more front (map (shifted (length front)) states) list edge.to accepts));
     }
     | inr new ↦ (let (from, there, is) = Contains-from (shifted (length front)) states state new in
         subst (IsTrimState (front ++ map (shifted (length front)) states)) (sym is) (record {

@@ -1,9 +1,9 @@
 -- The stack of prefixes that wait.
-use Rattle.std.proofs.Common.{◌≡◌, ℕ, ◌+◌, ◌-◌, ◌≤◌, ◌<◌, inl, inr, true, List, [], ◌∷◌, ◌++◌, length, map, take, drop, slice_range, get_or, refl, sym, ap, ◌∙◌, subst, arith, append_assoc, length-append}
+use Rattle.std.proofs.Common.{◌≡◌, ℕ, ◌+◌, ◌-◌, ◌≤◌, ◌<◌, inl, inr, true, List, [], ◌∷◌, ◌++◌, length, take, drop, slice_range, get_or, refl, sym, ap, ◌∙◌, subst, arith, append_assoc, length-append}
 use Rattle.std.specs.List.{AllPairs, Contains}
 use Rattle.std.proofs.lemmas.List.{append-nil, map-append, take_all, take-append-le, take-append-drop, take-take, length-take-le, drop-append-le, drop_all}
 use Rattle.std.proofs.lemmas.List.Elements.{Contains-append_left, Contains-append_right, Contains-append_cases, Contains-push, Contains-get_or}
-use Rattle.mine_model.proofs.ListLemmas.{Contains-cases, Contains-first, Contains-other, Contains-none, AllPairs-append, AllPairs-tail, AllPairs-head, slice_range-append}
+use Rattle.mine_model.proofs.ListLemmas.{Contains-cases, Contains-first, Contains-none, AllPairs-append, AllPairs-tail, AllPairs-head, slice_range-append, map-same, pairs-front, pairs-back}
 use Rattle.group_search.specs.declared.loads.LoadedState.{LoadedState}
 use Rattle.group_search.specs.declared.step.Step.{Step}
 use Rattle.group_search.specs.declared.stack.Waiting.{Waiting}
@@ -14,24 +14,6 @@ use Rattle.group_search.proofs.WeighLemmas.{by-append, by-all, steps-less}
 use Rattle.group_search.proofs.KidLemmas.{kids-none, kids-light, kids-heavy}
 
 -- Lists
-
-map_within : {X Y : Type 0} (f g : X → Y) (xs : List X) → ((x : X) → Contains xs x → f x ≡ g x) → map f xs ≡ map g xs
-map_within f g [] same = refl
-map_within f g (x ∷ xs) same =
-    ap (λ y. y ∷ map f xs) (same x (Contains-first x xs)) ∙ ap (λ l. g x ∷ l) (map_within f g xs (λ y held. same y (Contains-other x xs y held)))
-
-pub pairs-front : {X : Type 0} (R : X → X → Type 0) (xs ys : List X) → AllPairs R (xs ++ ys) → AllPairs R xs
-pairs-front R [] ys pairs = λ i j d less within. absurd (omega (arith, less, within))
-pairs-front R (x ∷ xs) ys pairs =
-    AllPairs-append R (x ∷ []) xs (λ i j d less within. absurd (omega (arith, less, within))) (pairs-front R xs ys (AllPairs-tail R x (xs ++ ys) pairs))
-    (λ a b here there. elim (Contains-cases x [] a here) [
-      | inl is ↦ subst (λ y. R y b) (sym is) (AllPairs-head R x (xs ++ ys) pairs b (Contains-append_left xs ys b there))
-      | inr none ↦ absurd (Contains-none a none)
-    ])
-
-pub pairs-back : {X : Type 0} (R : X → X → Type 0) (xs ys : List X) → AllPairs R (xs ++ ys) → AllPairs R ys
-pairs-back R [] ys pairs = pairs
-pairs-back R (x ∷ xs) ys pairs = pairs-back R xs ys (AllPairs-tail R x (xs ++ ys) pairs)
 
 pub pairs-across : {X : Type 0} (R : X → X → Type 0) (xs ys : List X) → AllPairs R (xs ++ ys) → (x y : X) → Contains xs x → Contains ys y → R x y
 pairs-across R [] ys pairs x y here there = absurd (Contains-none x here)
@@ -111,7 +93,7 @@ module _ (prefix : List ℕ) (loads : List LoadedState) (front : List Waiting) (
   popped-waits =
       map-append (wait_of prefix loads) front (next ∷ [])
       ∙ ap (λ l. l ++ (record { prefix = new_prefix; loads = slice_range loads next.from next.end }) ∷ [])
-      (map_within (wait_of prefix loads) (wait_of new_prefix (take next.from loads)) front
+      (map-same (wait_of prefix loads) (wait_of new_prefix (take next.from loads)) front
       (λ entry held. entry-stays prefix loads entry next (low-entry entry held) top-entry (low-below entry held)))
 
 -- a stack whose fields are these
@@ -173,7 +155,7 @@ module _ (prefix : List ℕ) (loads more : List LoadedState) (entries : List Wai
   pushed-waits =
       map-append (wait_of prefix (loads ++ more)) entries (entry ∷ [])
       ∙ ap (λ l. l ++ wait_of prefix (loads ++ more) entry ∷ [])
-      (map_within (wait_of prefix (loads ++ more)) (wait_of prefix loads) entries (λ old held. entry-longer prefix loads more old (stacked.each old held)))
+      (map-same (wait_of prefix (loads ++ more)) (wait_of prefix loads) entries (λ old held. entry-longer prefix loads more old (stacked.each old held)))
       ∙ ap (λ (w : Wait). waits_in prefix loads entries ++ w ∷ []) new
     where
       whole : take entry.depth prefix ≡ prefix

@@ -10,12 +10,12 @@ use Rattle.std.proofs.lemmas.List.Sums.{sum_by-cons, sum_by-append, sum_by-le-su
 use Rattle.std.proofs.lemmas.List.Sorted.{sum_by-IsPermutation}
 use Rattle.std.proofs.lemmas.Option.{slice_get-get_or, slice_get_within}
 use Rattle.mine_model.proofs.ListLemmas.{Contains-cases, Contains-none, Contains-from, AllPairs-head, AllPairs-tail}
-use Rattle.mine_model.proofs.ElementLemmas.{get-held}
+use Rattle.mine_model.proofs.ElementLemmas.{get-held, same-some}
 use Rattle.mine_model.proofs.SumLemmas.{sum_by-flat_map, sum_by-same, sum_by-most, sum_by-none}
 use Rattle.automaton_model.specs.declared.state.Edge.{Edge}
 use Rattle.automaton_model.specs.Automata.{StateValue, Accepts}
 use Rattle.automaton_model.specs.Searches.{Load, Weigh}
-use Rattle.automaton_model.proofs.AutomatonLemmas.{accepts-decided, one_of}
+use Rattle.automaton_model.proofs.AutomatonLemmas.{accepts-decided}
 use Rattle.group_search.specs.declared.loads.LoadedState.{LoadedState}
 use Rattle.group_search.specs.declared.step.Step.{Step}
 use Rattle.group_search.specs.Found.{load_of}
@@ -57,7 +57,7 @@ pub state-there : (states : List StateValue) (k : ℕ) → k < length states →
 state-there states k inside = slice_get-get_or states k (record { accepts = false; edges = [] }) inside
 
 pub at-there : (states : List StateValue) (k : ℕ) (state : StateValue) → slice_get states k ≡ Some state → state_at states k ≡ state
-at-there states k state is = one_of (state_at states k) state (slice_get states k) (state-there states k (slice_get_within states k state is)) is
+at-there states k state is = same-some (state_at states k) state (slice_get states k) (state-there states k (slice_get_within states k state is)) is
 
 -- the empty list is accepted where a list may end
 pub ends-here : (states : List StateValue) (k : ℕ) → k < length states → (state_at states k).accepts ≡ is_accepted states [] k
@@ -65,7 +65,7 @@ ends-here states k inside = go (state_at states k).accepts refl
   where
     go : (b : Bool) → (state_at states k).accepts ≡ b → (state_at states k).accepts ≡ is_accepted states [] k
     go true is = is ∙ sym (accepted-true states [] k (state_at states k, state-there states k inside, is))
-    go false is = is ∙ sym (accepted-false states [] k (λ (s, at, good). true≢false (sym good ∙ ap (λ (t : StateValue). t.accepts) (one_of s (state_at states k) (slice_get states k) at (state-there states k inside)) ∙ is)))
+    go false is = is ∙ sym (accepted-false states [] k (λ (s, at, good). true≢false (sym good ∙ ap (λ (t : StateValue). t.accepts) (same-some s (state_at states k) (slice_get states k) at (state-there states k inside)) ∙ is)))
 
 -- Sums and relations
 

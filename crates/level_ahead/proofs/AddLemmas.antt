@@ -1,7 +1,7 @@
 -- What follows behind ranks, sequence after sequence.
 use Rattle.std.proofs.Common.{◌≡◌, ℕ, ◌+◌, ◌≤◌, ◌<◌, ◌⊎◌, ◌↔◌, inl, inr, Option, List, [], ◌∷◌, ◌++◌, length, get_or, drop, append_assoc, refl, sym, ap, ◌∙◌, subst, arith}
 use Rattle.std.specs.List.{Contains, slice_range}
-use Rattle.std.proofs.lemmas.List.{map-append}
+use Rattle.std.proofs.lemmas.List.{map-append, drop_all}
 use Rattle.mine_model.specs.Support.{Counts}
 use Rattle.mine_model.proofs.ListLemmas.{Contains-cases, Contains-first, Contains-other, Contains-none}
 use Rattle.mine_model.proofs.FrequencyLemmas.{Counts-append}
@@ -10,7 +10,7 @@ use Rattle.place_walk.specs.declared.visit.Visit.{Visit}
 use Rattle.place_walk.specs.Courses.{Course}
 use Rattle.stand_sums.specs.Writings.{Ranks, follows}
 use Rattle.stand_sums.specs.Sequences.{weighed, all_weighed, AreSequences}
-use Rattle.stand_sums.proofs.CutLemmas.{AreNone, next-cut, all-none, drop-past}
+use Rattle.stand_sums.proofs.CutLemmas.{AreNone, next-cut, all-none}
 use Rattle.mask_sums.proofs.SetLemmas.{has-or-not}
 use Rattle.mask_sums.proofs.RunLemmas.{range-none, range-more}
 use Rattle.state_bits.proofs.NeighbourLemmas.{Has-none}
@@ -187,7 +187,7 @@ module _ (course : Course) (ranks : Ranks) (lacking : Option ℕ) where
   pub added-all : (asked : ℕ) (visits : List Visit) (from : ℕ) (sequences : List (List Visit)) (before now : List (List ℕ)) → AreAddedTo asked visits from sequences before now → length visits ≤ from
       → (rank : ℕ) → Has asked rank → AreAdded course ranks lacking sequences (behind_at before rank) (behind_at now rank)
   added-all asked visits from sequences before now to past rank is =
-      let none : drop from visits ≡ [] = drop-past from visits past in
+      let none : drop from visits ≡ [] = drop_all from visits past in
       let after : Behind = behind_at now rank in
       rw (to.cut)
       (more-added to.done to.left (behind_at before rank) after after (to.added rank is) (none-added to.left after (all-none (drop from visits) to.left none to.left_are)))

@@ -1,5 +1,5 @@
 -- What follows a longer prefix, from what was counted behind its last rank.
-use Rattle.std.proofs.Common.{◌≡◌, ℕ, zero, suc, ◌+◌, ◌<◌, ◌≤◌, inl, inr, Bool, true, false, true≢false, cond, ◌||◌, ◌&&◌, ◌==◌, IsTrue, Some, None, List, [], ◌∷◌, length, map, get_or, replicate, refl, sym, ap, ◌∙◌, subst, arith}
+use Rattle.std.proofs.Common.{◌≡◌, ℕ, zero, suc, ◌+◌, ◌<◌, ◌≤◌, inl, inr, Bool, true, false, cond, ◌==◌, IsTrue, Some, None, List, [], ◌∷◌, length, map, get_or, replicate, refl, sym, ap, ◌∙◌, subst, arith}
 use Rattle.std.specs.List.{All, AllZip, Contains, list_any, slice_get}
 use Rattle.std.specs.Prelude.{nat_le}
 use Rattle.std.proofs.lemmas.Bool.{cases_eq, cases_lt, ne_eqb}
@@ -8,6 +8,7 @@ use Rattle.std.proofs.lemmas.List.Elements.{All-contains, Contains-append_left, 
 use Rattle.std.proofs.lemmas.Option.{same_Some}
 use Rattle.mine_model.specs.Support.{Counts}
 use Rattle.mine_model.proofs.ListLemmas.{Contains-cases, Contains-first, Contains-other, Contains-none, Contains-by, Contains-from}
+use Rattle.mine_model.proofs.ElementLemmas.{among-held}
 use Rattle.place_walk.specs.declared.visit.Visit.{Visit}
 use Rattle.place_walk.specs.declared.stand.Stand.{Stand}
 use Rattle.place_walk.specs.Courses.{Course}
@@ -15,17 +16,17 @@ use Rattle.place_walk.specs.Visits.{AreVisits}
 use Rattle.place_walk.specs.Groups.{AreGroups}
 use Rattle.stand_sums.specs.declared.aim.Aim.{Aim}
 use Rattle.stand_sums.specs.declared.next_rank.NextRank.{NextRank}
-use Rattle.stand_sums.specs.Writings.{Ranks, writes, goes_on, stops, follows}
+use Rattle.stand_sums.specs.Writings.{Ranks, follows}
 use Rattle.stand_sums.specs.Sequences.{HasOne, all_weighed, AreSequences}
 use Rattle.stand_sums.specs.Sums.{Tally, empty_tally, AreCounted, AreLaidOut, AreNext, IsTold}
 use Rattle.stand_sums.specs.Files.{stands_of}
+use Rattle.stand_sums.proofs.WritingLemmas.{follows-writes}
 use Rattle.mask_sums.specs.Kept.{free, IsSeen}
 use Rattle.mask_sums.proofs.SetLemmas.{none-counted as zero-counted}
 use Rattle.mask_sums.proofs.RoomLemmas.{free-counted}
 use Rattle.level_ahead.specs.declared.next_of.NextOf.{NextOf}
 use Rattle.level_ahead.specs.Counts.{Behind, AreAdded, AreReaching}
 use Rattle.level_ahead.specs.Longer.{last_tally, last_told, last_tallies}
-use Rattle.level_ahead.proofs.NeedLemmas.{among}
 use Rattle.level_ahead.proofs.StandLemmas.{AreMatched, matched}
 use Rattle.level_ahead.proofs.LongerLemmas.{EachStand, kids-counted, kids-quiet, quiet-counted, free-stands}
 
@@ -118,14 +119,10 @@ longer-next counts count least enough found some few none are = record {
 
 -- ---- ranks that do not follow
 
-both-write : (w m e : Bool) → ((w && m) || (w && e)) ≡ true → w ≡ true
-both-write true m e is = refl
-both-write false m e is = absurd (true≢false (sym is))
-
 written-below : (ranks : Ranks) (count rank : ℕ) (visit : Visit) → All (λ r. r < count) (ranks visit.kind visit.action.state) → IsTrue (follows ranks free rank visit) → rank < count
 written-below ranks count rank visit is following =
     All-contains (λ r. r < count) (ranks visit.kind visit.action.state) rank is
-    (among rank (ranks visit.kind visit.action.state) (both-write (writes ranks rank visit) (goes_on free rank visit.action) (stops free rank visit.action) following))
+    (among-held rank (ranks visit.kind visit.action.state) (follows-writes ranks free rank visit following))
 
 in-visits : (visits : List Visit) (kids : List (List Visit)) → AreSequences visits kids → (kid : List Visit) → Contains kids kid → (visit : Visit) → Contains kid visit → Contains visits visit
 in-visits visits [] none kid held visit inside = absurd (Contains-none kid held)

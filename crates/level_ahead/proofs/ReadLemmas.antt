@@ -10,10 +10,11 @@ use Rattle.place_walk.specs.Visits.{AreVisits}
 use Rattle.stand_sums.specs.Writings.{Ranks, goes_on, opens, ends, follows}
 use Rattle.stand_sums.specs.Sequences.{HasOne}
 use Rattle.stand_sums.specs.Files.{stand_at}
+use Rattle.stand_sums.proofs.WritingLemmas.{bare}
 use Rattle.mask_sums.specs.Kept.{free, lacks}
 use Rattle.mask_sums.proofs.SetLemmas.{opens-no}
 use Rattle.level_ahead.specs.Behind.{HasBehind, FollowsBehind, goes_further, GoesOnBehind}
-use Rattle.level_ahead.proofs.NeedLemmas.{bare, further-bare, opens-has}
+use Rattle.level_ahead.proofs.NeedLemmas.{further-bare, opens-has}
 use Rattle.level_ahead.proofs.BehindLemmas.{one-opens, one-behind, behind-one, found-behind, behind-found}
 
 -- ---- visits that do not go on

@@ -63,9 +63,6 @@ room-none ranks asked sets counts none empty =
 
 -- ---- the ranks that are asked about, one after another
 
-abbrev pub no_rank : NextRank
-no_rank = record { rank = 0; weight = 0; support = 0; longer = 0; first = 0; last = 0 }
-
 -- of the first so many of those that were found
 pub record AreBegun (lacking : Option ℕ) (found : List NextRank) (k : ℕ) (ranks : List ℕ) (asked : ℕ) (before now : List (List ℕ)) : Type 0 where
   pub asked_are : (rank : ℕ) → Has asked rank ↔ Contains ranks rank

@@ -12,10 +12,10 @@ use Rattle.mask_sums.specs.Kept.{lacks, OpensIn, HasOneMore}
 -- ---- with the rank, and with another
 
 module _ (need rank : ℕ) (action : Action) where
-  goes-same : need ≡ rank → goes_on (lacks (Some need)) rank action ≡ action.more
+  pub goes-same : need ≡ rank → goes_on (lacks (Some need)) rank action ≡ action.more
   goes-same same = ap (λ (b : Bool). cond b action.more action.unseen) (eq-eqb need rank same)
 
-  goes-other : (need ≡ rank → ⊥) → goes_on (lacks (Some need)) rank action ≡ action.unseen
+  pub goes-other : (need ≡ rank → ⊥) → goes_on (lacks (Some need)) rank action ≡ action.unseen
   goes-other other = ap (λ (b : Bool). cond b action.more action.unseen) (ne_eqb need rank other)
 
 module _ (mask need : ℕ) (action : Action) (rank : ℕ) where

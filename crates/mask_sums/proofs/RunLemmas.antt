@@ -1,7 +1,7 @@
 -- What is counted by sets, sequence after sequence.
 use Rattle.std.proofs.Common.{◌≡◌, ℕ, ◌+◌, ◌-◌, ◌≤◌, ◌<◌, ◌⊎◌, ◌↔◌, inl, inr, Bool, true, false, true≢false, not, IsTrue, Some, List, [], ◌∷◌, ◌++◌, length, take, drop, get_or, append_assoc, refl, sym, ap, ◌∙◌, subst, arith}
 use Rattle.std.specs.List.{slice_get, slice_range, filter}
-use Rattle.std.proofs.lemmas.List.{map-append, length-append, append-nil, take_all, take_more, get_or-drop, length-drop, length-take-le}
+use Rattle.std.proofs.lemmas.List.{map-append, length-append, append-nil, take_all, take_more, get_or-drop, length-drop, length-take-le, drop_all}
 use Rattle.std.proofs.lemmas.Option.{get_or_from_slice_get}
 use Rattle.std.proofs.lemmas.List.Elements.{filter-append}
 use Rattle.state_bits.specs.Members.{Has}
@@ -11,7 +11,7 @@ use Rattle.stand_sums.specs.Writings.{Ranks, opens, ends, follows}
 use Rattle.stand_sums.specs.Sequences.{HasOne, weighed, all_weighed, AreSequences}
 use Rattle.stand_sums.specs.Sums.{Tally, Grows, stands_among, AreCounted}
 use Rattle.stand_sums.specs.Kept.{IsSequenceEnd}
-use Rattle.stand_sums.proofs.CutLemmas.{AreNone, next-cut, all-none, take-range, drop-past}
+use Rattle.stand_sums.proofs.CutLemmas.{AreNone, next-cut, all-none, take-range}
 use Rattle.stand_sums.proofs.PartLemmas.{grows-more, none-counted}
 use Rattle.mask_sums.specs.declared.masked.Masked.{Masked}
 use Rattle.mask_sums.specs.declared.counting.Read.{Read}
@@ -175,7 +175,7 @@ counted-more ranks aim visits from end sequences before between now to ends step
 pub counted-all : (ranks : Ranks) (aim : Aim) (visits : List Visit) (from : ℕ) (sequences : List (List Visit)) (before now : Masked) → AreCountedTo ranks aim visits from sequences before now → length visits ≤ from
     → (rank : ℕ) → rank < 256 → AreCounted ranks aim [] rank visits sequences (masked_at before rank) (masked_at now rank)
 counted-all ranks aim visits from sequences before now to past rank few =
-    let none : drop from visits ≡ [] = drop-past from visits past in
+    let none : drop from visits ≡ [] = drop_all from visits past in
     let after : Tally = masked_at now rank in
     let quiet = nothing-counted ranks aim [] rank to.left after (all-none (drop from visits) to.left none to.left_are) in
     let both = counts-more ranks aim [] rank (take from visits) [] to.done to.left (masked_at before rank) after after (to.counted rank few) quiet in

@@ -1,9 +1,10 @@
 -- Sets of the ranks that visits write.
-use Rattle.std.proofs.Common.{◌≡◌, ℕ, zero, suc, ◌+◌, ◌⊎◌, ◌↔◌, inl, inr, Bool, true, false, cond, true≢false, ◌||◌, ◌&&◌, ◌==◌, IsTrue, List, [], ◌∷◌, ◌++◌, length, get_or, replicate, refl, sym, ap, ◌∙◌, subst, arith}
+use Rattle.std.proofs.Common.{◌≡◌, ℕ, zero, suc, ◌+◌, ◌⊎◌, ◌↔◌, inl, inr, Bool, true, false, cond, true≢false, ◌==◌, IsTrue, List, [], ◌∷◌, ◌++◌, length, get_or, replicate, refl, sym, ap, ◌∙◌, subst, arith}
 use Rattle.std.specs.List.{Contains, list_any}
-use Rattle.std.proofs.lemmas.Bool.{cases_eq, eq-eqb, ne_eqb}
+use Rattle.std.proofs.lemmas.Bool.{cases_eq, eq-eqb, ne_eqb, and_parts, and_from, or_cases, or_left, or_right}
 use Rattle.std.proofs.lemmas.List.Elements.{Contains-push, Contains-push_cases, Contains-append_left}
-use Rattle.mine_model.proofs.ListLemmas.{Contains-cases, Contains-first, Contains-other, Contains-none}
+use Rattle.mine_model.proofs.ListLemmas.{Contains-cases, Contains-none}
+use Rattle.mine_model.proofs.ElementLemmas.{among-held}
 use Rattle.state_bits.specs.Members.{Has}
 use Rattle.state_bits.proofs.NeighbourLemmas.{Has-none}
 use Rattle.place_walk.specs.declared.visit.Visit.{Visit}
@@ -29,15 +30,6 @@ none-counted (suc n) (suc rank) = none-counted n rank
 
 -- ---- the ranks of a visit
 
-among-from : (rank : ℕ) (ranks : List ℕ) → list_any (λ other. other == rank) ranks ≡ true → Contains ranks rank
-among-from rank [] is = absurd (cc)
-among-from rank (one ∷ ranks) is = elim (cases_eq one rank) [
-  | inl same ↦ subst (Contains (one ∷ ranks)) same (Contains-first one ranks)
-  | inr other ↦
-      Contains-other one ranks rank
-      (among-from rank ranks (sym (ap (λ (b : Bool). b || list_any (λ other. other == rank) ranks) (ne_eqb one rank other)) ∙ is))
-]
-
 pub among-to : (rank : ℕ) (ranks : List ℕ) → Contains ranks rank → list_any (λ other. other == rank) ranks ≡ true
 among-to rank [] held = absurd (Contains-none rank held)
 among-to rank (one ∷ ranks) held = elim (cases_eq one rank) [
@@ -54,41 +46,30 @@ module _ (ranks : Ranks) (visit : Visit) (mask : ℕ) (is : (rank : ℕ) → Has
   writes-from has = among-to rank (ranks visit.kind visit.action.state) ((is rank).0 has)
 
   writes-to : list_any (λ other. other == rank) (ranks visit.kind visit.action.state) ≡ true → Has mask rank
-  writes-to writes = (is rank).1 (among-from rank (ranks visit.kind visit.action.state) writes)
-
-and-both : (one other : Bool) → one ≡ true → other ≡ true → (one && other) ≡ true
-and-both one other first second = rw first second
-
-and-first : (one other : Bool) → (one && other) ≡ true → one ≡ true
-and-first true other both = refl
-and-first false other both = absurd (true≢false (sym both))
-
-and-second : (one other : Bool) → (one && other) ≡ true → other ≡ true
-and-second true other both = both
-and-second false other both = absurd (true≢false (sym both))
+  writes-to writes = (is rank).1 (among-held rank (ranks visit.kind visit.action.state) writes)
 
 module _ (ranks : Ranks) (visit : Visit) (mask : ℕ) (is : (rank : ℕ) → Has mask rank ↔ Contains (ranks visit.kind visit.action.state) rank) where
   -- behind a visit that goes on, what it writes opens
   pub opens-yes : visit.action.more ≡ true → (rank : ℕ) → Has mask rank ↔ IsTrue (opens ranks free rank visit)
   opens-yes more rank = (
-    (λ has. and-both (list_any (λ other. other == rank) (ranks visit.kind visit.action.state)) visit.action.more (writes-from ranks visit mask is rank has) more),
-    (λ opening. writes-to ranks visit mask is rank (and-first (list_any (λ other. other == rank) (ranks visit.kind visit.action.state)) visit.action.more opening)),
+    (λ has. and_from (list_any (λ other. other == rank) (ranks visit.kind visit.action.state)) visit.action.more (writes-from ranks visit mask is rank has) more),
+    (λ opening. writes-to ranks visit mask is rank ((and_parts (list_any (λ other. other == rank) (ranks visit.kind visit.action.state)) visit.action.more opening).0)),
   )
 
   pub ends-yes : visit.action.ends ≡ true → (rank : ℕ) → Has mask rank ↔ IsTrue (ends ranks free rank visit)
   ends-yes stops rank = (
-    (λ has. and-both (list_any (λ other. other == rank) (ranks visit.kind visit.action.state)) visit.action.ends (writes-from ranks visit mask is rank has) stops),
-    (λ ending. writes-to ranks visit mask is rank (and-first (list_any (λ other. other == rank) (ranks visit.kind visit.action.state)) visit.action.ends ending)),
+    (λ has. and_from (list_any (λ other. other == rank) (ranks visit.kind visit.action.state)) visit.action.ends (writes-from ranks visit mask is rank has) stops),
+    (λ ending. writes-to ranks visit mask is rank ((and_parts (list_any (λ other. other == rank) (ranks visit.kind visit.action.state)) visit.action.ends ending).0)),
   )
 
 -- and else nothing does
 pub opens-no : (ranks : Ranks) (visit : Visit) → visit.action.more ≡ false → (rank : ℕ) → IsTrue (opens ranks free rank visit) → ⊥
 opens-no ranks visit stays rank opening =
-    true≢false (sym (and-second (list_any (λ other. other == rank) (ranks visit.kind visit.action.state)) visit.action.more opening) ∙ stays)
+    true≢false (sym ((and_parts (list_any (λ other. other == rank) (ranks visit.kind visit.action.state)) visit.action.more opening).1) ∙ stays)
 
 pub ends-no : (ranks : Ranks) (visit : Visit) → visit.action.ends ≡ false → (rank : ℕ) → IsTrue (ends ranks free rank visit) → ⊥
 ends-no ranks visit stays rank ending =
-    true≢false (sym (and-second (list_any (λ other. other == rank) (ranks visit.kind visit.action.state)) visit.action.ends ending) ∙ stays)
+    true≢false (sym ((and_parts (list_any (λ other. other == rank) (ranks visit.kind visit.action.state)) visit.action.ends ending).1) ∙ stays)
 
 -- ---- behind any prefix
 
@@ -96,19 +77,19 @@ module _ (ranks : Ranks) (aim : Aim) (visit : Visit) (mask : ℕ) (is : (rank : 
   -- the ranks of its set with which a visit goes on are those that open
   pub opens-set : OpensIn aim visit.action mask rank ↔ IsTrue (opens ranks aim rank visit)
   opens-set = (
-    (λ (has, on). and-both (list_any (λ other. other == rank) (ranks visit.kind visit.action.state)) (goes_on aim rank visit.action) (writes-from ranks visit mask is rank has) on),
+    (λ (has, on). and_from (list_any (λ other. other == rank) (ranks visit.kind visit.action.state)) (goes_on aim rank visit.action) (writes-from ranks visit mask is rank has) on),
     (λ opening. (
-      writes-to ranks visit mask is rank (and-first (list_any (λ other. other == rank) (ranks visit.kind visit.action.state)) (goes_on aim rank visit.action) opening),
-      and-second (list_any (λ other. other == rank) (ranks visit.kind visit.action.state)) (goes_on aim rank visit.action) opening,
+      writes-to ranks visit mask is rank ((and_parts (list_any (λ other. other == rank) (ranks visit.kind visit.action.state)) (goes_on aim rank visit.action) opening).0),
+      (and_parts (list_any (λ other. other == rank) (ranks visit.kind visit.action.state)) (goes_on aim rank visit.action) opening).1,
     )),
   )
 
   pub ends-set : EndsIn aim visit.action mask rank ↔ IsTrue (ends ranks aim rank visit)
   ends-set = (
-    (λ (has, ending). and-both (list_any (λ other. other == rank) (ranks visit.kind visit.action.state)) (stops aim rank visit.action) (writes-from ranks visit mask is rank has) ending),
+    (λ (has, ending). and_from (list_any (λ other. other == rank) (ranks visit.kind visit.action.state)) (stops aim rank visit.action) (writes-from ranks visit mask is rank has) ending),
     (λ ending. (
-      writes-to ranks visit mask is rank (and-first (list_any (λ other. other == rank) (ranks visit.kind visit.action.state)) (stops aim rank visit.action) ending),
-      and-second (list_any (λ other. other == rank) (ranks visit.kind visit.action.state)) (stops aim rank visit.action) ending,
+      writes-to ranks visit mask is rank ((and_parts (list_any (λ other. other == rank) (ranks visit.kind visit.action.state)) (stops aim rank visit.action) ending).0),
+      (and_parts (list_any (λ other. other == rank) (ranks visit.kind visit.action.state)) (stops aim rank visit.action) ending).1,
     )),
   )
 
@@ -165,25 +146,14 @@ set-more test visits visit before after is more rank = (
 
 -- ---- what follows is what goes on or ends
 
-or-cases : (one other : Bool) → (one || other) ≡ true → (one ≡ true) ⊎ (other ≡ true)
-or-cases true other either = inl refl
-or-cases false other either = inr either
-
-or-first : (one other : Bool) → one ≡ true → (one || other) ≡ true
-or-first one other is = rw is refl
-
-or-second : (one other : Bool) → other ≡ true → (one || other) ≡ true
-or-second true other is = refl
-or-second false other is = is
-
 pub follows-sets : (ranks : Ranks) (aim : Aim) (visits : List Visit) (opened ended : ℕ) → IsSetOf (opens ranks aim) visits opened → IsSetOf (ends ranks aim) visits ended
     → (rank : ℕ) → (Has opened rank ⊎ Has ended rank) ↔ HasOne (follows ranks aim rank) visits
 follows-sets ranks aim visits opened ended opening ending rank = (
   (λ has. elim has [
-    | inl there ↦ let (one, held, passes) = (opening rank).0 there in (one, held, or-first (opens ranks aim rank one) (ends ranks aim rank one) passes)
-    | inr there ↦ let (one, held, passes) = (ending rank).0 there in (one, held, or-second (opens ranks aim rank one) (ends ranks aim rank one) passes)
+    | inl there ↦ let (one, held, passes) = (opening rank).0 there in (one, held, or_left (opens ranks aim rank one) (ends ranks aim rank one) passes)
+    | inr there ↦ let (one, held, passes) = (ending rank).0 there in (one, held, or_right (opens ranks aim rank one) (ends ranks aim rank one) passes)
   ]),
-  (λ (one, held, passes). elim (or-cases (opens ranks aim rank one) (ends ranks aim rank one) passes) [
+  (λ (one, held, passes). elim (or_cases (opens ranks aim rank one) (ends ranks aim rank one) passes) [
     | inl opens_one ↦ inl ((opening rank).1 (one, held, opens_one))
     | inr ends_one ↦ inr ((ending rank).1 (one, held, ends_one))
   ]),

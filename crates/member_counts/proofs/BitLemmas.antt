@@ -1,10 +1,11 @@
 -- Bits of words, and sums of them.
-use Rattle.std.proofs.Common.{◌≡◌, ℕ, zero, suc, ◌+◌, ◌-◌, ◌*◌, ◌/◌, ◌%◌, ◌^◌, ◌<◌, min, max, List, length, bit_and, bit_or, arith, refl, sym, ap, ◌∙◌, inl, inr}
+use Rattle.std.proofs.Common.{◌≡◌, ℕ, zero, suc, ◌+◌, ◌-◌, ◌*◌, ◌/◌, ◌%◌, ◌^◌, ◌<◌, min, max, List, bit_and, bit_or, arith, refl, sym, ap, ◌∙◌, inl, inr}
 use Rattle.std.specs.Int.{bit_at}
 use Rattle.std.specs.Int.RustNames.{bit_xor}
 use Rattle.std.proofs.lemmas.Nat.Bits.{bit_at-lt, bit_at_and, bit_at_or, bit_at_xor, bit_at_cat_low, bit_at_cat_high}
 use Rattle.std.proofs.lemmas.Bool.{cases_lt}
 use Rattle.state_bits.specs.Members.{words_of}
+use Rattle.state_bits.proofs.WordLemmas.{length-words_of}
 use Rattle.member_counts.specs.Digits.{bit_in}
 
 -- the sum of three bits and what it carries
@@ -26,11 +27,6 @@ pub bits_added : (a b c k : ℕ) → bit_at (bit_xor (bit_xor a b) c) k + 2 * bi
 bits_added a b c k =
     rw (bit_at_xor (bit_xor a b) c k, bit_at_or (bit_and a b) (bit_and (bit_xor a b) c) k, bit_at_and a b k, bit_at_and (bit_xor a b) c k, bit_at_xor a b k)
     (sum_of_three (bit_at a k) (bit_at b k) (bit_at c k) (bit_at-lt a k) (bit_at-lt b k) (bit_at-lt c k))
-
-pub length-words_of : (width set : ℕ) → length (words_of width set) ≡ width
-unfolding words_of
-length-words_of zero set = refl
-length-words_of (suc width) set = omega (arith, length-words_of width (set / 2 ^ 64))
 
 -- the words of a set have its bits
 pub bit_in-words_of : (width set q : ℕ) → q < 64 * width → bit_in (words_of width set) q ≡ bit_at set q

@@ -1,5 +1,5 @@
 -- Sequences that weigh enough together, and prefixes that are alive.
-use Rattle.std.proofs.Common.{◌≡◌, ◌↔◌, ℕ, suc, ◌+◌, ◌-◌, ◌≤◌, ◌<◌, inl, inr, List, [], ◌∷◌, ◌++◌, map, length, refl, sym, ap, subst, arith, append_assoc}
+use Rattle.std.proofs.Common.{◌≡◌, ◌↔◌, ℕ, suc, ◌+◌, ◌-◌, ◌≤◌, ◌<◌, inl, inr, List, [], ◌∷◌, ◌++◌, map, length, sym, ap, subst, arith, append_assoc}
 use Rattle.std.specs.List.{AllPairs, Contains}
 use Rattle.std.proofs.lemmas.Bool.{cases_eq}
 use Rattle.std.proofs.lemmas.List.{append-nil}
@@ -9,7 +9,7 @@ use Rattle.mine_model.specs.Generation.{IsPatternOf}
 use Rattle.mine_model.specs.Support.{Sequence, Counts}
 use Rattle.mine_model.specs.Answer.{Data, IsFrequent}
 use Rattle.mine_model.specs.Growth.{WeighAtLeast, HasPatternBehind, IsAlive}
-use Rattle.mine_model.proofs.ListLemmas.{Contains-cases, Contains-first, Contains-other, Contains-none, AllPairs-head, AllPairs-tail}
+use Rattle.mine_model.proofs.ListLemmas.{Contains-cases, Contains-first, Contains-other, Contains-none, AllPairs-head, AllPairs-tail, map-same}
 
 -- Weights
 
@@ -53,10 +53,6 @@ WeighAtLeast-weaker Has Also follows (s ∷ sequences) m (inl p) = inl (follows 
 WeighAtLeast-weaker Has Also follows (s ∷ sequences) m (inr p) = inr (WeighAtLeast-weaker Has Also follows sequences m p)
 
 -- Sequences by their numbers
-
-map-same : {X Y : Type 0} (f g : X → Y) (xs : List X) → ((x : X) → Contains xs x → f x ≡ g x) → map f xs ≡ map g xs
-map-same f g [] same = refl
-map-same f g (x ∷ xs) same = λ i. same x (Contains-first x xs) i ∷ map-same f g xs (λ y held. same y (Contains-other x xs y held)) i
 
 -- the sequence with this number, where the first has the number `from`
 abbrev numbered : ℕ → List (Sequence Item) → ℕ → Sequence Item

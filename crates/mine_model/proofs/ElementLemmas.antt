@@ -1,9 +1,17 @@
 -- Elements of a list, and of a list of pieces.
-use Rattle.std.proofs.Common.{◌≡◌, ◌≢◌, ℕ, zero, suc, ◌+◌, ◌<◌, ◌⊎◌, inl, inr, Some, List, [], ◌∷◌, ◌++◌, slice_get, set, map, length, refl, ap, ◌∙◌, subst, arith, sum_by, Contains, flat_map}
+use Rattle.std.proofs.Common.{◌≡◌, ◌≢◌, ℕ, zero, suc, ◌+◌, ◌<◌, ◌⊎◌, inl, inr, Some, List, [], ◌∷◌, ◌++◌, slice_get, set, map, length, refl, ap, ◌∙◌, subst, arith, sum_by, Contains, flat_map, Option, Bool, true, sym, take, ◌==◌, nat_eq}
 use Rattle.mine_model.proofs.ListLemmas.{Contains-cases, Contains-first, Contains-other, Contains-none}
 use Rattle.std.proofs.lemmas.List.Elements.{Contains-append_left, Contains-append_right, Contains-append_cases}
 use Rattle.std.proofs.lemmas.List.Sums.{sum_by-append}
-use Rattle.std.proofs.lemmas.Option.{slice_get-map}
+use Rattle.std.proofs.lemmas.Option.{slice_get-map, same_Some, slice_get-get_or, slice_get_within, get_or_from_slice_get}
+use Rattle.std.specs.List.{list_any}
+use Rattle.std.proofs.lemmas.List.{take_more}
+use Rattle.std.proofs.lemmas.List.Folds.{Any-from_list_any}
+use Rattle.std.proofs.lemmas.Bool.{eqb-true}
+use Rattle.std.specs.Bool.{Decides}
+use Rattle.std.specs.Cmp.Lexicographic.{pointwise}
+use Rattle.std.proofs.lemmas.Bool.Decides.{Decides-eqb}
+use Rattle.std.proofs.lemmas.Slice.Eq.{slice_eq-Decides}
 
 pub get-some : {X : Type 0} (xs : List X) (i : ℕ) → i < length xs → (x : X) × (slice_get xs i ≡ Some x)
 get-some [] i l = absurd (omega arith)
@@ -15,6 +23,18 @@ get-held [] i x is = absurd (cc)
 get-held (y ∷ xs) zero x is = let same : y ≡ x = cc in subst (Contains (y ∷ xs)) same (Contains-first y xs)
 get-held (y ∷ xs) (suc i) x is = Contains-other y xs x (get-held xs i x is)
 
+-- where an element of a list stands
+pub get-place : {X : Type 0} (xs : List X) (x : X) → Contains xs x → (k : ℕ) × (slice_get xs k ≡ Some x)
+get-place xs x (k, below, is) = (k, slice_get-get_or xs k x below ∙ ap (λ y. Some y) is)
+
+-- lists that are equal have one first element
+pub first-same : {X : Type 0} (x y : X) (xs ys : List X) → x ∷ xs ≡ y ∷ ys → x ≡ y
+first-same x y xs ys same = cc
+
+-- a place has one element
+pub same-some : {X : Type 0} (x y : X) (o : Option X) → o ≡ Some x → o ≡ Some y → x ≡ y
+same-some x y o p q = cc
+
 -- what stands in the front of a list stands there in the whole list
 pub get-left : {X : Type 0} (xs ys : List X) (i : ℕ) (x : X) → slice_get xs i ≡ Some x → slice_get (xs ++ ys) i ≡ Some x
 get-left [] ys i x is = absurd (cc)
@@ -24,6 +44,12 @@ get-left (y ∷ xs) ys (suc i) x is = get-left xs ys i x is
 -- what stands in a mapped list
 pub slice_get-mapped_by : {X Y : Type 0} (f : X → Y) (xs : List X) (i : ℕ) (x : X) → slice_get xs i ≡ Some x → slice_get (map f xs) i ≡ Some (f x)
 slice_get-mapped_by f xs i x found = slice_get-map f xs i ∙ (rw found refl)
+
+-- what stands in a mapped list is the image of what stands there
+pub get-from : {X Y : Type 0} (f : X → Y) (xs : List X) (k : ℕ) (y : Y) → slice_get (map f xs) k ≡ Some y → (x : X) × (slice_get xs k ≡ Some x) × (y ≡ f x)
+get-from f [] k y at = absurd (cc)
+get-from f (x ∷ xs) zero y at = (x, refl, sym (same_Some (f x) y at))
+get-from f (x ∷ xs) (suc k) y at = get-from f xs k y at
 
 -- what stands in a list after one element changed
 pub get_set_same : {X : Type 0} (xs : List X) (i : ℕ) (x y : X) → slice_get xs i ≡ Some x → slice_get (set xs i y) i ≡ Some y
@@ -52,6 +78,18 @@ get_last (x ∷ xs) y = get_last xs y
 pub stands_last : {X : Type 0} (xs : List X) (y : X) (number : ℕ) → number ≡ length xs → slice_get (xs ++ y ∷ []) number ≡ Some y
 stands_last xs y number is = ap (slice_get (xs ++ y ∷ [])) is ∙ get_last xs y
 
+-- one more of a list
+pub take-next : {X : Type 0} (xs : List X) (i : ℕ) (x : X) → slice_get xs i ≡ Some x → take (i + 1) xs ≡ take i xs ++ x ∷ []
+take-next xs i x at = take_more xs i x (slice_get_within xs i x at) ∙ ap (λ y. take i xs ++ y ∷ []) (get_or_from_slice_get xs i x x at)
+
+-- the test passes at an element
+pub any-held : {X : Type 0} (test : X → Bool) (xs : List X) → list_any test xs ≡ true → (x : X) × Contains xs x × (test x ≡ true)
+any-held test xs passes = let (k, x, below, at, is) = Any-from_list_any test xs passes in (x, (k, below, at), is)
+
+-- the number is among them
+pub among-held : (number : ℕ) (numbers : List ℕ) → list_any (λ other. other == number) numbers ≡ true → Contains numbers number
+among-held number numbers any = let (other, held, is) = any-held (λ other. other == number) numbers any in subst (Contains numbers) (eqb-true other number is) held
+
 -- an element of the pieces is one of a piece
 pub flat-cases : {X Y : Type 0} (f : X → List Y) (xs : List X) (y : Y) → Contains (flat_map f xs) y → (x : X) × Contains xs x × Contains (f x) y
 flat-cases f [] y is = absurd (Contains-none y is)
@@ -79,3 +117,7 @@ flat_map_set f weight (z ∷ xs) (suc i) x y e =
 pub no_members : {X : Type 0} (xs : List X) → ((x : X) → Contains xs x → ⊥) → xs ≡ []
 no_members [] none = refl
 no_members (x ∷ xs) none = absurd (none x (Contains-first x xs))
+
+-- the test of two lists of numbers tells whether they are equal
+pub decides : (xs ys : List ℕ) → Decides (pointwise nat_eq xs ys) (xs ≡ ys)
+decides xs ys = slice_eq-Decides Decides-eqb xs ys (pointwise nat_eq xs ys) refl

@@ -29,3 +29,6 @@ pub mod AliveLemmas
 pub mod PartitionWorkLemmas
 pub mod TextFaultLemmas
 pub mod CutLemmas
+pub mod EarlierLemmas
+pub mod FieldLemmas
+pub mod ResultLemmas

@@ -1,8 +1,8 @@
 -- Lemmas on lists, what is contained in them and what holds of each element.
-use Rattle.std.proofs.Common.{◌≡◌, ◌≢◌, ◌⊎◌, inl, inr, Bool, true, false, cond, Option, Some, None, List, [], ◌∷◌, ◌++◌, map, filter, length, get_or, take, drop, length-drop, refl, sym, ap, ◌∙◌, subst, arith, suc, zero, true≢false, ℕ, ◌-◌, ◌≤◌, ◌<◌}
-use Rattle.std.specs.List.{AllByRecursion, AllPairs, Contains, slice_range, list_any, filter_map, cons_option}
+use Rattle.std.proofs.Common.{◌≡◌, ◌≢◌, ◌⊎◌, inl, inr, Bool, true, false, cond, Option, Some, None, List, [], ◌∷◌, ◌++◌, map, filter, length, get_or, take, drop, length-drop, refl, sym, ap, ◌∙◌, subst, arith, suc, zero, true≢false, ℕ, ◌-◌, ◌≤◌, ◌<◌, ◌+◌}
+use Rattle.std.specs.List.{AllByRecursion, AllPairs, Contains, slice_range, list_any, filter_map, cons_option, All}
 use Rattle.std.proofs.Math.Seq.{take-append_seam}
-use Rattle.std.proofs.lemmas.List.{get_or_default, append-nil, map-append, take-append-le, drop-append-le}
+use Rattle.std.proofs.lemmas.List.{get_or_default, append-nil, map-append, take-append-le, drop-append-le, get_or-map, length-map, get_or_append_left, length-append}
 use Rattle.std.proofs.lemmas.Bool.{cases_Bool}
 use Rattle.std.proofs.lemmas.List.Elements.{Contains-append_cases}
 use Rattle.std.proofs.lemmas.List.Kept.{AllPairs-cons}
@@ -35,6 +35,9 @@ AllByRecursion-contained P (x ∷ xs) y all inside =
 pub AllByRecursion-from : {X : Type 0} (P : X → Type 0) (xs : List X) → ((x : X) → Contains xs x → P x) → AllByRecursion P xs
 AllByRecursion-from P [] each = tt
 AllByRecursion-from P (x ∷ xs) each = (each x (Contains-first x xs), AllByRecursion-from P xs (λ y held. each y (Contains-other x xs y held)))
+
+pub all-from : {X : Type 0} (P : X → Type 0) (xs : List X) → ((x : X) → Contains xs x → P x) → All P xs
+all-from P xs each k d below = each (get_or xs k d) (k, below, get_or_default xs k (get_or xs k d) d below)
 
 -- where an element stands
 pub cut_at : {X : Type 0} (xs : List X) (x : X) → Contains xs x → (front : List X) × (back : List X) × (xs ≡ front ++ x ∷ back)
@@ -77,6 +80,11 @@ Contains-from f (x ∷ xs) y inside = elim (Contains-cases (f x) (map f xs) y in
   | inl here ↦ (x, Contains-first x xs, here)
   | inr there ↦ let (z, held, same) = Contains-from f xs y there in (z, Contains-other x xs z held, same)
 ]
+
+-- functions that give the same of each element give the same list
+pub map-same : {X Y : Type 0} (f g : X → Y) (xs : List X) → ((x : X) → Contains xs x → f x ≡ g x) → map f xs ≡ map g xs
+map-same f g [] same = refl
+map-same f g (x ∷ xs) same = λ i. same x (Contains-first x xs) i ∷ map-same f g xs (λ y held. same y (Contains-other x xs y held)) i
 
 -- what a filter leaves are the elements that pass
 pub Contains-filter : {X : Type 0} (p : X → Bool) (xs : List X) (x : X) → Contains (filter p xs) x → Contains xs x × (p x ≡ true)
@@ -123,6 +131,27 @@ AllPairs-append R (x ∷ xs) ys left right across =
       | inr there ↦ across x (get_or (xs ++ ys) k d) (Contains-first x xs) there
     ])
     (AllPairs-append R xs ys (AllPairs-tail R x xs left) right (λ y z here there. across y z (Contains-other x xs y here) there))
+
+-- what holds of each element and each later one holds within a front
+pub pairs-front : {X : Type 0} (R : X → X → Type 0) (xs ys : List X) → AllPairs R (xs ++ ys) → AllPairs R xs
+pairs-front R xs ys pairs i j d less within =
+    let all : length (xs ++ ys) ≡ length xs + length ys = length-append xs ys in
+    subst (λ (x : _). R x (get_or xs j d)) (get_or_append_left xs ys d i (omega arith))
+    (subst (R (get_or (xs ++ ys) i d)) (get_or_append_left xs ys d j within) (pairs i j d less (omega arith)))
+
+-- and within what is behind it
+pub pairs-back : {X : Type 0} (R : X → X → Type 0) (xs ys : List X) → AllPairs R (xs ++ ys) → AllPairs R ys
+pairs-back R [] ys pairs = pairs
+pairs-back R (x ∷ xs) ys pairs = pairs-back R xs ys (AllPairs-tail R x (xs ++ ys) pairs)
+
+-- what holds of each element and each later one holds of their images
+pub pairs-mapped : {X Y : Type 0} (f : X → Y) (R : Y → Y → Type 0) (xs : List X) → AllPairs (λ x y. R (f x) (f y)) xs → AllPairs R (map f xs)
+pairs-mapped f R [] pairs i j d less within = absurd (omega arith)
+pairs-mapped f R (x ∷ xs) pairs i j d less within =
+    let long : length (map f (x ∷ xs)) ≡ length (x ∷ xs) = length-map (x ∷ xs) f in
+    let one : get_or (map f (x ∷ xs)) i d ≡ f (get_or (x ∷ xs) i x) = get_or-map f (x ∷ xs) i x d (omega arith) in
+    let other : get_or (map f (x ∷ xs)) j d ≡ f (get_or (x ∷ xs) j x) = get_or-map f (x ∷ xs) j x d (omega arith) in
+    rw (one, other) (pairs i j x less (omega arith))
 
 -- images of different elements are different, where no two have one image
 pub apart_by_image : {X Y : Type 0} (f : X → Y) → ((x y : X) → f x ≡ f y → x ≡ y) → (xs : List X) → AllPairs (λ x y. x ≢ y) xs → AllPairs (λ x y. x ≢ y) (map f xs)
@@ -199,31 +228,41 @@ slice_range-append xs ys from end rises within =
 pub written_back : {X : Type 0} (new old : List X) (n : ℕ) → n ≡ length new → take n (new ++ drop (length new) old) ≡ new
 written_back new old n whole = ap (λ m. take m (new ++ drop (length new) old)) whole ∙ take-append_seam new (drop (length new) old)
 
--- the first of a rising list is the least
-least_first : (v : ℕ) (vs : List ℕ) → AllPairs (λ low high. low < high) (v ∷ vs) → (n : ℕ) → Contains (v ∷ vs) n → v ≤ n
-least_first v vs rising n held = elim (Contains-cases v vs n held) [
-  | inl same ↦ omega (arith, same)
-  | inr later ↦ (let less : v < n = AllPairs-head (λ low high. low < high) v vs rising n later in omega (arith, less))
-]
+-- lists that rise in one order and have the same members are one
+module _ {X : Type 0} (R : X → X → Type 0) (one_way : (x y : X) → R x y → R y x → ⊥) where
+  heads-same : (x y : X) (xs ys : List X) → AllPairs R (x ∷ xs) → AllPairs R (y ∷ ys) → Contains (y ∷ ys) x → Contains (x ∷ xs) y → x ≡ y
+  heads-same x y xs ys left right there back = elim (Contains-cases y ys x there) [
+    | inl same ↦ same
+    | inr behind ↦ elim (Contains-cases x xs y back) [
+      | inl same ↦ sym same
+      | inr later ↦ absurd (one_way x y (AllPairs-head R x xs left y later) (AllPairs-head R y ys right x behind))
+    ]
+  ]
 
-among_later : (v w : ℕ) (vs ws : List ℕ) → v ≡ w → AllPairs (λ low high. low < high) (v ∷ vs) → ((n : ℕ) → Contains (v ∷ vs) n → Contains (w ∷ ws) n)
-    → (n : ℕ) → Contains vs n → Contains ws n
-among_later v w vs ws same rising all n held = elim (Contains-cases w ws n (all n (Contains-other v vs n held))) [
-  | inl is ↦ (let less : v < n = AllPairs-head (λ low high. low < high) v vs rising n held in absurd (omega (arith, less, is, same)))
-  | inr later ↦ later
-]
+  tails-within : (x y : X) (xs ys : List X) → x ≡ y → AllPairs R (x ∷ xs) → ((z : X) → Contains (x ∷ xs) z → Contains (y ∷ ys) z)
+      → (z : X) → Contains xs z → Contains ys z
+  tails-within x y xs ys same rising there z held = elim (Contains-cases y ys z (there z (Contains-other x xs z held))) [
+    | inl first ↦
+        let less : R x z = AllPairs-head R x xs rising z held in
+        let self : R x x = subst (R x) (first ∙ sym same) less in
+        absurd (one_way x x self self)
+    | inr later ↦ later
+  ]
+
+  pub order-same : (xs ys : List X) → AllPairs R xs → AllPairs R ys → ((z : X) → Contains xs z → Contains ys z) → ((z : X) → Contains ys z → Contains xs z) → xs ≡ ys
+  order-same [] [] left right there back = refl
+  order-same [] (y ∷ ys) left right there back = absurd (Contains-none y (back y (Contains-first y ys)))
+  order-same (x ∷ xs) [] left right there back = absurd (Contains-none x (there x (Contains-first x xs)))
+  order-same (x ∷ xs) (y ∷ ys) left right there back =
+      let first : x ≡ y = heads-same x y xs ys left right (there x (Contains-first x xs)) (back y (Contains-first y ys)) in
+      let rest : xs ≡ ys = order-same xs ys (AllPairs-tail R x xs left) (AllPairs-tail R y ys right)
+      (tails-within x y xs ys first left there) (tails-within y x ys xs (sym first) right back) in
+      λ i. first i ∷ rest i
 
 -- two rising lists of the same numbers are one
 pub rising_same : (xs ys : List ℕ) → AllPairs (λ low high. low < high) xs → AllPairs (λ low high. low < high) ys
     → ((n : ℕ) → Contains xs n → Contains ys n) → ((n : ℕ) → Contains ys n → Contains xs n) → xs ≡ ys
-rising_same [] [] left right there back = refl
-rising_same [] (y ∷ ys) left right there back = absurd (Contains-none y (back y (Contains-first y ys)))
-rising_same (x ∷ xs) [] left right there back = absurd (Contains-none x (there x (Contains-first x xs)))
-rising_same (x ∷ xs) (y ∷ ys) left right there back =
-    let first : x ≡ y = omega (arith, least_first x xs left y (back y (Contains-first y ys)), least_first y ys right x (there x (Contains-first x xs))) in
-    let rest : xs ≡ ys = rising_same xs ys (AllPairs-tail (λ low high. low < high) x xs left) (AllPairs-tail (λ low high. low < high) y ys right)
-    (among_later x y xs ys first left there) (among_later y x ys xs (sym first) right back) in
-    λ i. first i ∷ rest i
+rising_same = order-same (λ low high. low < high) (λ low high less more. omega (arith, less, more))
 
 -- a list is empty or has a last element
 pub last-cases : {X : Type 0} (xs : List X) → (xs ≡ []) ⊎ ((front : List X) × (last : X) × (xs ≡ front ++ last ∷ []))

@@ -1,5 +1,5 @@
 -- Lemmas on lists of names that grow.
-use Rattle.std.proofs.Common.{◌≡◌, ◌≢◌, ℕ, suc, ◌≤◌, ◌<◌, inl, inr, List, [], ◌∷◌, ◌++◌, length, get_or, refl, sym, ap, ◌∙◌, subst, arith, append_assoc, length-append, AllPairs, All}
+use Rattle.std.proofs.Common.{◌≡◌, ◌≢◌, ℕ, suc, ◌≤◌, ◌<◌, inl, inr, List, [], ◌∷◌, ◌++◌, length, get_or, refl, sym, ap, ◌∙◌, subst, arith, append_assoc, length-append, AllPairs, All, Contains}
 use Rattle.std.specs.List.{Contains}
 use Rattle.std.proofs.lemmas.List.{append-nil, get_or_append_left, get_or_push, length_push, get_or_default}
 use Rattle.std.proofs.lemmas.Bool.{cases_lt}
@@ -134,3 +134,11 @@ more_names n names all name distinct full new within is = (names ++ name ∷ [],
 
     inside : All (λ a. Contains all a) (names ++ name ∷ [])
     inside = All-push (λ a. Contains all a) names name (λ k d lt. within (get_or names k d) (Contains-get_or names k d lt)) is
+
+-- a name that is held has a number
+pub number-of : (names : List (List ℕ)) (name : List ℕ) → Contains names name → (w : Item) × HasName names w × (name ≡ name_of names w)
+number-of [] name inside = absurd (Contains-none name inside)
+number-of (first ∷ names) name inside = elim (Contains-cases first names name inside) [
+  | inl same ↦ (record { 0 = 0 }, omega arith, same)
+  | inr other ↦ let (w, held, same) = number-of names name other in (record { 0 = suc w.0 }, omega (arith, held), same)
+]

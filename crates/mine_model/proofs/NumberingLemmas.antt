@@ -1,9 +1,9 @@
 -- What an expression generates, under other names of the items.
-use Rattle.std.proofs.Common.{◌≡◌, ℕ, ◌≤◌, inl, inr, Bool, true, false, List, [], ◌∷◌, ◌++◌, refl, sym, ap, ◌∙◌, subst, map, length, arith, suc}
+use Rattle.std.proofs.Common.{◌≡◌, ℕ, ◌≤◌, inl, inr, Bool, true, false, List, [], ◌∷◌, ◌++◌, refl, sym, ap, ◌∙◌, subst, map, length, arith, suc, ◌+◌, ◌*◌}
 use Rattle.std.specs.List.{AllByRecursion, flat_map}
 use Rattle.std.proofs.lemmas.List.{map-append, length-map}
 use Rattle.mine_model.specs.Hierarchy.{Link, IsAncestor}
-use Rattle.mine_model.specs.Expression.{Leaf, under, exact, climb, forced, any, any_climb, not_under, not_exact, Tree, leaf, cat, alt, rep, cap, named_by, named_in, leaf_by, tree_by}
+use Rattle.mine_model.specs.Expression.{Leaf, under, exact, climb, forced, any, any_climb, not_under, not_exact, Tree, leaf, cat, alt, rep, cap, named_by, named_in, leaf_by, tree_by, unfolded_times, unfolded_leaves}
 use Rattle.mine_model.specs.Generation.{Matches, MayWrite, WritesAt, Turn, IsAtMost, Generates, IsPatternOf}
 use Rattle.mine_model.specs.Support.{Sequence, HasSupport}
 use Rattle.mine_model.specs.Answer.{Data}
@@ -307,3 +307,11 @@ module _ {A B : Type 0} (links : List (Link A)) (others : List (Link B)) (P : A 
     supported-back pattern (s ∷ sequences) n some all (inl (has, more)) =
         let (own, same, made, inside) = pattern-back s.items pattern all.0 has in (own, same, inside)
     supported-back pattern (s ∷ sequences) n some all (inr (hasnt, more)) = supported-back pattern sequences n some all.1 more
+
+-- renamed, an expression unfolds into as many leaves
+pub unfolded_leaves-by : {A B : Type 0} (f : A → B) (tree : Tree A) → unfolded_leaves (tree_by f tree) ≡ unfolded_leaves tree
+unfolded_leaves-by f (leaf l) = refl
+unfolded_leaves-by f (cat left right) = λ i. unfolded_leaves-by f left i + unfolded_leaves-by f right i
+unfolded_leaves-by f (alt left right) = λ i. unfolded_leaves-by f left i + unfolded_leaves-by f right i
+unfolded_leaves-by f (rep inner least most) = ap (λ n. unfolded_times least most * n) (unfolded_leaves-by f inner)
+unfolded_leaves-by f (cap inner) = unfolded_leaves-by f inner

@@ -1,5 +1,5 @@
 -- Items and their ranks, one by one.
-use Rattle.std.proofs.Common.{◌≡◌, ◌≢◌, ℕ, zero, suc, ◌-◌, ◌<◌, ◌≤◌, inl, inr, Some, List, [], ◌∷◌, ◌++◌, length, get_or, refl, sym, ap, ◌∙◌, arith}
+use Rattle.std.proofs.Common.{◌≡◌, ◌≢◌, ℕ, zero, suc, ◌-◌, ◌<◌, ◌≤◌, inl, inr, Some, List, [], ◌∷◌, ◌++◌, length, get_or, refl, sym, ap, ◌∙◌, arith, ◌↔◌}
 use Rattle.std.specs.List.{AllByRecursion, AllPairs, Contains, slice_get}
 use Rattle.std.proofs.lemmas.Option.{slice_get-get_or, slice_get_within, get_or_from_slice_get}
 use Rattle.std.proofs.lemmas.Bool.{cases_lt}
@@ -7,6 +7,7 @@ use Rattle.mine_model.specs.declared.item.Item.{Item}
 use Rattle.mine_model.specs.Ranks.{HasRank, AreRanked, AreAllRanked}
 use Rattle.mine_model.proofs.ListLemmas.{Contains-cases}
 use Rattle.mine_model.proofs.RankLemmas.{HasRank-held, HasRank-most}
+use Rattle.mine_model.specs.Pivots.{IsRankedUpTo, IsWithinPivot, IsWithin}
 
 pub ranked-none : (order : List Item) (ranks : List ℕ) → AreRanked order [] ranks → ranks ≡ []
 ranked-none order [] ranked = refl
@@ -140,3 +141,17 @@ ranked-cut order (v ∷ items) more [] ranked = absurd ranked
 ranked-cut order (v ∷ items) more (r ∷ ranks) ranked =
     let (front, back, same, first, rest) = ranked-cut order items more ranks ranked.1 in
     (r ∷ front, back, ap (λ l. r ∷ l) same, (ranked.0, first), rest)
+
+-- items with ranks up to a top have ranks
+pub up-ranks : (order : List Item) (top : ℕ) (items : List Item) → AllByRecursion (IsRankedUpTo order top) items → (ranks : List ℕ) × AreRanked order items ranks
+up-ranks order top [] all = ([], tt)
+up-ranks order top (v ∷ items) ((rank, has, most), all) = let (ranks, ranked) = up-ranks order top items all in (rank ∷ ranks, (has, ranked))
+
+pub within-ranks : (order : List Item) (pivot : ℕ) (items : List Item) → IsWithinPivot order pivot items → (ranks : List ℕ) × AreRanked order items ranks
+within-ranks order zero items within = up-ranks order (length order) items within.ranked
+within-ranks order (suc before) items within = up-ranks order (suc before) items within.ranked
+
+-- a pivot is the top and is needed
+pub within-top : (order : List Item) (rank : ℕ) → 1 ≤ rank → (items : List Item) → IsWithinPivot order rank items ↔ IsWithin order rank (Some rank) items
+within-top order zero some items = absurd (omega (arith, some))
+within-top order (suc rank) some items = ((λ is. is), (λ is. is))

@@ -1,7 +1,8 @@
 -- Lemmas on counting sequences.
-use Rattle.std.proofs.Common.{◌≡◌, ℕ, ◌+◌, inl, inr, List, [], ◌∷◌, sym, ap, ◌∙◌, ◌≤◌, arith}
-use Rattle.std.specs.List.{AllByRecursion}
+use Rattle.std.proofs.Common.{◌≡◌, ℕ, ◌+◌, inl, inr, List, [], ◌∷◌, sym, ap, ◌∙◌, ◌≤◌, arith, ◌⊎◌, refl}
+use Rattle.std.specs.List.{AllByRecursion, Contains}
 use Rattle.mine_model.specs.Support.{Sequence, Counts}
+use Rattle.mine_model.proofs.ListLemmas.{Contains-first, Contains-other}
 
 -- there is at most one count
 pub Counts-unique : {A : Type 0} (Has : List A → Type 0) (sequences : List (Sequence A)) (m n : ℕ)
@@ -25,3 +26,13 @@ pub Counts-one : {A : Type 0} (Has : List A → Type 0) (sequences : List (Seque
 Counts-one Has [] n none some = absurd (omega arith)
 Counts-one Has (s ∷ sequences) n (inl p) some = (s.items, p.0)
 Counts-one Has (s ∷ sequences) n (inr p) some = Counts-one Has sequences n p.1 some
+
+-- what is decided of each sequence is counted
+pub Counts-decided : {A : Type 0} (Has : List A → Type 0) (sequences : List (Sequence A))
+    → ((s : Sequence A) → Contains sequences s → Has s.items ⊎ (Has s.items → ⊥)) → (n : ℕ) × Counts Has sequences n
+Counts-decided Has [] each = (0, refl)
+Counts-decided {A} Has (s ∷ sequences) each = go (each s (Contains-first s sequences)) (Counts-decided Has sequences (λ t held. each t (Contains-other s sequences t held)))
+  where
+    go : Has s.items ⊎ (Has s.items → ⊥) → (n : ℕ) × Counts Has sequences n → (n : ℕ) × Counts Has (s ∷ sequences) n
+    go (inl has) (n, counted) = (s.weight + n, inl (has, (n, refl, counted)))
+    go (inr hasnt) (n, counted) = (n, inr (hasnt, counted))

@@ -1,5 +1,5 @@
 -- Items by the numbers of their names.
-use Rattle.std.specs.Prelude.{◌≡◌, ℕ, ◌<◌, ◌↔◌, List, [], ◌++◌, map, length, Contains}
+use Rattle.std.specs.Prelude.{◌≡◌, ℕ, ◌<◌, ◌↔◌, List, [], ◌++◌, map, length, Contains, ◌≢◌, true}
 use Rattle.std.specs.List.{AllByRecursion, slice_index_or}
 use Rattle.mine_model.specs.declared.item.Item.{Item}
 use Rattle.mine_model.specs.declared.row.Row.{Row}
@@ -7,6 +7,8 @@ use Rattle.mine_model.specs.Hierarchy.{Link}
 use Rattle.mine_model.specs.Expression.{named_in}
 use Rattle.mine_model.specs.Support.{Sequence}
 use Rattle.mine_model.specs.Answer.{Data, NamedRow}
+use Rattle.mine_model.specs.Text.{is_name_byte}
+use Rattle.mine_model.specs.Tokens.{Each}
 
 -- the name of an item, where names lists the name of each number
 abbrev pub name_of : List (List ℕ) → Item → List ℕ
@@ -15,6 +17,10 @@ name_of names item = slice_index_or names item.0 []
 -- the item has a name
 abbrev pub HasName : List (List ℕ) → Item → Type 0
 HasName names item = item.0 < length names
+
+-- a name of a file: not empty, and of name bytes alone
+abbrev pub IsFileName : List ℕ → Type 0
+IsFileName name = (name ≢ []) × Each is_name_byte true name
 
 -- numbers with the same name are the same
 abbrev pub AreDistinct : List (List ℕ) → Type 0

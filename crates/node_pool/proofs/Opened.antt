@@ -1,15 +1,10 @@
 -- What is known of an open pool.
-use Rattle.std.proofs.Common.{◌≡◌, List, Option, Result, Ok, Err, IfOk, All, ◌∙◌, get_or, length}
+use Rattle.std.proofs.Common.{◌≡◌, List, Option, All, ◌∙◌, get_or, length}
 use Rattle.std.proofs.lemmas.Option.{slice_get-get_or}
 use Rattle.node_pool.specs.declared.seat.Seat.{Seat}
 use Rattle.node_pool.specs.Deques.{Deque}
 use Rattle.node_pool.specs.Pool.{seat_ground, IsFresh, IsWholePool}
 use Rattle.node_pool.specs.Opening.{AreSeats}
-
--- what follows of the value in an Ok
-pub ok_both : {X E : Type 0} (r : Result X E) (P Q : X → Type 0) → IfOk r P → IfOk r Q → IfOk r (λ x. P x × Q x)
-ok_both (Ok x) P Q p q = (p, q)
-ok_both (Err e) P Q p q = p
 
 module _ {T G : Type 0} (known_ground : Option G) (deques : List Deque) (seats : List (Seat T G)) where
   pub whole_pool : length deques ≡ length seats → AreSeats known_ground deques seats → IsWholePool seats

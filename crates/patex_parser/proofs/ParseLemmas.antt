@@ -13,6 +13,7 @@ use Rattle.mine_model.specs.Tokens.{Placed, AreTokens, IsBadToken}
 use Rattle.mine_model.specs.Grammar.{Use, expression, Reads, Begins}
 use Rattle.mine_model.specs.First.{FirstAmong}
 use Rattle.mine_model.specs.Refusal.{IsFirstToken, IsBadRepeat, IsBeyondLimit, IsWrongAfter, IsUnexpected, IsTooDeepAfter, IsExpressionRefusal, IsTooLong, HasBadToken, IsOfTokens, HasBadRepeat, HasRepeatOverLimit, HasUnexpected, IsTooDeep, HasTooManyLeaves}
+use Rattle.mine_model.proofs.NumberingLemmas.{unfolded_leaves-by}
 use Rattle.patex_grammar.specs.Machine.{State, state, next, initial}
 use Rattle.patex_grammar.specs.Holding.{Reaches}
 use Rattle.patex_grammar.proofs.TokenLemmas.{AreTokens-unique, AreTokens-no_bad}
@@ -26,7 +27,7 @@ use Rattle.patex_parser.specs.Parsing.{use_at, AreNumbered, IsParsed, IsRefused}
 use Rattle.patex_parser.specs.Scanning.{AreRead, IsScanned, IsBadTokenFault}
 use Rattle.patex_parser.specs.Reading.{IsMarked, mark_of_kind, marks_of, IsBehind, IsEnd, IsReadWhole, IsStuck, IsUnfinished, IsUnexpectedFault}
 use Rattle.patex_parser.specs.Checking.{HasAt, IsFirstRead, NoneHas, IsOf, IsRepeatFault, IsTooDeepRead, IsNotTooDeep, IsDepthFault, IsLeavesFault}
-use Rattle.patex_parser.proofs.RunLemmas.{mark_by, if_by, last_by, frames_by, state_by, state_if_by, next-by, run-by, finished-by, named_in-by, unfolded_leaves-by, named_state, named_marks, finished-named, run-named}
+use Rattle.patex_parser.proofs.RunLemmas.{mark_by, if_by, last_by, frames_by, state_by, state_if_by, next-by, run-by, finished-by, named_in-by, named_state, named_marks, finished-named, run-named}
 use Rattle.patex_parser.proofs.FirstReads.{none-first}
 use Rattle.patex_parser.proofs.MeaningLemmas.{Pairwise, Pairwise-split, Pairwise-push, Means, MeansMark, KindMeans, read-means, all-marked, mark-is, marks-are, read-named, numbered-uses, numbered-within}
 use Rattle.patex_parser.proofs.RepeatLemmas.{bad-not-beyond}

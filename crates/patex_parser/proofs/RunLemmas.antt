@@ -2,7 +2,7 @@
 use Rattle.std.proofs.Common.{◌≡◌, ℕ, Option, Some, None, List, [], ◌∷◌, ◌++◌, map, refl, sym, ap, ◌∙◌, append_assoc}
 use Rattle.std.proofs.lemmas.List.{append-nil}
 use Rattle.patex_grammar.proofs.HoldingLemmas.{run-none}
-use Rattle.mine_model.specs.Expression.{Leaf, under, exact, climb, forced, any, any_climb, not_under, not_exact, Tree, leaf, cat, alt, rep, cap, named_by, named_in, leaf_by, tree_by, unfolded_leaves}
+use Rattle.mine_model.specs.Expression.{Leaf, under, exact, climb, forced, any, any_climb, not_under, not_exact, Tree, leaf, cat, alt, rep, cap, named_by, named_in, leaf_by, tree_by}
 use Rattle.patex_grammar.specs.Machine.{Bracket, round, square, Mark, name_of, caret, equals, dot, bang, bar, opening, closing, postfix, Last, nothing, excluding, extendable, closed, Frame, frame, State, state, row_with, choice_with, tree_of_last, begun, ended, chosen, finished, with_last, with_name, with_caret, with_equals, extended, with_bar, opened, shut, repeating, next, run}
 
 module _ {A B : Type 0} (f : A → B) where
@@ -201,13 +201,6 @@ module _ {A B : Type 0} (f : A → B) where
       ap (λ xs. xs ++ named_in (tree_by f right)) (named_in-by left) ∙ ap (λ ys. map f (named_in left) ++ ys) (named_in-by right) ∙ sym (map-both (named_in left) (named_in right))
   named_in-by (rep inner least most) = named_in-by inner
   named_in-by (cap inner) = named_in-by inner
-
-  pub unfolded_leaves-by : (t : Tree A) → unfolded_leaves (tree_by f t) ≡ unfolded_leaves t
-  unfolded_leaves-by (leaf l) = refl
-  unfolded_leaves-by (cat left right) = let p = unfolded_leaves-by left in let q = unfolded_leaves-by right in cc
-  unfolded_leaves-by (alt left right) = let p = unfolded_leaves-by left in let q = unfolded_leaves-by right in cc
-  unfolded_leaves-by (rep inner least most) = let p = unfolded_leaves-by inner in cc
-  unfolded_leaves-by (cap inner) = unfolded_leaves-by inner
 
 module _ {A : Type 0} where
   abbrev pub named_if : Option (Tree A) → List A

@@ -1,6 +1,6 @@
 -- How far a text was read, one step on.
 use Rattle.std.proofs.Common.{◌≡◌, ◌≢◌, ℕ, ◌+◌, ◌-◌, ◌<◌, ◌≤◌, inl, inr, true, false, List, [], ◌∷◌, ◌++◌, refl, sym, ap, subst, ◌∙◌, arith, length, take, drop, get_or, length-append, length-drop}
-use Rattle.std.proofs.lemmas.List.{take-append-drop, take_all, drop_more, drop-drop, drop_all, append_assoc, append-nil, length-take-le}
+use Rattle.std.proofs.lemmas.List.{take-append-drop, drop_more, drop-drop, drop_all, append_assoc, append-nil, length-take-le}
 use Rattle.mine_model.specs.Tokens.{Token, Placed, BeginsOtherwise, AreTokensBefore, BeginsToken, IsBadToken, is_free, name}
 use Rattle.mine_model.specs.Grammar.{Use, at}
 use Rattle.patex_parser.specs.declared.lexeme.Lexeme.{Lexeme}
@@ -111,9 +111,6 @@ scanned-token text behind k count lexeme reads uses less same (some, within, tok
       subst (λ xs. AreTokensBefore (k + 1 + 0 + length (take count behind)) xs others end rest) (sym back)
           (subst (λ c. AreTokensBefore c (drop (k + count) text) others end rest) next are),
     )
-
-pub tail-slice : (text : List ℕ) (k : ℕ) → take (length text - k) (drop k text) ≡ drop k text
-tail-slice text k = take_all (length text - k) (drop k text) (omega (arith, length-drop k text))
 
 -- where no token begins, and no free byte stands, the text has a bad token
 pub scanned-bad : (text behind : List ℕ) (k : ℕ) (reads : List ReadToken) (uses : List Use) → k < length text → behind ≡ drop k text

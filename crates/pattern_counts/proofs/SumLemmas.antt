@@ -4,20 +4,16 @@ use Rattle.std.specs.Prelude.{nat_eq}
 use Rattle.std.specs.List.{slice_get}
 use Rattle.std.specs.Bool.{Decides}
 use Rattle.std.specs.Cmp.Lexicographic.{pointwise}
-use Rattle.std.proofs.lemmas.Bool.Decides.{Decides-eqb}
 use Rattle.std.proofs.lemmas.List.{length_push, get_or_default, get_or-take, length-take-le, take_more, take_all}
 use Rattle.std.proofs.lemmas.Option.{none-some, same_Some, slice_get-get_or, slice_get_within, get_or_from_slice_get}
-use Rattle.std.proofs.lemmas.Slice.Eq.{slice_eq-Decides}
 use Rattle.mine_model.proofs.ListLemmas.{Contains-first, Contains-other}
 use Rattle.mine_model.proofs.NameLemmas.{AreDistinct-push}
 use Rattle.mine_model.proofs.OnceLemmas.{list_or_not}
 use Rattle.mine_model.specs.Names.{AreDistinct}
+use Rattle.mine_model.proofs.ElementLemmas.{get-place, decides}
 use Rattle.pattern_counts.specs.Tally.{Tally, IsTally, sum_in, sum_of, Adds, AddsAll}
 
 -- Whether a list is there
-
-decides : (xs ys : List ℕ) → Decides (pointwise nat_eq xs ys) (xs ≡ ys)
-decides xs ys = slice_eq-Decides Decides-eqb xs ys (pointwise nat_eq xs ys) refl
 
 by_test : (xs ys : List ℕ) (r : Bool) → Decides r (xs ≡ ys) → ((xs ≡ ys) × (r ≡ true)) ⊎ ((xs ≢ ys) × (r ≡ false))
 by_test xs ys true d = inl (d.0 refl, refl)
@@ -25,9 +21,6 @@ by_test xs ys false d = inr ((λ e. let wrong : false ≡ true = d.1 e in cc), r
 
 same_or_not : (xs ys : List ℕ) → ((xs ≡ ys) × (pointwise nat_eq xs ys ≡ true)) ⊎ ((xs ≢ ys) × (pointwise nat_eq xs ys ≡ false))
 same_or_not xs ys = by_test xs ys (pointwise nat_eq xs ys) (decides xs ys)
-
-contained_at : {X : Type 0} (xs : List X) (x : X) → Contains xs x → (number : ℕ) × (slice_get xs number ≡ Some x)
-contained_at xs x (number, below, is) = (number, slice_get-get_or xs number x below ∙ ap (λ y. Some y) is)
 
 -- Lists that differ
 
@@ -93,7 +86,7 @@ module _ (tally : Tally) (is : IsTally tally) (list : List ℕ) (weight : ℕ) w
         );
         others = λ other apart. elim (list_or_not tally.lists other) [
           | inl there ↦
-              let (place, stands) = contained_at tally.lists other there in
+              let (place, stands) = get-place tally.lists other there in
               let elsewhere : place ≢ number = λ same. apart (same_Some other list (sym stands ∙ ap (slice_get tally.lists) same ∙ at)) in
               sum_at tally.lists next place other is.distinct stands
               ∙ get_or-set_other tally.sums number place (value + weight) 0 elsewhere

@@ -1,6 +1,6 @@
 -- Words that stand behind spaces, read one after another.
-use Rattle.std.proofs.Common.{◌≡◌, ℕ, ◌+◌, ◌-◌, ◌<◌, ◌≤◌, ◌^◌, suc, zero, inl, inr, List, [], ◌∷◌, ◌++◌, map, length, take, drop, refl, sym, ap, ◌∙◌, subst, arith, Contains, append_assoc, Some, true, true≢false, length-drop}
-use Rattle.std.proofs.lemmas.List.{append-nil, take-append-drop, drop-drop, map-append, take_all, get_or_default}
+use Rattle.std.proofs.Common.{◌≡◌, ℕ, ◌+◌, ◌-◌, ◌<◌, ◌≤◌, ◌^◌, suc, zero, inl, inr, List, [], ◌∷◌, ◌++◌, map, length, take, drop, refl, sym, ap, ◌∙◌, subst, arith, Contains, append_assoc, Some, true, true≢false}
+use Rattle.std.proofs.lemmas.List.{append-nil, take-append-drop, drop-drop, map-append, get_or_default}
 use Rattle.std.proofs.lemmas.Bool.{eqb-true}
 use Rattle.std.proofs.lemmas.Option.{slice_get_within, get_or_from_slice_get}
 use Rattle.std.specs.List.{AllByRecursion, join_with_byte, slice_get}
@@ -12,7 +12,7 @@ use Rattle.mine_model.proofs.ListLemmas.{Contains-first, Contains-other, Contain
 use Rattle.pattern_proof.specs.Pieces.{IsWithout, BeginsWith}
 use Rattle.pattern_proof.specs.ProofLines.{Cited, spaced, AreDecimals, is_path_line, SaysRow, SaysPath, AreFileNames}
 use Rattle.pattern_proof.specs.Reading.{SaysNames, SaysStates, AreSmall}
-use Rattle.pattern_proof.proofs.TextLemmas.{cut-unique, begins-spaced, join-spaced, digits-no-space, digits-no-tab, names-no-space}
+use Rattle.pattern_proof.proofs.TextLemmas.{cut-unique, begins-spaced, join-spaced, digits-no-space, digits-no-tab, names-no-space, decimals-no-space}
 
 drop-next : (b n : ℕ) (text : List ℕ) → drop (suc n) (b ∷ text) ≡ drop n text
 drop-next b n text = refl
@@ -75,11 +75,6 @@ next-piece text at d words others less begins said bare behind clean none same =
     piece-held words others (take d (drop (at + 1) text)) (drop d (drop (at + 1) text)) clean none bare behind (same ∙ said ∙ ap (λ l. spaced words ++ l) cut)
 
 -- States
-
-pub decimals-clean-words : (words : List (List ℕ)) (numbers : List ℕ) → AreDecimals words numbers → AllByRecursion (IsWithout 32) words
-decimals-clean-words [] numbers are = tt
-decimals-clean-words (word ∷ words) [] are = absurd are
-decimals-clean-words (word ∷ words) (n ∷ numbers) are = (digits-no-space word n are.0, decimals-clean-words words numbers are.1)
 
 pub decimal-held : (words : List (List ℕ)) (numbers : List ℕ) (piece : List ℕ) → AreDecimals words numbers → AreSmall numbers → Contains words piece → (n : ℕ) × IsDecimal piece n × (n < 2 ^ 32)
 decimal-held [] numbers piece are small held = absurd (Contains-none piece held)
@@ -160,9 +155,6 @@ name-found names item name found = (get_or_from_slice_get names item.0 name [] f
 
 -- What is left of a text, and a piece of it, as they are read
 
-pub rest-read : (text : List ℕ) (n : ℕ) → take (length text - n) (drop n text) ≡ drop n text
-rest-read text n = take_all (length text - n) (drop n text) (let long = length-drop n text in omega (arith, long))
-
 pub piece-read : (text : List ℕ) (n d : ℕ) → take (n + d - n) (drop n text) ≡ take d (drop n text)
 piece-read text n d = ap (λ k. take k (drop n text)) (let e : n + d - n ≡ d = omega arith in e)
 
@@ -171,7 +163,7 @@ module _ (text : List ℕ) (at d : ℕ) (words : List (List ℕ)) (numbers : Lis
   pub state-refused : IsWithout 32 (take d (drop (at + 1) text)) → BeginsWith 32 (drop d (drop (at + 1) text)) → ((n : ℕ) → IsDecimal (take d (drop (at + 1) text)) n → n < 2 ^ 32 → ⊥)
       → (others : List ℕ) → SaysStates text others → AreSmall others → ⊥
   state-refused bare behind none others (more, is, also) small =
-      let held = next-piece text at d words more less begins said bare behind (decimals-clean-words words numbers are) (decimals-clean-words more others also) (sym is) in
+      let held = next-piece text at d words more less begins said bare behind (decimals-no-space words numbers are) (decimals-no-space more others also) (sym is) in
       let (n, decimal, few) = decimal-held more others (take d (drop (at + 1) text)) also small held in
       none n decimal few
 

@@ -76,7 +76,7 @@ digits-no-space digits n is = not-digit 32 refl digits is.0
 pub digits-no-tab : (digits : List ℕ) (n : ℕ) → IsDecimal digits n → IsWithout 9 digits
 digits-no-tab digits n is = not-digit 9 refl digits is.0
 
-decimals-no-space : (words : List (List ℕ)) (numbers : List ℕ) → AreDecimals words numbers → AllByRecursion (IsWithout 32) words
+pub decimals-no-space : (words : List (List ℕ)) (numbers : List ℕ) → AreDecimals words numbers → AllByRecursion (IsWithout 32) words
 decimals-no-space [] numbers are = tt
 decimals-no-space (word ∷ words) [] are = absurd are
 decimals-no-space (word ∷ words) (n ∷ numbers) are = (digits-no-space word n are.0, decimals-no-space words numbers are.1)

@@ -5,10 +5,15 @@ use Rattle.place_walk.specs.declared.visit.Visit.{Visit}
 use Rattle.place_walk.specs.Courses.{Course}
 use Rattle.place_walk.specs.Visits.{AreVisitsOf}
 
+-- the first of the stands is marked, and no other
+abbrev pub IsMarked : List Stand → Type 0
+IsMarked stands =
+    (k : ℕ) (stand : Stand) → slice_get stands k ≡ Some stand → IsTrue stand.first ↔ (k ≡ 0)
+
 -- at least one stand, and the first of them is marked
 pub record IsGroup (group : List Stand) : Type 0 where
   pub some : 0 < length group
-  pub marked : (k : ℕ) (stand : Stand) → slice_get group k ≡ Some stand → IsTrue stand.first ↔ (k ≡ 0)
+  pub marked : IsMarked group
 
 -- the stands, cut where one is marked
 abbrev pub AreGroups : List Stand → List (List Stand) → Type 0

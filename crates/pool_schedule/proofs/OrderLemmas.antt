@@ -1,17 +1,15 @@
 -- The choices settle the schedule, and what a loop that runs it keeps.
-use Rattle.std.proofs.Common.{◌≡◌, ℕ, ◌%◌, Option, Some, None, List, [], ◌∷◌, ◌++◌, set, slice_get, length, refl, sym, ap, ◌∙◌, subst}
+use Rattle.std.proofs.Common.{◌≡◌, ℕ, ◌%◌, Some, None, List, [], ◌∷◌, ◌++◌, set, slice_get, length, refl, sym, ap, ◌∙◌, subst}
 use Rattle.std.proofs.lemmas.List.{same_from_push}
 use Rattle.pool_schedule.specs.State.{Load, State}
 use Rattle.pool_schedule.specs.Steps.{Step}
 use Rattle.pool_schedule.specs.declared.event.Event.{Event}
 use Rattle.pool_schedule.specs.declared.event.Event.TheVariants.{Post, Grow, Put, Take, Steal}
 use Rattle.pool_schedule.specs.Schedule.{enabled, Picks, first_choice, later_choices, IsScheduled}
+use Rattle.mine_model.proofs.ElementLemmas.{same-some}
 
 machine-same : (a b : State) → a.workers ≡ b.workers → a.posted ≡ b.posted → a ≡ b
 machine-same a b w p = ap (λ (x : List Load). record { workers = x; posted = a.posted }) w ∙ ap (λ (x : List (List ℕ)). record { workers = b.workers; posted = x }) p
-
-same-some : {X : Type 0} (x y : X) (o : Option X) → o ≡ Some x → o ≡ Some y → x ≡ y
-same-some x y o p q = cc
 
 same-cons : (xs ys : List (List ℕ)) (x y : List ℕ) → x ∷ xs ≡ y ∷ ys → (xs ≡ ys) × (x ≡ y)
 same-cons xs ys x y e = (cc, cc)

@@ -3,7 +3,6 @@ use Rattle.std.proofs.Common.{◌≡◌, ℕ, zero, suc, ◌+◌, ◌≤◌, ◌
 use Rattle.std.specs.List.{Contains}
 use Rattle.std.proofs.lemmas.Bool.{cases_lt}
 use Rattle.std.proofs.lemmas.List.{nil_from_length}
-use Rattle.std.proofs.lemmas.List.Elements.{Contains-append_left, Contains-append_right, Contains-append_cases}
 use Rattle.std.proofs.lemmas.Option.{same_Some, slice_get_within, slice_get_cases, slice_get-get_or, get_or_from_slice_get}
 use Rattle.mine_model.specs.declared.item.Item.{Item}
 use Rattle.mine_model.specs.Answer.{Data}
@@ -13,7 +12,7 @@ use Rattle.candidate_graph.specs.declared.edge.Edge.{Edge}
 use Rattle.candidate_graph.specs.Graphs.{Node, IsExpanded, Grows}
 use Rattle.candidate_graph.specs.Paths.{HasEdge, Reaches}
 use Rattle.prefix_sieve.specs.declared.fronts.Front.{Front}
-use Rattle.prefix_sieve.specs.Buckets.{capped, sum_of}
+use Rattle.prefix_sieve.specs.Buckets.{capped, sum_of, AreNoLess}
 use Rattle.prefix_sieve.specs.Hashes.{start, mixed, hash_of}
 use Rattle.prefix_sieve.specs.Sieves.{HasCandidate, HasBehind, lets_pass, PassesAll, HasRaised}
 use Rattle.prefix_sieve.specs.Fronts.{IsPassed, LeadsToAll, root_front, front_behind, IsAdded, AreAdded, IsGone, AreWithin, HasGone, AreGone, AreFronts, AreRaised, HasRaisedBehind, HaveRaised}
@@ -87,19 +86,6 @@ raised-from nodes front weight before mid after more raised = record {
 }
 
 -- Fronts that are added
-
-pub added-pushed : (passes : Bool) (front : Front) (before after : List Front) → after ≡ before ++ front ∷ [] → IsAdded passes front before after
-added-pushed passes front before after is = record {
-  keeps = λ other held. subst (λ (fs : List Front). Contains fs other) (sym is) (Contains-append_left before (front ∷ []) other held);
-  others = λ other held. elim (Contains-append_cases before (front ∷ []) other (subst (λ (fs : List Front). Contains fs other) is held)) [
-    | inl old ↦ inl old
-    | inr new ↦ elim (Contains-cases front [] other new) [
-      | inl same ↦ inr same
-      | inr none ↦ absurd (Contains-none other none)
-    ]
-  ];
-  here = λ _. subst (λ (fs : List Front). Contains fs front) (sym is) (Contains-append_right before (front ∷ []) front (Contains-first front []));
-}
 
 pub record AreAddedTo (level : Option (List Bool)) (front : Front) (edges : List Edge) (count : ℕ) (before after : List Front) : Type 0 where
   pub keeps : (other : Front) → Contains before other → Contains after other
@@ -305,7 +291,7 @@ module _ (levels : List (List Bool)) (a b : List Node) (grows : Grows a b) (coun
 -- ---- sums
 
 pub record AreRaisedTo (edges : List Edge) (hash weight count : ℕ) (before after : List ℕ) : Type 0 where
-  pub never_less : (code : ℕ) → sum_of before code ≤ sum_of after code
+  pub never_less : AreNoLess before after
   pub raised : (k : ℕ) (edge : Edge) → k < count → slice_get edges k ≡ Some edge
       → capped (sum_of before (mixed hash edge.rank)) weight ≤ sum_of after (mixed hash edge.rank)
 
@@ -346,7 +332,7 @@ raised-behind nodes front weight edges before after known exact raised = record 
 }
 
 pub record HaveRaisedTo (nodes : List Node) (here : List Front) (weight count : ℕ) (before after : List ℕ) : Type 0 where
-  pub never_less : (code : ℕ) → sum_of before code ≤ sum_of after code
+  pub never_less : AreNoLess before after
   pub each : (k : ℕ) (front : Front) → k < count → slice_get here k ≡ Some front → HasRaisedBehind nodes front weight before after
 
 module _ (here : List Front) (weight : ℕ) where

@@ -1,5 +1,5 @@
 -- Sums of weights by bucket, and which buckets reach a threshold.
-use Rattle.std.specs.Prelude.{◌≡◌, ℕ, ◌+◌, ◌%◌, min, nat_le, Bool, true, List, length, map, set, slice_index_or}
+use Rattle.std.specs.Prelude.{◌≡◌, ℕ, ◌+◌, ◌%◌, min, nat_le, Bool, true, List, length, map, set, slice_index_or, ◌≤◌}
 
 -- a sum stops here
 abbrev pub top : ℕ
@@ -16,6 +16,10 @@ bucket_of count hash = hash % count
 -- the sum of the bucket of the hash
 abbrev pub sum_of : List ℕ → ℕ → ℕ
 sum_of sums hash = slice_index_or sums (bucket_of (length sums) hash) 0
+
+-- no sum is less than before
+abbrev pub AreNoLess : List ℕ → List ℕ → Type 0
+AreNoLess before after = (hash : ℕ) → sum_of before hash ≤ sum_of after hash
 
 -- the sums where the bucket of the hash has the weight more
 abbrev pub raised : List ℕ → ℕ → ℕ → List ℕ

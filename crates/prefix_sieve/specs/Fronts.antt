@@ -6,7 +6,7 @@ use Rattle.candidate_graph.specs.declared.edge.Edge.{Edge}
 use Rattle.candidate_graph.specs.Graphs.{Node, IsExpanded}
 use Rattle.candidate_graph.specs.Paths.{HasEdge, Reaches}
 use Rattle.prefix_sieve.specs.declared.fronts.Front.{Front}
-use Rattle.prefix_sieve.specs.Buckets.{capped, sum_of}
+use Rattle.prefix_sieve.specs.Buckets.{capped, sum_of, AreNoLess}
 use Rattle.prefix_sieve.specs.Hashes.{start, mixed, hash_of}
 use Rattle.prefix_sieve.specs.Sieves.{HasBehind, lets_pass, PassesAll}
 
@@ -19,7 +19,7 @@ pub record IsPassed (levels : List (List Bool)) (weight : ℕ) (nodes : List Nod
     : Type 0 where
   pub known : (list : List ℕ) (number : ℕ) → length list ≤ length levels → PassesAll hash_of levels list
       → Reaches nodes 0 list number → IsExpanded nodes number
-  pub never_less : (code : ℕ) → sum_of before code ≤ sum_of after code
+  pub never_less : AreNoLess before after
   pub raised : (list : List ℕ) (number : ℕ) → length list ≡ length levels → PassesAll hash_of levels list
       → Reaches nodes 0 list number → (rank : ℕ) (edge : Edge) → HasEdge nodes number rank edge
       → capped (sum_of before (hash_of (list ++ rank ∷ []))) weight
@@ -92,7 +92,7 @@ pub record AreFronts (levels : List (List Bool)) (nodes : List Node) (count : �
 
 -- no sum is less, and the bucket of the prefix with each of the edges has the weight more
 pub record AreRaised (edges : List Edge) (hash weight : ℕ) (before after : List ℕ) : Type 0 where
-  pub never_less : (code : ℕ) → sum_of before code ≤ sum_of after code
+  pub never_less : AreNoLess before after
   pub raised : (edge : Edge) → Contains edges edge
       → capped (sum_of before (mixed hash edge.rank)) weight ≤ sum_of after (mixed hash edge.rank)
 
@@ -100,11 +100,11 @@ pub record AreRaised (edges : List Edge) (hash weight : ℕ) (before after : Lis
 pub record HasRaisedBehind (nodes : List Node) (front : Front) (weight : ℕ) (before after : List ℕ)
     : Type 0 where
   pub known : IsExpanded nodes front.node
-  pub never_less : (code : ℕ) → sum_of before code ≤ sum_of after code
+  pub never_less : AreNoLess before after
   pub raised : (rank : ℕ) (edge : Edge) → HasEdge nodes front.node rank edge
       → capped (sum_of before (mixed front.hash edge.rank)) weight ≤ sum_of after (mixed front.hash edge.rank)
 
 pub record HaveRaised (nodes : List Node) (here : List Front) (weight : ℕ) (before after : List ℕ)
     : Type 0 where
-  pub never_less : (code : ℕ) → sum_of before code ≤ sum_of after code
+  pub never_less : AreNoLess before after
   pub each : (front : Front) → Contains here front → HasRaisedBehind nodes front weight before after

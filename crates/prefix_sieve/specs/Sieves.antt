@@ -7,7 +7,7 @@ use Rattle.mine_model.specs.Candidates.{IsCandidate}
 use Rattle.mine_model.specs.Growth.{WeighAtLeast}
 use Rattle.mine_model.specs.Ranks.{AreRanked}
 use Rattle.mine_model.specs.Support.{Sequence}
-use Rattle.prefix_sieve.specs.Buckets.{top, capped, sum_of, flags_of, flag_of}
+use Rattle.prefix_sieve.specs.Buckets.{top, capped, sum_of, flags_of, flag_of, AreNoLess}
 
 -- ---- candidates behind a prefix
 
@@ -55,7 +55,7 @@ HasEnough d order hash levels longest sequences sums =
 -- behind which the sequence has a candidate, has its weight more. Buckets may have more than that.
 pub record HasRaised (d : Data Item) (order : List Item) (hash : List ℕ → ℕ) (levels : List (List Bool))
     (longest : ℕ) (sequence : Sequence Item) (before after : List ℕ) : Type 0 where
-  pub never_less : (hash : ℕ) → sum_of before hash ≤ sum_of after hash
+  pub never_less : AreNoLess before after
   pub raised : (prefix : List ℕ) → IsLookedAt hash levels longest prefix
       → HasBehind d order prefix sequence.items
       → capped (sum_of before (hash prefix)) sequence.weight ≤ sum_of after (hash prefix)

@@ -1,17 +1,18 @@
 -- A proof of the answer is good.
-use Rattle.std.proofs.Common.{◌≡◌, ◌≢◌, ℕ, ◌+◌, ◌-◌, ◌*◌, ◌^◌, ◌≤◌, ◌<◌, ◌↔◌, false, List, [], ◌∷◌, map, length, refl, sym, ap, ◌∙◌, subst, arith, Contains}
+use Rattle.std.proofs.Common.{◌≡◌, ◌≢◌, ℕ, ◌+◌, ◌-◌, ◌^◌, ◌≤◌, ◌<◌, ◌↔◌, false, List, [], ◌∷◌, map, length, refl, sym, ap, ◌∙◌, subst, arith, Contains}
 use Rattle.std.specs.List.{AllByRecursion, flat_map, slice_index_or}
 use Rattle.std.proofs.lemmas.List.{length-map}
 use Rattle.std.proofs.lemmas.Option.{slice_get_within}
 use Rattle.mine_model.specs.Answer.{Data, NamedRow, Rises, IsFrequent, IsAnswer}
-use Rattle.mine_model.specs.Expression.{Tree, leaf, cat, alt, rep, cap, unfolded_times, unfolded_leaves, tree_by}
+use Rattle.mine_model.specs.Expression.{Tree, unfolded_leaves, tree_by}
 use Rattle.mine_model.specs.Generation.{IsPatternOf}
 use Rattle.mine_model.specs.Hierarchy.{Link}
 use Rattle.mine_model.specs.Limits.{most_sequences, most_weight, most_leaves}
-use Rattle.mine_model.specs.Names.{name_of}
+use Rattle.mine_model.specs.Names.{name_of, IsFileName}
 use Rattle.mine_model.specs.Support.{Sequence}
 use Rattle.mine_model.specs.Text.{lines_of}
 use Rattle.mine_model.proofs.ListLemmas.{Contains-by, AllByRecursion-from, AllByRecursion-contained, AllByRecursion-weaker}
+use Rattle.mine_model.proofs.NumberingLemmas.{unfolded_leaves-by}
 use Rattle.fst_compile.specs.Shape.{ShapeOf, labels_of, unfold_tree}
 use Rattle.fst_compile.proofs.AutomatonLemmas.{length-labels}
 use Rattle.fst_compile.proofs.UnfoldLemmas.{size-unfold}
@@ -19,7 +20,7 @@ use Rattle.pattern_proof.specs.ProofLines.{Cited, Entry, Say, AreFileNames, text
 use Rattle.pattern_proof.specs.Runs.{Passes}
 use Rattle.pattern_proof.proofs.WrittenLemmas.{IsWritable, written-say}
 use Rattle.proof_names.specs.NamedProofs.{ProofRow, SayRows, Shows, shown_weight, IsProvedRow, IsGoodProof, IsFullRow, IsProofText, proof_text}
-use Rattle.proof_names.specs.Numberings.{IsFileName, AreKnown}
+use Rattle.proof_names.specs.Numberings.{AreKnown}
 use Rattle.proof_names.proofs.EncodingLemmas.{item_of}
 use Rattle.proof_names.proofs.FullLemmas.{text-named}
 use Rattle.proof_names.proofs.FullWeightLemmas.{counted-most, full-weigh, weights}
@@ -30,19 +31,12 @@ use Rattle.proof_names.proofs.ShowLemmas.{sequence-found}
 
 -- The states of a path are among the item expressions
 
-leaves-by : {A B : Type 0} (f : A → B) (tree : Tree A) → unfolded_leaves (tree_by f tree) ≡ unfolded_leaves tree
-leaves-by f (leaf l) = refl
-leaves-by f (cat left right) = λ i. leaves-by f left i + leaves-by f right i
-leaves-by f (alt left right) = λ i. leaves-by f left i + leaves-by f right i
-leaves-by f (rep inner least most) = ap (λ n. unfolded_times least most * n) (leaves-by f inner)
-leaves-by f (cap inner) = leaves-by f inner
-
 labels-count : (tree : Tree (List ℕ)) → length (labels_of (unfold_tree tree false)) ≡ unfolded_leaves tree
 labels-count tree =
     let shape = unfold_tree tree false in
     sym (length-map (labels_of shape) (entry_by item_of)) ∙ ap length (sym (labels-by item_of shape))
     ∙ ap (λ s. length (labels_of s)) (sym (unfold-by item_of tree false))
-    ∙ length-labels (unfold_tree (tree_by item_of tree) false) ∙ size-unfold (tree_by item_of tree) false ∙ leaves-by item_of tree
+    ∙ length-labels (unfold_tree (tree_by item_of tree) false) ∙ size-unfold (tree_by item_of tree) false ∙ unfolded_leaves-by item_of tree
 
 states-within : {A : Type 0} (links : List (Link A)) (shape : ShapeOf A) (at : ℕ) (states : List ℕ) (items output : List A)
     → Passes links shape at states items output → AllByRecursion (λ n. n ≤ length (labels_of shape)) states
@@ -50,6 +44,16 @@ states-within links shape at [] items output passes = tt
 states-within links shape at (next ∷ states) [] output passes = absurd passes
 states-within links shape at (next ∷ states) (t ∷ items) output (entry, here, there, may, found, matches, writes, joined, rest) =
     (let below = slice_get_within (labels_of shape) (next - 1) entry found in omega (arith, below), states-within links shape next states items there rest)
+
+-- what is cited for it can be written
+pub path-small : (d : Data (List ℕ)) → length d.sequences ≤ most_sequences → unfolded_leaves d.expression ≤ most_leaves
+    → (pattern : List (List ℕ)) (path : Cited) → Shows d pattern path → (path.place + 1 < 2 ^ 64) × AllByRecursion (λ n. n < 2 ^ 64) path.states
+path-small d few small pattern path (s, found, passes) = (
+  (let below = slice_get_within d.sequences path.place s found in omega (arith, below, few)),
+  AllByRecursion-weaker (λ n. n ≤ length (labels_of (unfold_tree d.expression false))) (λ n. n < 2 ^ 64)
+      (λ n less. let count = labels-count d.expression in omega (arith, less, count, small)) path.states
+      (states-within d.links (unfold_tree d.expression false) 0 path.states s.items pattern passes),
+)
 
 module _ (d : Data (List ℕ)) (few : length d.sequences ≤ most_sequences)
     (light : AllByRecursion (λ (s : Sequence (List ℕ)). s.weight ≤ most_weight) d.sequences) (small : unfolded_leaves d.expression ≤ most_leaves) where
@@ -78,15 +82,6 @@ module _ (d : Data (List ℕ)) (few : length d.sequences ≤ most_sequences)
       shown [] = refl
       shown (path ∷ paths) = ap (λ n. weight_at path.place + n) (shown paths)
 
-  -- what is cited for it can be written
-  path-small : (pattern : List (List ℕ)) (path : Cited) → Shows d pattern path → (path.place + 1 < 2 ^ 64) × AllByRecursion (λ n. n < 2 ^ 64) path.states
-  path-small pattern path (s, found, passes) = (
-    (let below = slice_get_within d.sequences path.place s found in omega (arith, below, few)),
-    AllByRecursion-weaker (λ n. n ≤ length (labels_of (unfold_tree d.expression false))) (λ n. n < 2 ^ 64)
-        (λ n less. let count = labels-count d.expression in omega (arith, less, count, small)) path.states
-        (states-within d.links (unfold_tree d.expression false) 0 path.states s.items pattern passes),
-  )
-
   module _ (known names : List (List ℕ)) (sound : AreFileNames names) (held : (name : List ℕ) → (Contains known name ↔ Contains names name)) where
     -- rows with known names, by the numbers of these
     entries-of : (rows : List ProofRow) → AllByRecursion (λ (row : ProofRow). AllByRecursion (Contains known) row.row.pattern) rows
@@ -104,7 +99,7 @@ module _ (d : Data (List ℕ)) (few : length d.sequences ≤ most_sequences)
               some = λ none. some.0 (sym same ∙ ap (map (name_of names)) none);
               known = inside;
               paths = AllByRecursion-weaker (Shows d row.row.pattern) (λ (path : Cited). (path.place + 1 < 2 ^ 64) × AllByRecursion (λ n. n < 2 ^ 64) path.states)
-                  (λ path shows. path-small row.row.pattern path shows) row.paths proved.0.each;
+                  (λ path shows. path-small d few small row.row.pattern path shows) row.paths proved.0.each;
             },
             writable,
           ),

@@ -3,13 +3,13 @@ use Rattle.std.proofs.Common.{ℕ, zero, suc, ◌≤◌, ◌↔◌, false, inl, 
 use Rattle.std.specs.List.{AllByRecursion}
 use Rattle.mine_model.specs.Answer.{Data, IsFrequent}
 use Rattle.mine_model.specs.Generation.{IsPatternOf}
-use Rattle.mine_model.specs.Names.{AreDistinct}
+use Rattle.mine_model.specs.Names.{AreDistinct, IsFileName}
 use Rattle.mine_model.proofs.GenerationLemmas.{Generates-items}
 use Rattle.mine_model.proofs.ListLemmas.{Contains-cases, Contains-first, Contains-other}
 use Rattle.mine_model.proofs.OnceLemmas.{list_or_not}
 use Rattle.mine_model.proofs.SupportLemmas.{Counts-some}
 use Rattle.pattern_proof.specs.ProofLines.{AreFileNames}
-use Rattle.proof_names.specs.Numberings.{IsFileName, AreKnown}
+use Rattle.proof_names.specs.Numberings.{AreKnown}
 use Rattle.proof_names.proofs.NamingLemmas.{index-held, above-has}
 
 distinct-more : (name : List ℕ) (names : List (List ℕ)) → (Contains names name → ⊥) → AreDistinct names → AreDistinct (name ∷ names)

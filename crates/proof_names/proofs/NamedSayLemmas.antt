@@ -8,9 +8,10 @@ use Rattle.mine_model.specs.Answer.{NamedRow}
 use Rattle.mine_model.specs.Names.{name_of, HasName, named_row}
 use Rattle.mine_model.proofs.ListLemmas.{front_of_both, back_of_both, of_both}
 use Rattle.mine_model.proofs.NumberingLemmas.{map-none}
+use Rattle.mine_model.proofs.NameLemmas.{number-of}
 use Rattle.pattern_proof.specs.ProofLines.{Entry, SaysRow, GoesOn, SayMore}
 use Rattle.proof_names.specs.NamedProofs.{ProofRow, SaysNamedRow, AddsLine, AddLines}
-use Rattle.proof_names.proofs.NamingLemmas.{number-of, name-held}
+use Rattle.proof_names.proofs.NamingLemmas.{name-held}
 
 -- the row with the names of its items, and its paths
 abbrev pub named_entry : List (List ℕ) → Entry → ProofRow

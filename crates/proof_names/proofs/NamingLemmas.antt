@@ -1,24 +1,17 @@
 -- The names of a numbering, and what stands above them.
-use Rattle.std.proofs.Common.{◌≡◌, ℕ, zero, suc, ◌<◌, inl, inr, List, [], ◌∷◌, length, Contains, subst, arith}
+use Rattle.std.proofs.Common.{◌≡◌, ℕ, zero, suc, ◌<◌, List, [], ◌∷◌, length, Contains, subst, arith}
 use Rattle.std.specs.List.{AllByRecursion, slice_index_or}
 use Rattle.mine_model.specs.declared.item.Item.{Item}
 use Rattle.mine_model.specs.Answer.{Data}
 use Rattle.mine_model.specs.Hierarchy.{Link, IsWalk, IsAncestor}
 use Rattle.mine_model.specs.Names.{name_of, HasName}
 use Rattle.mine_model.proofs.AncestryLemmas.{Item-same}
-use Rattle.mine_model.proofs.ListLemmas.{Contains-cases, Contains-first, Contains-other, Contains-none, AllByRecursion-contained, AllByRecursion-weaker}
+use Rattle.mine_model.proofs.ListLemmas.{Contains-first, Contains-other, AllByRecursion-contained, AllByRecursion-weaker}
 use Rattle.mine_model.proofs.NamedAnswer.{named_data}
 use Rattle.mine_model.proofs.NumberingLemmas.{Renames}
+use Rattle.mine_model.proofs.NameLemmas.{number-of}
 use Rattle.mining_job.specs.Problems.{Problem, data_of}
 use Rattle.proof_names.specs.Numberings.{IsNumbering}
-
--- a name has a number
-pub number-of : (names : List (List ℕ)) (name : List ℕ) → Contains names name → (w : Item) × HasName names w × (name ≡ name_of names w)
-number-of [] name inside = absurd (Contains-none name inside)
-number-of (first ∷ names) name inside = elim (Contains-cases first names name inside) [
-  | inl same ↦ (record { 0 = 0 }, omega arith, same)
-  | inr other ↦ let (w, held, same) = number-of names name other in (record { 0 = suc w.0 }, omega (arith, held), same)
-]
 
 -- and what has a number is a name
 pub index-held : (names : List (List ℕ)) (n : ℕ) → n < length names → Contains names (slice_index_or names n [])

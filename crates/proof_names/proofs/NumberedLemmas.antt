@@ -5,9 +5,8 @@ use Rattle.mine_model.specs.declared.row.Row.{Row}
 use Rattle.mine_model.specs.declared.fault.Fault.{Fault}
 use Rattle.mine_model.specs.Answer.{Data}
 use Rattle.mine_model.specs.Limits.{most_file_bytes}
-use Rattle.mine_model.specs.Names.{name_of, HasName, named_row}
+use Rattle.mine_model.specs.Names.{HasName, named_row}
 use Rattle.mine_model.specs.Text.{lines_of, IsSoundLine}
-use Rattle.mine_model.proofs.NumberingLemmas.{Renames}
 use Rattle.mining_job.specs.Problems.{Problem}
 use Rattle.pattern_proof.specs.declared.fault.ProofFault.{ProofFault}
 use Rattle.pattern_proof.specs.Judging.{IsProofRefusal}
@@ -23,20 +22,17 @@ use Rattle.proof_names.proofs.NamedRefusalLemmas.{file-agree}
 use Rattle.proof_names.proofs.FullLemmas.{proof-named}
 
 module _ (d : Data (List ℕ)) (known names : List (List ℕ)) (problem : Problem) (numbering : IsNumbering d known names problem) where
-  abbrev renamed : Renames problem.hierarchy.links d.links (HasName names) (name_of names)
-  renamed = renames-of d known names problem numbering
-
   pub good-named : (lines : List (List ℕ)) (count : ℕ) → (IsGood problem names lines count ↔ IsGoodProof d known lines count)
   good-named lines count =
       subst (λ (own : Data (List ℕ)). IsGood problem names lines count ↔ IsGoodProof own known lines count) (data-named d known names problem numbering) (
-        good-forth names d.links problem renamed numbering.named known numbering.held lines count,
-        (λ good. (good-from names d.links problem renamed numbering.named known numbering.held lines count good).0),
+        good-forth names d.links problem (renames-of d known names problem numbering) numbering.named known numbering.held lines count,
+        (λ good. (good-from names d.links problem (renames-of d known names problem numbering) numbering.named known numbering.held lines count good).0),
       )
 
   refusals : (bytes : List ℕ) → Agree fault_of (IsProofRefusal problem names bytes) (IsProofFileRefusal d known bytes)
   refusals bytes =
       subst (λ (own : Data (List ℕ)). Agree fault_of (IsProofRefusal problem names bytes) (IsProofFileRefusal own known bytes)) (data-named d known names problem numbering)
-      (file-agree names d.links problem renamed numbering.named known numbering.held bytes)
+      (file-agree names d.links problem (renames-of d known names problem numbering) numbering.named known numbering.held bytes)
 
   pub refused-named : (bytes : List ℕ) → ((fault : ProofFault) → IsProofRefusal problem names bytes fault → IsProofFileRefusal d known bytes (fault_of fault))
       × ((fault : Fault) → IsProofFileRefusal d known bytes fault → (own : ProofFault) × (fault ≡ fault_of own) × IsProofRefusal problem names bytes own)
@@ -46,7 +42,7 @@ module _ (d : Data (List ℕ)) (known names : List (List ℕ)) (problem : Proble
       → IsProofOf problem names rows bytes → IsProofText d (map (named_row names) rows) bytes
   text-is-named rows bytes have proof =
       subst (λ (own : Data (List ℕ)). IsProofText own (map (named_row names) rows) bytes) (data-named d known names problem numbering)
-      (proof-named names d.links problem renamed numbering.named rows bytes have proof)
+      (proof-named names d.links problem (renames-of d known names problem numbering) numbering.named rows bytes have proof)
 
   -- a good proof whose lines are sound is not refused
   pub good-unrefused : (bytes : List ℕ) (count : ℕ) → length bytes ≤ most_file_bytes → AllByRecursion IsSoundLine (lines_of bytes)

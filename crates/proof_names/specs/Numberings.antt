@@ -1,5 +1,5 @@
 -- A problem over the numbers of names, and the data over the names.
-use Rattle.std.specs.Prelude.{◌≡◌, ◌≢◌, ℕ, ◌↔◌, true, List, [], map, Contains}
+use Rattle.std.specs.Prelude.{◌≡◌, ℕ, ◌↔◌, List, map, Contains}
 use Rattle.std.specs.List.{AllByRecursion}
 use Rattle.mine_model.specs.declared.item.Item.{Item}
 use Rattle.mine_model.specs.declared.fault.Fault.{Fault}
@@ -10,8 +10,6 @@ use Rattle.mine_model.specs.Expression.{tree_by}
 use Rattle.mine_model.specs.Hierarchy.{IsAncestor}
 use Rattle.mine_model.specs.Names.{name_of, HasName, AreNamed, sequence_by}
 use Rattle.mine_model.specs.Numbered.{tree_of}
-use Rattle.mine_model.specs.Text.{is_name_byte}
-use Rattle.mine_model.specs.Tokens.{Each}
 use Rattle.mining_job.specs.Problems.{Problem, data_of}
 use Rattle.pattern_proof.specs.declared.fault.ProofFault.{ProofFault}
 use Rattle.pattern_proof.specs.declared.fault.ProofFault.TheVariants.{ReadFault, TooLarge, BadByte, NameTooLong, BadProof, NoMemory}
@@ -37,10 +35,6 @@ fault_of (BadByte line column) = DataBadByte Proof line column
 fault_of (NameTooLong line column) = DataNameTooLong Proof line column
 fault_of (BadProof line) = DataBadProof line
 fault_of NoMemory = DataNoMemory
-
--- a name of a file: not empty, and of name bytes alone
-abbrev pub IsFileName : List ℕ → Type 0
-IsFileName name = (name ≢ []) × Each is_name_byte true name
 
 -- the items of all sequences, and what stands above other items, are among the names
 pub record AreKnown (known : List (List ℕ)) (d : Data (List ℕ)) : Type 0 where

@@ -10,7 +10,7 @@ ghost use Rattle.mine_model.specs.Generation.{Generates, IsPatternOf};
 ghost use Rattle.mine_model.specs.Growth.{WeighAtLeast};
 ghost use Rattle.mine_model.specs.Hierarchy.{Link};
 ghost use Rattle.mine_model.specs.Limits.{most_file_bytes, most_sequences, most_weight, most_leaves};
-ghost use Rattle.mine_model.specs.Names.{HasName, named_row};
+ghost use Rattle.mine_model.specs.Names.{HasName, named_row, IsFileName};
 ghost use Rattle.mine_model.specs.Support.{HasSupport};
 ghost use Rattle.mine_model.specs.Text.{lines_of, is_name_byte, IsSoundLine};
 ghost use Rattle.mine_model.specs.Tokens.{Each};
@@ -22,7 +22,7 @@ ghost use Rattle.pattern_proof.specs.Judging.{IsProofRefusal};
 ghost use Rattle.pattern_proof.specs.Runs.{Passes};
 ghost use Rattle.proof_names.specs.NamedProofs.{ProofRow, IsGoodProof, IsProofText};
 ghost use Rattle.proof_names.specs.NamedRefusals.{IsProofFileRefusal};
-ghost use Rattle.proof_names.specs.Numberings.{IsNumbering, IsFileName, AreKnown, fault_of};
+ghost use Rattle.proof_names.specs.Numberings.{IsNumbering, AreKnown, fault_of};
 
 /// By the numbers of names a proof is good just where it is good by names, with as many rows.
 pub fn good_by_numbers_is_good_by_names()

@@ -21,7 +21,7 @@ use Rattle.mine_model.proofs.SupportLemmas.{Counts-unique}
 use Rattle.mine_model.proofs.FrequencyLemmas.{HasFrequency-within}
 use Rattle.mine_model.proofs.NumberingLemmas.{map-none}
 use Rattle.mine_model.proofs.RankLemmas.{HasRank-held}
-use Rattle.mine_model.proofs.RankedLemmas.{ranked-first, ranked-same, ranked-all, item_rank, same_ranks}
+use Rattle.mine_model.proofs.RankedLemmas.{ranked-first, ranked-same, ranked-all, item_rank, same_ranks, within-top}
 use Rattle.mine_model.proofs.AliveLemmas.{IsAlive-weaker, IsAlive-some}
 use Rattle.search_tree.proofs.SearchAnswerLemmas.{ranked-items, frequent-ranks}
 use Rattle.search_tree.specs.RankedPartition.{IsRankedPartitionWork}
@@ -133,22 +133,18 @@ module _ (names : List (List ℕ)) (d : Data Item) (ranking : Ranking) (ranks : 
       (λ is. record { ranked = all_from items is.frequent is.last; needed = (pivot, is.held, has) }),
     )
 
-    pub by_top : (rank : ℕ) → 1 ≤ rank → (items : List Item) → IsWithinPivot ranking.order rank items ↔ IsWithin ranking.order rank (Some rank) items
-    by_top zero some items = absurd (omega (arith, some))
-    by_top (suc rank) some items = ((λ is. is), (λ is. is))
-
     -- and so are its alive labels
     pub label-same : (prefix : List Item) (list : List ℕ) → AreRanked ranking.order prefix list
         → IsAliveLabel d ranking.order top list ↔ IsAlive d (Bound pivot) prefix
     label-same prefix list ranked = (
       (λ is. subst (IsAlive d (Bound pivot)) (ranked-same ranking.order is.prefix prefix list is.ranked ranked)
           (IsAlive-weaker d (IsWithinPivot ranking.order top) (Bound pivot)
-          (λ items within. (bound-same items).0 ((by_top top has.least items).0 within)) is.prefix is.alive)),
+          (λ items within. (bound-same items).0 ((within-top ranking.order top has.least items).0 within)) is.prefix is.alive)),
       (λ alive. record {
         prefix = prefix;
         ranked = ranked;
         alive = IsAlive-weaker d (Bound pivot) (IsWithinPivot ranking.order top)
-            (λ items is. (by_top top has.least items).1 ((bound-same items).1 is)) prefix alive;
+            (λ items is. (within-top ranking.order top has.least items).1 ((bound-same items).1 is)) prefix alive;
       }),
     )
 

@@ -2,7 +2,7 @@
 use Rattle.std.proofs.Common.{◌≡◌, ℕ, ◌<◌, Bool, true, false, if◌then◌else◌, Option, Some, None, List, length, refl, sym, ap, ◌∙◌, subst}
 use Rattle.std.specs.Prelude.{IfSome}
 use Rattle.std.specs.List.{slice_get}
-use Rattle.mine_model.proofs.ElementLemmas.{get-some, slice_get-mapped_by}
+use Rattle.mine_model.proofs.ElementLemmas.{get-some, slice_get-mapped_by, get-from}
 use Rattle.sequence_grids.specs.Grids.{GridList, items_at}
 use Rattle.walk_memo.specs.Memos.{MemoValue}
 use Rattle.walk_places.specs.declared.places.Record.{Record}
@@ -10,7 +10,6 @@ use Rattle.place_walk.specs.Courses.{Course, course_of}
 use Rattle.stand_sums.specs.Writings.{Ranks}
 use Rattle.candidate_graph.specs.Courses.{Courses, course_in, AreStandsOn, IsGround as CanWalk}
 use Rattle.candidate_graph.specs.Graphs.{Standpoint, Node, IsGraph, Grows}
-use Rattle.candidate_graph.proofs.BasicLemmas.{get-from}
 use Rattle.place_records.specs.Ranks.{RanksValue, ranks_of, CanAskOf}
 use Rattle.place_records.specs.Values.{RecordsValue, moves_for}
 use Rattle.snapshot_project.specs.Aims.{goes}

@@ -7,6 +7,7 @@ use Rattle.std.proofs.lemmas.Option.{slice_get_within}
 use Rattle.state_bits.specs.Members.{Has}
 use Rattle.mine_model.specs.declared.item.Item.{Item}
 use Rattle.mine_model.proofs.ListLemmas.{Contains-cases, Contains-first, Contains-none}
+use Rattle.mine_model.proofs.ElementLemmas.{among-held}
 use Rattle.fst_compile.specs.Transducer.{Leads}
 use Rattle.sequence_grids.specs.Grids.{GridList, Continues, Ends, WritesRank, items_at}
 use Rattle.sequence_grids.specs.Kinds.{IsTarget}
@@ -38,7 +39,7 @@ use Rattle.snapshot_project.specs.Snapshots.{IsPart}
 use Rattle.snapshot_project.proofs.LiveLemmas.{cut-rest}
 use Rattle.snapshot_project.proofs.ListedLemmas.{goes-unseen}
 use Rattle.snapshot_project.proofs.StartLemmas.{place-once}
-use Rattle.snapshot_project.proofs.VisitLemmas.{among-held, has-decided, goes-on_seen}
+use Rattle.snapshot_project.proofs.VisitLemmas.{has-decided, goes-on_seen}
 use Rattle.snapshot_project.proofs.VisitPlaceLemmas.{met-at}
 use Rattle.sequence_candidates.specs.Writings.{WritesRanks, WritesFrom, AreWrittenFrom}
 use Rattle.sequence_candidates.specs.Terrains.{courses_over}

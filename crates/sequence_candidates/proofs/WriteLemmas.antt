@@ -14,6 +14,7 @@ use Rattle.mining_job.specs.Problems.{Problem, IsWhole}
 use Rattle.sequence_grids.specs.Grids.{GridList, IsAllowed, HoldsNeeded, Completes, Continues, Ends, Reads, WritesRank}
 use Rattle.sequence_grids.proofs.KindLemmas.{nil-not-cons}
 use Rattle.sequence_grids.proofs.PathLemmas.{path-step}
+use Rattle.sequence_grids.proofs.GridLemmas.{allowed-ranked}
 use Rattle.stand_sums.specs.Aims.{sees_with}
 use Rattle.snapshot_project.specs.Aims.{goes}
 use Rattle.snapshot_project.specs.Extensions.{GeneratesWithin}
@@ -58,14 +59,6 @@ needed-before ranking (Some need) seen v rank output has (inl sees) = elim (or_c
   | inr same ↦ inr (v, Contains-first v output, subst (HasRank ranking.order v) (sym ((Decides-eqb need rank).0 same)) has)
 ]
 needed-before ranking (Some need) seen v rank output has (inr (w, held, is)) = inr (w, Contains-other v output w held, is)
-
--- items that are allowed have ranks
-pub allowed-ranked : (ranking : Ranking) (bound : Bound) (items : List Item) → AllByRecursion (IsAllowed ranking bound) items
-    → (list : List ℕ) × AreRanked ranking.order items list
-allowed-ranked ranking bound [] allowed = ([], tt)
-allowed-ranked ranking bound (v ∷ items) ((rank, has, few), allowed) =
-    let (list, ranked) = allowed-ranked ranking bound items allowed in
-    (rank ∷ list, (has, ranked))
 
 module _ (problem : Problem) (whole : IsWhole problem) (bound : Bound) where
   -- ---- one edge, and then the rest

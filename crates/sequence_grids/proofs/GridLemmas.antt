@@ -9,6 +9,7 @@ use Rattle.std.proofs.lemmas.Bool.{cases_eq}
 use Rattle.mine_model.specs.declared.item.Item.{Item}
 use Rattle.mine_model.specs.Support.{Sequence}
 use Rattle.mine_model.proofs.ListLemmas.{AllByRecursion-contained, Contains-none}
+use Rattle.mine_model.specs.Ranks.{AreRanked, Ranking}
 use Rattle.state_bits.specs.Members.{Has}
 use Rattle.fst_compile.specs.Transducer.{IsPath}
 use Rattle.mining_job.specs.declared.bound.Bound.{Bound}
@@ -142,3 +143,11 @@ HasCell-of problem bound table kinds t number k columns (kind, found, is) target
 
 pub item_there : (items : List Item) (pos : ℕ) → pos < length items → (t : Item) × (slice_get items pos ≡ Some t)
 item_there items pos inside = let d : Item = record { 0 = 0 } in (get_or items pos d, slice_get-get_or items pos d inside)
+
+-- items that are allowed have ranks
+pub allowed-ranked : (ranking : Ranking) (bound : Bound) (items : List Item) → AllByRecursion (IsAllowed ranking bound) items
+    → (list : List ℕ) × AreRanked ranking.order items list
+allowed-ranked ranking bound [] allowed = ([], tt)
+allowed-ranked ranking bound (v ∷ items) ((rank, has, few), allowed) =
+    let (list, ranked) = allowed-ranked ranking bound items allowed in
+    (rank ∷ list, (has, ranked))

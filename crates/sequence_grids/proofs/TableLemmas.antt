@@ -14,6 +14,7 @@ use Rattle.std.specs.Int.{bit_at}
 use Rattle.std.proofs.lemmas.Nat.Bits.{bit_at_cat_low, bit_at_cat_high}
 use Rattle.state_bits.specs.Members.{Has, HasBit, words_of}
 use Rattle.state_bits.proofs.NeighbourLemmas.{Has-none}
+use Rattle.state_bits.proofs.WordLemmas.{length-words_of}
 use Rattle.sequence_grids.specs.declared.table.Class.{Class}
 use Rattle.sequence_grids.specs.declared.table.Triple.{Triple}
 use Rattle.sequence_grids.specs.Tables.{ClassSets, TripleSets, TableValue, class_sets, triple_sets, IsClassOf, Grows, IsLast, IsStepAt, AreSteps, AreBelow, IsTable, row, unknown}
@@ -159,11 +160,6 @@ pub AddsTo-same : {X : Type 0} (before after : List X) (x : X) → after ≡ bef
 AddsTo-same before after x same = ([], same ∙ sym (append-nil before), (λ y none. absurd (Contains-none y none)))
 
 -- ---- the words of a set
-
-pub length-words_of : (width set : ℕ) → length (words_of width set) ≡ width
-unfolding words_of
-length-words_of zero set = refl
-length-words_of (suc width) set = ap suc (length-words_of width (set / 2 ^ 64))
 
 bit-words_of : (width set q : ℕ) → q < 64 * width → bit_at (get_or (words_of width set) (q / 64) 0) (q % 64) ≡ bit_at set q
 unfolding words_of

@@ -1,12 +1,11 @@
 -- Stands of a prefix, cut into those of each sequence.
-use Rattle.std.proofs.Common.{◌≡◌, ℕ, ◌+◌, ◌≤◌, ◌<◌, inl, inr, Some, List, [], ◌∷◌, ◌++◌, length, get_or, refl, sym, subst, arith}
+use Rattle.std.proofs.Common.{◌≡◌, ℕ, ◌≤◌, ◌<◌, inl, inr, Some, List, [], ◌∷◌, ◌++◌, length, get_or, refl, sym, subst, arith}
 use Rattle.std.specs.List.{AllPairs, AllZip, Contains, slice_get, slice_index}
-use Rattle.std.proofs.lemmas.List.{length-append, get_or_append_left}
 use Rattle.std.proofs.lemmas.List.Elements.{Contains-append_left, Contains-append_right, Contains-append_cases}
 use Rattle.std.proofs.lemmas.Option.{slice_get-get_or}
 use Rattle.std.proofs.lemmas.Slice.Zip.{AllZip-long}
 use Rattle.mine_model.proofs.ElementLemmas.{get-some, get-held}
-use Rattle.mine_model.proofs.ListLemmas.{Contains-cases, Contains-first, Contains-other, Contains-none, AllPairs-head, AllPairs-tail}
+use Rattle.mine_model.proofs.ListLemmas.{Contains-cases, Contains-first, Contains-other, Contains-none, AllPairs-head, AllPairs-tail, pairs-front, pairs-back}
 use Rattle.mining_job.specs.Problems.{items_of}
 use Rattle.sequence_grids.specs.Grids.{GridList}
 use Rattle.place_walk.specs.declared.stand.Stand.{Stand}
@@ -18,18 +17,6 @@ use Rattle.snapshot_project.specs.Grouped.{IsGroupIn, AreGroupsIn, AreAllGrids}
 use Rattle.snapshot_project.proofs.StartLemmas.{sequence-at, sequence-once}
 
 -- ---- parts of lists
-
--- what holds of each element and each later one holds within a front
-pub pairs-front : {X : Type 0} (R : X → X → Type 0) (xs ys : List X) → AllPairs R (xs ++ ys) → AllPairs R xs
-pairs-front R xs ys pairs i j d less within =
-    let all : length (xs ++ ys) ≡ length xs + length ys = length-append xs ys in
-    subst (λ (x : _). R x (get_or xs j d)) (get_or_append_left xs ys d i (omega arith))
-    (subst (R (get_or (xs ++ ys) i d)) (get_or_append_left xs ys d j within) (pairs i j d less (omega arith)))
-
--- and within what is behind it
-pub pairs-back : {X : Type 0} (R : X → X → Type 0) (xs ys : List X) → AllPairs R (xs ++ ys) → AllPairs R ys
-pairs-back R [] ys pairs = pairs
-pairs-back R (x ∷ xs) ys pairs = pairs-back R xs ys (AllPairs-tail R x (xs ++ ys) pairs)
 
 -- what is in one of two lists has its like in the other
 pub zip-known : {A B : Type 0} (R : A → B → Type 0) (xs : List A) (ys : List B) → AllZip R xs ys → (x : A) → Contains xs x

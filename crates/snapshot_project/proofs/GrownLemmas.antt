@@ -1,7 +1,7 @@
 -- What is found from the stands of a prefix: what may follow it, and what is kept of each longer prefix.
-use Rattle.std.proofs.Common.{◌≡◌, ℕ, ◌+◌, ◌-◌, ◌≤◌, ◌<◌, inl, inr, Bool, Option, None, List, [], ◌∷◌, ◌++◌, length, map, drop, get_or, min, refl, sym, ap, ◌∙◌, subst, arith, length-take, length-drop}
+use Rattle.std.proofs.Common.{◌≡◌, ℕ, ◌+◌, ◌-◌, ◌≤◌, ◌<◌, inl, inr, Bool, Option, None, List, [], ◌∷◌, ◌++◌, length, map, drop, get_or, min, sym, ap, ◌∙◌, subst, arith, length-take, length-drop}
 use Rattle.std.specs.List.{All, Contains, slice_range}
-use Rattle.std.proofs.lemmas.List.{length-append}
+use Rattle.std.proofs.lemmas.List.{length-append, nil_from_length}
 use Rattle.std.proofs.lemmas.List.Elements.{Contains-get_or}
 use Rattle.mine_model.specs.Support.{Sequence}
 use Rattle.mine_model.specs.declared.item.Item.{Item}
@@ -48,10 +48,6 @@ range-within run from end some long =
 
 -- ---- where nothing stands
 
-none-of : (stands : List Stand) → length stands ≡ 0 → stands ≡ []
-none-of [] none = refl
-none-of (stand ∷ stands) none = absurd (omega arith)
-
 -- no stands are those of no snapshots
 stands-none : (part : GridList) (grids : List ℕ) (snapshots : List Snapshot) → AreStandsIn part grids snapshots [] → snapshots ≡ []
 stands-none part [] snapshots are = are.0
@@ -87,7 +83,7 @@ module _ (part : GridList) (is : IsPart part) (least : ℕ) (some : 1 ≤ least)
     pub empty-next : kept.next ≡ None → kept.bytes ≡ None → length kept.stands ≡ 0 → AreNextRanks part prefixes least []
     empty-next untold loose none = elim (by-stands untold loose) [
       | inl are ↦ light-next (none-light projected.snapshots projected.are
-          (stands-none part are.grids projected.snapshots.snapshots (subst (AreStandsIn part are.grids projected.snapshots.snapshots) (none-of kept.stands none) are.are)))
+          (stands-none part are.grids projected.snapshots.snapshots (subst (AreStandsIn part are.grids projected.snapshots.snapshots) (nil_from_length kept.stands none) are.are)))
       | inr light ↦ light-next light.1
     ]
 

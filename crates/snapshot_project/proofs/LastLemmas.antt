@@ -1,7 +1,6 @@
 -- Prefixes behind which nothing more follows.
-use Rattle.std.proofs.Common.{◌≡◌, ℕ, ◌-◌, ◌≤◌, ◌<◌, inr, Bool, Option, Some, None, Result, Ok, Err, List, [], ◌∷◌, ◌++◌, length, map, refl, sym, ◌∙◌, subst, arith}
+use Rattle.std.proofs.Common.{◌≡◌, ℕ, ◌-◌, ◌≤◌, ◌<◌, inr, Bool, Option, Some, None, List, [], ◌∷◌, ◌++◌, length, map, refl, sym, ◌∙◌, subst, arith}
 use Rattle.std.specs.List.{Contains, slice_get}
-use Rattle.std.specs.Result.{IfOk}
 use Rattle.std.proofs.lemmas.List.{length-map}
 use Rattle.std.proofs.lemmas.Option.{same_Some, slice_get_within}
 use Rattle.mine_model.specs.declared.item.Item.{Item}
@@ -26,11 +25,6 @@ use Rattle.snapshot_project.proofs.ExtensionLemmas.{ranked-allowed}
 use Rattle.snapshot_project.proofs.KidLemmas.{follow-ranked}
 use Rattle.snapshot_project.proofs.ListedLemmas.{snapshots-by}
 use Rattle.snapshot_project.proofs.SnapshotLemmas.{written-behind}
-
--- both hold of an answer
-pub both-ok : {T E : Type 0} (r : Result T E) (P Q : T → Type 0) → IfOk r P → IfOk r Q → IfOk r (λ t. P t × Q t)
-both-ok (Ok t) P Q one other = (one, other)
-both-ok (Err e) P Q one other = tt
 
 module _ (part : GridList) (is : IsPart part) (least : ℕ) (some : 1 ≤ least) where
   pub last-light : (ranks : List ℕ) → IsLast part ranks → IsLight part ranks least

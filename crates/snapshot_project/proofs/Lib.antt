@@ -37,3 +37,4 @@ pub mod FrontLemmas
 pub mod GrownAheadLemmas
 pub mod WalkedLemmas
 pub mod LookLemmas
+pub mod BoundLemmas

@@ -1,16 +1,16 @@
 -- What walks behind visits may ask, and what several walks count.
-use Rattle.std.proofs.Common.{◌≡◌, ◌↔◌, ℕ, ◌+◌, ◌<◌, ◌⊎◌, inl, inr, Bool, true, false, true≢false, not, ◌==◌, ◌&&◌, IsTrue, Option, Some, List, [], ◌∷◌, ◌++◌, length, map, replicate, refl, sym, ap, ◌∙◌, subst, arith, append_assoc, false-eqb}
+use Rattle.std.proofs.Common.{◌≡◌, ◌↔◌, ℕ, ◌<◌, ◌⊎◌, inl, inr, Bool, true, false, true≢false, not, ◌==◌, ◌&&◌, IsTrue, Option, Some, List, [], ◌∷◌, ◌++◌, length, map, replicate, refl, sym, ap, ◌∙◌, subst, arith, append_assoc, false-eqb}
 use Rattle.std.specs.List.{AllPairs, AllZip, Contains, filter, slice_get, slice_index}
-use Rattle.std.proofs.lemmas.Bool.{eqb-true, eq-eqb}
-use Rattle.level_ahead.proofs.NeedLemmas.{second-true}
+use Rattle.std.proofs.lemmas.Bool.{eqb-true, eq-eqb, and_parts}
 use Rattle.std.proofs.lemmas.List.{append-nil, length-map}
 use Rattle.std.proofs.lemmas.List.Elements.{Contains-append_cases}
 use Rattle.std.proofs.lemmas.Option.{same_Some, slice_get-get_or, slice_get_within, get_or_from_slice_get}
 use Rattle.mine_model.specs.declared.item.Item.{Item}
 use Rattle.mine_model.specs.Database.{sequence_at}
-use Rattle.mine_model.specs.Support.{Sequence, Counts}
+use Rattle.mine_model.specs.Support.{Sequence}
 use Rattle.mine_model.proofs.ElementLemmas.{get-some, get-held}
 use Rattle.mine_model.proofs.ListLemmas.{Contains-cases, Contains-first, Contains-other, Contains-none, Contains-by, Contains-from, Contains-filter}
+use Rattle.mine_model.proofs.SupportLemmas.{Counts-decided}
 use Rattle.mining_job.specs.Problems.{items_of}
 use Rattle.sequence_grids.specs.Grids.{GridList}
 use Rattle.sequence_grids.specs.Successors.{AreSuccessors}
@@ -76,17 +76,6 @@ among-or-not (first ∷ numbers) n = by (n == first) refl (among-or-not numbers 
       | inr there ↦ none there
     ])
 
--- what each sequence has or has not weighs something
-counts-known : {A : Type 0} (Has : List A → Type 0) (sequences : List (Sequence A)) → ((s : Sequence A) → Contains sequences s → Has s.items ⊎ (Has s.items → ⊥))
-    → (n : ℕ) × Counts Has sequences n
-counts-known Has [] known = (0, refl)
-counts-known {A} Has (first ∷ sequences) known =
-    let (rest, counts) = counts-known Has sequences (λ s held. known s (Contains-other first sequences s held)) in
-    elim (known first (Contains-first first sequences)) [
-      | inl has ↦ (first.weight + rest, inl (has, (rest, refl, counts)))
-      | inr lacks ↦ (rest, inr (lacks, counts))
-    ]
-
 module _ (part : GridList) (is : IsPart part) (width : ℕ) (rows : List ℕ) (rows_are : AreSuccessors width part.problem.machine rows)
     (places : List Record) (early late : List MoveSets) (ranks : Ranks) (CanAsk : ℕ → ℕ → Type 0) (records : AreRecords part places early late ranks CanAsk)
     (prefixes : List ℕ) (list : SnapshotList) (are : AreSnapshots part prefixes list)
@@ -127,7 +116,7 @@ module _ (part : GridList) (is : IsPart part) (width : ℕ) (rows : List ℕ) (r
   support-known : (rank : ℕ) → (n : ℕ) × IsSupportOf part (prefixes ++ rank ∷ []) n
   support-known rank =
       let number : ℕ → Sequence Item = λ i. sequence_at part.problem.sequences i in
-      counts-known (GeneratesWithin part (prefixes ++ rank ∷ [])) (sequences_of part) (λ s held.
+      Counts-decided (GeneratesWithin part (prefixes ++ rank ∷ [])) (sequences_of part) (λ s held.
       let (i, inside, same) = Contains-from number part.sequences s held in
       subst (λ (t : Sequence Item). GeneratesWithin part (prefixes ++ rank ∷ []) t.items ⊎ (GeneratesWithin part (prefixes ++ rank ∷ []) t.items → ⊥)) (sym same)
       (generates-or-not rank i inside))
@@ -284,7 +273,7 @@ asked-apart lack found behinds begun rank asks is =
     let (next, held, same) = Contains-from (λ (n : NextRank). n.rank) (filter (is_asked lack) found) rank (subst (λ (l : List ℕ). Contains l rank) ranks asks) in
     let (inside, asked) = Contains-filter (is_asked lack) found next held in
     let its : is_asked (Some rank) next ≡ true = subst (λ (o : Option ℕ). is_asked o next ≡ true) is asked in
-    true≢false (sym (second-true (has_places next) (not (next.rank == rank)) its) ∙ ap not (eq-eqb next.rank rank (sym same)))
+    true≢false (sym ((and_parts (has_places next) (not (next.rank == rank)) its).1) ∙ ap not (eq-eqb next.rank rank (sym same)))
 
 pub entry-asked : (behinds : List Behind) (behind : Behind) → Contains behinds behind → Contains (asked_of behinds) behind.rank
 entry-asked behinds behind held = Contains-by (λ (b : Behind). b.rank) behinds behind held

@@ -1,6 +1,6 @@
 -- Ranks that have places, among those that were found.
-use Rattle.std.proofs.Common.{◌≡◌, ℕ, zero, suc, ◌+◌, ◌≤◌, ◌<◌, inl, inr, Bool, true, false, Option, Some, List, [], ◌∷◌, ◌++◌, length, map, filter, take, get_or, cond, refl, sym, ap, ◌∙◌, subst, arith}
-use Rattle.std.specs.List.{AllZip, Contains, slice_get}
+use Rattle.std.proofs.Common.{◌≡◌, ℕ, zero, suc, ◌+◌, ◌≤◌, ◌<◌, inl, inr, Bool, true, false, Option, Some, List, [], ◌∷◌, length, map, filter, take, get_or, cond, refl, sym, ap, ◌∙◌, subst, arith}
+use Rattle.std.specs.List.{Contains, slice_get}
 use Rattle.std.proofs.lemmas.List.{length-map, take_more, take_all}
 use Rattle.std.proofs.lemmas.List.Elements.{Contains-push_cases}
 use Rattle.std.proofs.lemmas.List.Filters.{length-filter_more}
@@ -8,11 +8,6 @@ use Rattle.std.proofs.lemmas.Option.{same_Some, slice_get_within}
 use Rattle.mine_model.proofs.ElementLemmas.{get-some, slice_get-mapped_by}
 use Rattle.stand_sums.specs.declared.next_rank.NextRank.{NextRank}
 use Rattle.level_ahead.specs.Counts.{Behind, is_asked, asked_of}
-use Rattle.snapshot_project.proofs.GroupLemmas.{zip-both}
-
--- no rank
-abbrev pub blank : NextRank
-blank = record { rank = 0; weight = 0; support = 0; longer = 0; first = 0; last = 0 }
 
 -- a rank that is asked about is the next of those that are
 chosen-at : (lack : Option ℕ) (found : List NextRank) (k : ℕ) (next : NextRank) → slice_get found k ≡ Some next → is_asked lack next ≡ true
@@ -42,10 +37,6 @@ entry-of lack ahead found asked k next at some =
     let long : length (asked_of ahead) ≡ length ahead = length-map ahead (λ (b : Behind). b.rank) in
     let (behind, here) = get-some ahead e (omega arith) in
     (behind, here, same_Some behind.rank next.rank (sym (slice_get-mapped_by (λ (b : Behind). b.rank) ahead e behind here) ∙ told))
-
--- one more of both
-pub zip-push : {A B : Type 0} (R : A → B → Type 0) (xs : List A) (ys : List B) (x : A) (y : B) → AllZip R xs ys → R x y → AllZip R (xs ++ x ∷ []) (ys ++ y ∷ [])
-zip-push R xs ys x y zip one = zip-both R xs ys (x ∷ []) (y ∷ []) zip (one, tt)
 
 -- one more that has places, or has none
 pub count-yes : (lack : Option ℕ) (found : List NextRank) (k : ℕ) (d : NextRank) → k < length found → is_asked lack (get_or found k d) ≡ true

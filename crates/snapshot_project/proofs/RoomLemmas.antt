@@ -1,11 +1,11 @@
 -- Room for the stands of longer prefixes, which are filed in one walk or in several.
-use Rattle.std.proofs.Common.{◌≡◌, ℕ, ◌+◌, ◌≤◌, ◌<◌, inl, inr, Bool, true, false, nat_lt, nat_le, Some, List, [], ◌∷◌, ◌++◌, length, map, get_or, refl, sym, ap, ◌∙◌, subst, arith, append_assoc}
+use Rattle.std.proofs.Common.{◌≡◌, ℕ, ◌+◌, ◌≤◌, ◌<◌, inl, inr, Bool, true, false, nat_lt, nat_le, Some, List, [], ◌∷◌, ◌++◌, length, map, refl, sym, ap, ◌∙◌, subst, arith, append_assoc}
 use Rattle.std.specs.List.{All, Contains, filter, slice_get, slice_range}
 use Rattle.std.proofs.lemmas.Bool.{cases_lt, lt-ltb, le-ltb}
 use Rattle.std.proofs.lemmas.Grind.{flat_map-append}
-use Rattle.std.proofs.lemmas.List.{append-nil, length-append, length-map, get_or_default}
+use Rattle.std.proofs.lemmas.List.{append-nil, length-append}
 use Rattle.std.proofs.lemmas.List.Elements.{filter-append}
-use Rattle.mine_model.proofs.ListLemmas.{Contains-cases, Contains-none, Contains-by, Contains-from}
+use Rattle.mine_model.proofs.ListLemmas.{Contains-cases, Contains-none, Contains-by, Contains-from, all-from}
 use Rattle.place_walk.specs.declared.stand.Stand.{Stand}
 use Rattle.place_walk.specs.declared.visit.Visit.{Visit}
 use Rattle.stand_sums.specs.declared.aim.Aim.{Aim}
@@ -14,13 +14,11 @@ use Rattle.stand_sums.specs.Writings.{Ranks, opens}
 use Rattle.stand_sums.specs.Sequences.{AreSequences}
 use Rattle.stand_sums.specs.Sums.{Tally, stands_among, room_for, IsTold, AreLaidOut, AreNext}
 use Rattle.snapshot_project.specs.Longer.{HasPlaces}
-use Rattle.stand_sums.specs.Files.{stand_at, stands_at, stands_in, stands_of, Filed, unfiled, HasRoom, IsFull, with_more}
+use Rattle.stand_sums.specs.Files.{stands_in, stands_of, Filed, unfiled, HasRoom, IsFull, with_more}
+use Rattle.stand_sums.proofs.FileLemmas.{with_stands}
+use Rattle.stand_sums.proofs.WritingLemmas.{laid-forward, at-long}
 
 -- ---- how many stands there are
-
-at-long : (visits : List Visit) → length (stands_at visits) ≡ length visits
-at-long [] = refl
-at-long (visit ∷ visits) = let rest : length (map (stand_at false) visits) ≡ length visits = length-map visits (stand_at false) in omega arith
 
 -- as many as there are visits that write the rank and go on
 pub stands-long : (ranks : Ranks) (aim : Aim) (rank : ℕ) (visits : List Visit) (sequences : List (List Visit)) → AreSequences visits sequences
@@ -48,9 +46,6 @@ module _ (ranks : Ranks) (aim : Aim) where
   stands-append rank sequences others = flat_map-append (stands_in ranks aim rank) sequences others
 
   -- ---- sequences that are filed one behind another
-
-  abbrev with_stands : Filed → List Stand → Filed
-  with_stands filed stands = record { rank = filed.rank; first = filed.first; last = filed.last; stands = stands }
 
   more-kept : (sequences : List (List Visit)) (filed : Filed) → nat_lt filed.first filed.last ≡ true
       → with_more ranks aim sequences filed ≡ with_stands filed (filed.stands ++ stands_of ranks aim filed.rank sequences)
@@ -143,9 +138,6 @@ module _ (ranks : Ranks) (aim : Aim) where
       let (next, among, same) = Contains-from unfiled found bare there in
       (next, among, is ∙ ap (with_more ranks aim sequences) same)
 
-  all-from : {X : Type 0} (P : X → Type 0) (xs : List X) → ((x : X) → Contains xs x → P x) → All P xs
-  all-from P xs each k d below = each (get_or xs k d) (k, below, get_or_default xs k (get_or xs k d) d below)
-
   module _ (all : List (List Visit)) (found : List NextRank) (places : (next : NextRank) → Contains found next → HasPlaces ranks aim all next) where
     -- there is room for the next visits
     pub files-room : (done here rest : List (List Visit)) (visits : List Visit) → all ≡ done ++ here ++ rest → AreSequences visits here
@@ -173,10 +165,6 @@ module _ (ranks : Ranks) (aim : Aim) where
       subst (λ (f : Filed). slice_range run f.first f.last ≡ f.stands) (more-kept all (unfiled next) (lt-ltb next.first next.last kept)) fact
 
 -- ---- ranks without places
-
-laid-forward : (from : ℕ) (found : List NextRank) (end : ℕ) → AreLaidOut from found end → from ≤ end
-laid-forward from [] end same = omega arith
-laid-forward from (next ∷ found) end (first, forward, others) = let rest = laid-forward next.last found end others in omega arith
 
 pub laid-within : (from : ℕ) (found : List NextRank) (end : ℕ) → AreLaidOut from found end → (next : NextRank) → Contains found next
     → (from ≤ next.first) × (next.first ≤ next.last) × (next.last ≤ end)

@@ -5,7 +5,7 @@ use Rattle.std.proofs.lemmas.List.Elements.{Contains-get_or, Contains-append_lef
 use Rattle.std.proofs.lemmas.List.Kept.{AllPairs-cons}
 use Rattle.std.proofs.lemmas.Option.{get_or_from_slice_get, slice_get_within, same_Some}
 use Rattle.mine_model.specs.declared.item.Item.{Item}
-use Rattle.mine_model.proofs.ListLemmas.{Contains-cases, Contains-first, Contains-other, Contains-none, AllPairs-tail, AllPairs-head, AllPairs-append}
+use Rattle.mine_model.proofs.ListLemmas.{Contains-cases, Contains-first, Contains-other, Contains-none, AllPairs-tail, AllPairs-head, AllPairs-append, pairs-front, pairs-back}
 use Rattle.mining_job.specs.Problems.{items_of}
 use Rattle.sequence_grids.specs.Grids.{GridList, items_at}
 use Rattle.sequence_grids.specs.Successors.{AreSuccessors}
@@ -18,7 +18,6 @@ use Rattle.snapshot_project.specs.Snapshots.{IsSnapshotOf, ComesBefore, Snapshot
 use Rattle.snapshot_project.specs.Stands.{IsStandOf, AreStandsIn, AreStandsOf}
 use Rattle.snapshot_project.proofs.SnapshotLemmas.{snapshot-state}
 use Rattle.snapshot_project.proofs.StartLemmas.{start-rises, start-whole}
-use Rattle.snapshot_project.proofs.GroupLemmas.{pairs-front, pairs-back}
 
 -- what is in the second of two lists has its like in the first
 pub zip-back : {A B : Type 0} (R : A → B → Type 0) (xs : List A) (ys : List B) → AllZip R xs ys → (y : B) → Contains ys y → (x : A) × Contains xs x × R x y

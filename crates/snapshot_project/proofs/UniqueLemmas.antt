@@ -3,7 +3,7 @@ use Rattle.std.proofs.Common.{◌≡◌, ℕ, suc, inl, inr, Bool, true, false, 
 use Rattle.std.specs.List.{AllPairs, AllZip, Contains, slice_get}
 use Rattle.std.proofs.lemmas.List.{get_or_default}
 use Rattle.std.proofs.lemmas.List.Kept.{AllPairs-cons}
-use Rattle.mine_model.proofs.ListLemmas.{Contains-cases, Contains-first, Contains-other, Contains-none, Contains-by, Contains-from, AllPairs-tail, AllPairs-head}
+use Rattle.mine_model.proofs.ListLemmas.{Contains-first, Contains-other, Contains-by, Contains-from, AllPairs-tail, AllPairs-head, order-same}
 use Rattle.walk_memo.specs.declared.action.Action.{Action}
 use Rattle.place_walk.specs.declared.stand.Stand.{Stand}
 use Rattle.place_walk.specs.declared.visit.Visit.{Visit}
@@ -23,37 +23,6 @@ pairs-map R S f (x ∷ xs) follows pairs =
     let (z, there, is) = Contains-from f xs (get_or (map f xs) k d) (k, below, get_or_default (map f xs) k (get_or (map f xs) k d) d below) in
     subst (S (f x)) (sym is) (follows x z (Contains-first x xs) (Contains-other x xs z there) (AllPairs-head R x xs pairs z there)))
     (pairs-map R S f xs (λ a b here there. follows a b (Contains-other x xs a here) (Contains-other x xs b there)) (AllPairs-tail R x xs pairs))
-
--- lists that rise in one order and have the same members are one
-module _ {X : Type 0} (R : X → X → Type 0) (one_way : (x y : X) → R x y → R y x → ⊥) where
-  heads-same : (x y : X) (xs ys : List X) → AllPairs R (x ∷ xs) → AllPairs R (y ∷ ys) → Contains (y ∷ ys) x → Contains (x ∷ xs) y → x ≡ y
-  heads-same x y xs ys left right there back = elim (Contains-cases y ys x there) [
-    | inl same ↦ same
-    | inr behind ↦ elim (Contains-cases x xs y back) [
-      | inl same ↦ sym same
-      | inr later ↦ absurd (one_way x y (AllPairs-head R x xs left y later) (AllPairs-head R y ys right x behind))
-    ]
-  ]
-
-  tails-within : (x y : X) (xs ys : List X) → x ≡ y → AllPairs R (x ∷ xs) → ((z : X) → Contains (x ∷ xs) z → Contains (y ∷ ys) z)
-      → (z : X) → Contains xs z → Contains ys z
-  tails-within x y xs ys same rising there z held = elim (Contains-cases y ys z (there z (Contains-other x xs z held))) [
-    | inl first ↦
-        let less : R x z = AllPairs-head R x xs rising z held in
-        let self : R x x = subst (R x) (first ∙ sym same) less in
-        absurd (one_way x x self self)
-    | inr later ↦ later
-  ]
-
-  pub order-same : (xs ys : List X) → AllPairs R xs → AllPairs R ys → ((z : X) → Contains xs z → Contains ys z) → ((z : X) → Contains ys z → Contains xs z) → xs ≡ ys
-  order-same [] [] left right there back = refl
-  order-same [] (y ∷ ys) left right there back = absurd (Contains-none y (back y (Contains-first y ys)))
-  order-same (x ∷ xs) [] left right there back = absurd (Contains-none x (there x (Contains-first x xs)))
-  order-same (x ∷ xs) (y ∷ ys) left right there back =
-      let first : x ≡ y = heads-same x y xs ys left right (there x (Contains-first x xs)) (back y (Contains-first y ys)) in
-      let rest : xs ≡ ys = order-same xs ys (AllPairs-tail R x xs left) (AllPairs-tail R y ys right)
-      (tails-within x y xs ys first left there) (tails-within y x ys xs (sym first) right back) in
-      λ i. first i ∷ rest i
 
 -- ---- visits without marks
 

@@ -1,6 +1,6 @@
 -- The visits of a walk through one sequence, as what may be written next.
 use Rattle.std.proofs.Common.{◌≡◌, ◌↔◌, ℕ, ◌+◌, ◌-◌, ◌≤◌, ◌<◌, ◌⊎◌, inl, inr, Bool, true, false, if◌then◌else◌, ◌||◌, ◌&&◌, ◌==◌, IsTrue, Option, Some, None, List, [], ◌∷◌, length, drop, refl, sym, ap, ◌∙◌, subst, arith, true≢false}
-use Rattle.std.specs.List.{Contains, list_any, slice_get, slice_index_or}
+use Rattle.std.specs.List.{Contains, slice_get, slice_index_or}
 use Rattle.std.specs.Int.{bit_at}
 use Rattle.std.proofs.lemmas.Bool.{or_cases, or_left, or_right, and_parts, and_from}
 use Rattle.std.proofs.lemmas.Bool.Decides.{Decides-eqb}
@@ -8,7 +8,8 @@ use Rattle.std.proofs.lemmas.List.Elements.{Contains-get_or}
 use Rattle.std.proofs.lemmas.Option.{slice_get_within, same_Some}
 use Rattle.state_bits.specs.Members.{Has}
 use Rattle.mine_model.specs.declared.item.Item.{Item}
-use Rattle.mine_model.proofs.ListLemmas.{Contains-first, Contains-other}
+use Rattle.mine_model.proofs.ListLemmas.{Contains-first}
+use Rattle.mine_model.proofs.ElementLemmas.{among-held}
 use Rattle.fst_compile.specs.Transducer.{Leads}
 use Rattle.mining_job.specs.declared.bound.Bound.{Bound}
 use Rattle.mining_job.specs.Problems.{Problem}
@@ -27,14 +28,6 @@ use Rattle.snapshot_project.proofs.ListedLemmas.{goes-unseen}
 use Rattle.mask_sums.proofs.SetLemmas.{among-to}
 
 -- ---- tests
-
--- a rank is among these
-pub among-held : (rank : ℕ) (ranks : List ℕ) → list_any (λ other. other == rank) ranks ≡ true → Contains ranks rank
-among-held rank [] any = absurd (cc)
-among-held rank (first ∷ ranks) any = elim (or_cases (first == rank) (list_any (λ other. other == rank) ranks) any) [
-  | inl same ↦ subst (Contains (first ∷ ranks)) ((Decides-eqb first rank).0 same) (Contains-first first ranks)
-  | inr there ↦ Contains-other first ranks rank (among-held rank ranks there)
-]
 
 -- whether a state is in a set is decided
 pub has-decided : (set state : ℕ) → (b : Bool) × (IsTrue b ↔ Has set state)

@@ -1,5 +1,5 @@
 -- The form of a line that says a row.
-use Rattle.std.proofs.Common.{◌≡◌, ◌≢◌, ℕ, zero, suc, ◌+◌, ◌≤◌, ◌<◌, get_or, Bool, true, false, cond, List, [], ◌∷◌, ◌++◌, map, length, take, drop, ◌↔◌, nat_eq, refl, sym, ap, ◌∙◌, subst, true≢false, All, arith}
+use Rattle.std.proofs.Common.{◌≡◌, ◌≢◌, ℕ, zero, suc, ◌+◌, ◌≤◌, ◌<◌, get_or, true, false, List, [], ◌∷◌, ◌++◌, map, length, take, drop, ◌↔◌, nat_eq, refl, sym, ap, ◌∙◌, subst, true≢false, All, arith}
 use Rattle.std.specs.Cmp.Lexicographic.{pointwise}
 use Rattle.std.proofs.Math.Seq.{take-append_seam, drop-append_seam}
 use Rattle.std.proofs.lemmas.List.{append_assoc, take-append-drop, length-map}
@@ -10,17 +10,20 @@ use Rattle.mine_model.specs.Answer.{NamedRow}
 use Rattle.mine_model.specs.Bytes.{tab, space}
 use Rattle.mine_model.specs.Grammar.{IsDecimal}
 use Rattle.mine_model.specs.Limits.{most_support}
-use Rattle.mine_model.specs.Text.{is_name_byte, pieces_by_blank, onto_first, Field, fields_from, fields_of}
+use Rattle.mine_model.specs.Text.{is_name_byte, Field, fields_from, fields_of}
 use Rattle.mine_model.specs.Tokens.{Each}
 use Rattle.mine_model.proofs.ListLemmas.{AllByRecursion-weaker}
+use Rattle.mine_model.specs.Names.{IsFileName}
+use Rattle.mine_model.proofs.FieldLemmas.{fields-named}
 use Rattle.text_ports.specs.declared.lines.Span.{Span}
 use Rattle.text_ports.specs.Lines.{AreFields, IsWithin}
+use Rattle.text_ports.proofs.DecimalLemmas.{digit-name}
 use Rattle.item_names.specs.Fields.{texts_at}
 use Rattle.item_names.proofs.FieldLemmas.{fields_are_texts, texts_at-more}
-use Rattle.split_merge.specs.Merging.{IsNameText, IsRowLine}
+use Rattle.split_merge.specs.Merging.{IsRowLine}
 use Rattle.split_merge.specs.Taking.{IsSaidBy}
 use Rattle.split_merge.proofs.JoinLemmas.{join-push}
-use Rattle.split_merge.proofs.SoundLemmas.{digit-name, blank-cut, join-pieces, fields-texts}
+use Rattle.split_merge.proofs.SoundLemmas.{blank-cut, join-pieces, fields-texts}
 
 -- the fields of a line that says a row are its digits and its names
 pub row-fields : (least : ℕ) (line : List ℕ) (row : NamedRow) (is : IsRowLine least line row) → fields_of line ≡ is.digits ∷ row.pattern
@@ -29,29 +32,7 @@ row-fields least line row is =
     ap fields_of is.spelled
     ∙ ap (λ l. map (λ (f : Field). f.text) (fields_from 1 l)) (blank-cut is.digits (join_with_byte space row.pattern) tab refl digits
     ∙ ap (λ l. is.digits ∷ l) (join-pieces row.pattern is.some is.names))
-    ∙ fields-texts 1 (is.digits ∷ row.pattern) (is.number.1, AllByRecursion-weaker IsNameText (λ p. p ≢ []) (λ n t. t.0) row.pattern is.names)
-
-onto-named : (b : ℕ) (pieces : List (List ℕ)) → is_name_byte b ≡ true → AllByRecursion (Each is_name_byte true) pieces → AllByRecursion (Each is_name_byte true) (onto_first b pieces)
-onto-named b [] is all = ((is, tt), tt)
-onto-named b (piece ∷ pieces) is all = ((is, all.0), all.1)
-
-pub pieces-named : (line : List ℕ) → AllByRecursion (Each is_name_byte true) (pieces_by_blank line)
-pieces-named [] = (tt, tt)
-pieces-named (b ∷ line) = by (is_name_byte b) refl (pieces-named line)
-  where
-    by : (t : Bool) → is_name_byte b ≡ t → AllByRecursion (Each is_name_byte true) (pieces_by_blank line)
-        → AllByRecursion (Each is_name_byte true) (cond t (onto_first b (pieces_by_blank line)) ([] ∷ pieces_by_blank line))
-    by true is rest = onto-named b (pieces_by_blank line) is rest
-    by false is rest = (tt, rest)
-
-pub texts-named : (column : ℕ) (pieces : List (List ℕ)) → AllByRecursion (Each is_name_byte true) pieces → AllByRecursion IsNameText (map (λ (f : Field). f.text) (fields_from column pieces))
-texts-named column [] all = tt
-texts-named column ([] ∷ pieces) all = texts-named (column + 1) pieces all.1
-texts-named column ((b ∷ bytes) ∷ pieces) all = (((λ none. cc), all.0), texts-named (column + length (b ∷ bytes) + 1) pieces all.1)
-
--- each field of a line is a name
-fields-named : (line : List ℕ) → AllByRecursion IsNameText (fields_of line)
-fields-named line = texts-named 1 (pieces_by_blank line) (pieces-named line)
+    ∙ fields-texts 1 (is.digits ∷ row.pattern) (is.number.1, AllByRecursion-weaker IsFileName (λ p. p ≢ []) (λ n t. t.0) row.pattern is.names)
 
 module _ (least : ℕ) (line : List ℕ) (spans : List Span) (are : AreFields line spans) where
   -- a line that says a row has its digits and its names at the spans
@@ -101,7 +82,7 @@ module _ (least : ℕ) (line : List ℕ) (spans : List Span) (are : AreFields li
         least = at_least;
         most = at_most;
         some = λ none. some (no-texts others none);
-        names = (subst (AllByRecursion IsNameText) (fields_are_texts line spans are ∙ ap (texts_at line) cut) (fields-named line)).1;
+        names = (subst (AllByRecursion IsFileName) (fields_are_texts line spans are ∙ ap (texts_at line) cut) (fields-named line)).1;
       };
       within = within;
       joined_is = joins;

@@ -11,7 +11,7 @@ use Rattle.mine_model.specs.Answer.{NamedRow, ComesBefore}
 use Rattle.mine_model.specs.Bytes.{space}
 use Rattle.mine_model.specs.Text.{is_name_byte}
 use Rattle.mine_model.specs.Tokens.{Each}
-use Rattle.split_merge.specs.Merging.{IsNameText}
+use Rattle.mine_model.specs.Names.{IsFileName}
 use Rattle.split_merge.specs.Taking.{joined_of, IsBehind}
 
 -- what may stand behind a name: nothing, or a space and more
@@ -61,7 +61,7 @@ unfolding tail
 tail-behind [] = inl refl
 tail-behind (name ∷ names) = inr (join_with_byte space (name ∷ names), refl)
 
-tails-cmp : (names others : List (List ℕ)) → AllByRecursion IsNameText names → AllByRecursion IsNameText others
+tails-cmp : (names others : List (List ℕ)) → AllByRecursion IsFileName names → AllByRecursion IsFileName others
     → slice_cmp nat_cmp (tail names) (tail others) ≡ slice_cmp (slice_cmp nat_cmp) names others
 unfolding tail
 tails-cmp [] [] p q = refl
@@ -80,7 +80,7 @@ some-greater : (name rest : List ℕ) → name ≢ [] → slice_cmp nat_cmp (nam
 some-greater [] rest some = absurd (some refl)
 some-greater (b ∷ name) rest some = refl
 
-pub join-cmp : (names others : List (List ℕ)) → AllByRecursion IsNameText names → AllByRecursion IsNameText others
+pub join-cmp : (names others : List (List ℕ)) → AllByRecursion IsFileName names → AllByRecursion IsFileName others
     → slice_cmp nat_cmp (join_with_byte space names) (join_with_byte space others) ≡ slice_cmp (slice_cmp nat_cmp) names others
 unfolding tail
 join-cmp [] [] p q = refl
@@ -89,12 +89,12 @@ join-cmp (name ∷ names) [] p q = ap (λ t. slice_cmp nat_cmp t []) (join-tail 
 join-cmp (name ∷ names) (other ∷ others) p q = tails-cmp (name ∷ names) (other ∷ others) p q
 
 -- a row is behind the last one where it comes after it
-pub behind-after : (last row : NamedRow) → AllByRecursion IsNameText last.pattern → AllByRecursion IsNameText row.pattern
+pub behind-after : (last row : NamedRow) → AllByRecursion IsFileName last.pattern → AllByRecursion IsFileName row.pattern
     → IsBehind (Some last.support) (joined_of last) row.support (joined_of row) → ComesBefore last row
 behind-after last row p q (inl less) = inl less
 behind-after last row p q (inr both) = inr (both.0, sym (join-cmp last.pattern row.pattern p q) ∙ both.1)
 
-pub after-behind : (last row : NamedRow) → AllByRecursion IsNameText last.pattern → AllByRecursion IsNameText row.pattern
+pub after-behind : (last row : NamedRow) → AllByRecursion IsFileName last.pattern → AllByRecursion IsFileName row.pattern
     → ComesBefore last row → IsBehind (Some last.support) (joined_of last) row.support (joined_of row)
 after-behind last row p q (inl less) = inl less
 after-behind last row p q (inr both) = inr (both.0, join-cmp last.pattern row.pattern p q ∙ both.1)

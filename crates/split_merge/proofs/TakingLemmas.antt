@@ -9,7 +9,7 @@ use Rattle.mine_model.specs.declared.row.Row.{Row}
 use Rattle.mine_model.specs.Answer.{NamedRow, ComesBefore}
 use Rattle.mine_model.specs.First.{FirstAmong}
 use Rattle.mine_model.specs.Limits.{most_file_bytes, most_items}
-use Rattle.mine_model.specs.Names.{name_of, HasName, named_row, AreDistinct, GrowBy}
+use Rattle.mine_model.specs.Names.{name_of, HasName, named_row, AreDistinct, GrowBy, IsFileName}
 use Rattle.mine_model.specs.Numbered.{PatternsDiffer}
 use Rattle.mine_model.specs.Refusal.{HasMoreNames, sequence_of, sequences_of_lines, items_of}
 use Rattle.mine_model.specs.Support.{Sequence}
@@ -24,7 +24,7 @@ use Rattle.text_ports.specs.Lines.{WasGiven, TookAll, StoppedAt, Refused}
 use Rattle.split_merge.specs.declared.faults.MergeFault.{MergeFault}
 use Rattle.split_merge.specs.declared.faults.MergeFault.TheVariants.{ReadFault, TooLarge, BadByte, NameTooLong, BadRow, TooManyItems, NoMemory}
 use Rattle.split_merge.specs.declared.reading.Merging.{Merging}
-use Rattle.split_merge.specs.Merging.{IsNameText, IsRowLine, IsSaid, IsRightLine, IsBadRow, names_of_lines, IsMergedLineRefusal, IsMergedFileRefusal}
+use Rattle.split_merge.specs.Merging.{IsRowLine, IsSaid, IsRightLine, IsBadRow, names_of_lines, IsMergedLineRefusal, IsMergedFileRefusal}
 use Rattle.split_merge.specs.Rows.{HasPattern, AreSaid, AreRowsOfLines}
 use Rattle.split_merge.specs.Taking.{joined_of, IsBehind, ComesNext, TookLine, IsWrong, IsLineFault, RefusedLine, IsLastRow, IsTaken}
 use Rattle.split_merge.proofs.LineLemmas.{one-row}
@@ -99,7 +99,7 @@ module _ (threshold : ℕ) where
     ]
   ]
 
-  said-names : (lines : List (List ℕ)) (row : NamedRow) → IsSaid threshold lines row → AllByRecursion IsNameText row.pattern
+  said-names : (lines : List (List ℕ)) (row : NamedRow) → IsSaid threshold lines row → AllByRecursion IsFileName row.pattern
   said-names lines row (line, held, is) = is.names
 
   -- the names of one line more
@@ -111,7 +111,7 @@ module _ (threshold : ℕ) where
 
   module _ (earlier : List (List ℕ)) where
     -- the rows that come next are behind all of the file
-    next-later : (lines : List (List ℕ)) (v : Merging) (row : NamedRow) → IsTaken threshold earlier lines v → AllByRecursion IsNameText row.pattern → ComesNext v row
+    next-later : (lines : List (List ℕ)) (v : Merging) (row : NamedRow) → IsTaken threshold earlier lines v → AllByRecursion IsFileName row.pattern → ComesNext v row
         → (other : NamedRow) → IsSaid threshold lines other → ComesBefore other row
     next-later lines v row taken named next other said = elim taken.last [
       | inl none ↦ (let (line, held, is) = said in absurd (Contains-none line (subst (λ l. Contains l line) none.0 held)))
@@ -127,7 +127,7 @@ module _ (threshold : ℕ) where
     ]
 
     -- and a row behind all of the file comes next
-    later-next : (lines : List (List ℕ)) (v : Merging) (row : NamedRow) → IsTaken threshold earlier lines v → AllByRecursion IsNameText row.pattern
+    later-next : (lines : List (List ℕ)) (v : Merging) (row : NamedRow) → IsTaken threshold earlier lines v → AllByRecursion IsFileName row.pattern
         → ((other : NamedRow) → IsSaid threshold lines other → ComesBefore other row) → ComesNext v row
     later-next lines v row taken named later = elim taken.last [
       | inl none ↦ subst (λ s. IsBehind s v.last.names.items row.support (joined_of row)) (sym none.1) tt

@@ -29,12 +29,6 @@ drop-range xs from end forward =
     sym (take-append-drop (end - from) (drop from xs))
     ∙ ap (λ (l : List _). slice_range xs from end ++ l) (drop-drop (end - from) from xs ∙ ap (λ (n : ℕ). drop n xs) (let same : from + (end - from) ≡ end = omega arith in same))
 
-pub drop-past : {X : Type 0} (from : ℕ) (xs : List X) → length xs ≤ from → drop from xs ≡ []
-drop-past zero [] past = refl
-drop-past zero (x ∷ xs) past = absurd (omega arith)
-drop-past (suc from) [] past = refl
-drop-past (suc from) (x ∷ xs) past = drop-past from xs (omega arith)
-
 -- ---- the end of a sequence
 
 -- sequences that have no visits

@@ -2,10 +2,10 @@
 use Rattle.std.proofs.Common.{◌≡◌, ◌≢◌, ℕ, zero, suc, ◌+◌, ◌-◌, ◌≤◌, ◌<◌, inl, inr, Bool, true, false, cond, not, Result, Ok, Err, OnOk, OnErr, ◌&&◌, ◌==◌, Some, List, [], ◌∷◌, ◌++◌, length, get_or, set, take, drop, map, fold, refl, sym, ap, ◌∙◌, subst, arith, length-set, length-take, length-drop, length-append, append_assoc}
 use Rattle.std.specs.List.{All, AllPairs, filter, slice_get, slice_index, slice_range}
 use Rattle.std.proofs.lemmas.Bool.{cases_lt, cases_eq, eq-eqb, ne_eqb, lt-ltb, le-ltb, and_from, and_right, or_right, true≢false}
-use Rattle.std.proofs.lemmas.List.{take_more, take_more_set, take-set-le, drop-set-lt, drop-set-add, append-nil, map-append, map-id, length-map, drop_more, take-append-drop, length-take-le, get_or_at, set_at, get_or-set_same, get_or-set_other, get_or-take}
+use Rattle.std.proofs.lemmas.List.{take_more, take_more_set, take-set-le, drop-set-lt, drop-set-add, append-nil, map-append, map-id, length-map, drop_more, take-append-drop, length-take-le, get_or_at, set_at, get_or-set_same, get_or-set_other, get_or-take, drop_all}
 use Rattle.std.proofs.lemmas.List.Elements.{filter-append}
 use Rattle.std.proofs.lemmas.Option.{same_Some, slice_get_within, slice_get-get_or, get_or_from_slice_get}
-use Rattle.mine_model.proofs.ElementLemmas.{get-some, get_set_same, get_set_other, get_snoc, slice_get-mapped_by}
+use Rattle.mine_model.proofs.ElementLemmas.{get-some, get_set_same, get_set_other, get_snoc, slice_get-mapped_by, get-from}
 use Rattle.place_walk.specs.declared.visit.Visit.{Visit}
 use Rattle.place_walk.specs.declared.stand.Stand.{Stand}
 use Rattle.stand_sums.specs.declared.aim.Aim.{Aim}
@@ -17,7 +17,7 @@ use Rattle.stand_sums.specs.declared.next_rank.NextRank.{NextRank}
 use Rattle.stand_sums.specs.Sums.{stands_among, AreLaidOut}
 use Rattle.stand_sums.specs.Files.{Filed, IsFull, unfiled, HasRoom, stand_at, stands_in, stands_of, with_more}
 use Rattle.stand_sums.specs.Kept.{empty_shelf, filed_in, filing_in, filings_in, Filing, with_stand, is_kept, filed_for, filed_behind, filed_behind_all, older, HasRoomFor, is_among, AreShelved, ArePlaced, AreFiles, IsSequenceEnd}
-use Rattle.stand_sums.proofs.CutLemmas.{AreNone, next-cut, all-none, drop-past}
+use Rattle.stand_sums.proofs.CutLemmas.{AreNone, next-cut, all-none}
 use Rattle.stand_sums.proofs.SumLemmas.{not-before, among-more, or_false}
 use Rattle.stand_sums.proofs.PartLemmas.{fold-last-one}
 
@@ -437,7 +437,7 @@ stands-none ranks aim rank [] none = refl
 stands-none ranks aim rank (here ∷ sequences) (none, others) =
     ap (λ (l : List Visit). stands_in ranks aim rank l ++ stands_of ranks aim rank sequences) none ∙ stands-none ranks aim rank sequences others
 
-abbrev with_stands : Filed → List Stand → Filed
+abbrev pub with_stands : Filed → List Stand → Filed
 with_stands filed stands = record { rank = filed.rank; first = filed.first; last = filed.last; stands = stands }
 
 more-more : (ranks : Ranks) (aim : Aim) (xs ys : List (List Visit)) (filed : Filed) → with_more ranks aim ys (with_more ranks aim xs filed) ≡ with_more ranks aim (xs ++ ys) filed
@@ -503,7 +503,7 @@ module _ (ranks : Ranks) (aim : Aim) (visits : List Visit) (sequences : List (Li
 
   pub filed-all : (from : ℕ) (now : List Filed) → AreFiledTo ranks aim visits from sequences before now → length visits ≤ from → now ≡ map (with_more ranks aim sequences) before
   filed-all from now to past =
-      let none = all-none (drop from visits) to.left (drop-past from visits past) to.left_are in
+      let none = all-none (drop from visits) to.left (drop_all from visits past) to.left_are in
       to.filed ∙ map-same (with_more ranks aim to.done) (with_more ranks aim sequences) before
       (λ filed. sym (more-none ranks aim to.left (with_more ranks aim to.done filed) none) ∙ more-more ranks aim to.done to.left filed ∙ ap (λ (l : List (List Visit)). with_more ranks aim l filed) (sym to.cut))
 
@@ -584,15 +584,10 @@ filed-filings run shelves = map-twice (λ (f : Filing). f.filed) (filing_in run)
 
 -- ---- room, by what is filed
 
-get-mapped : {X Y : Type 0} (f : X → Y) (xs : List X) (k : ℕ) (y : Y) → slice_get (map f xs) k ≡ Some y → (x : X) × (slice_get xs k ≡ Some x) × (y ≡ f x)
-get-mapped f [] k y at = absurd (cc)
-get-mapped f (x ∷ xs) zero y at = (x, refl, same_Some y (f x) (sym at))
-get-mapped f (x ∷ xs) (suc k) y at = get-mapped f xs k y at
-
 module _ (ranks : Ranks) (aim : Aim) (visits : List Visit) (run : List Stand) (shelves : List Shelf) where
   pub room-have : All (HasRoom ranks aim visits) (map (filed_in run) shelves) → HaveRoom ranks aim visits (filings_in run shelves)
   room-have all j filing there =
-      let (shelf, at, is) = get-mapped (filing_in run) shelves j filing there in
+      let (shelf, at, is) = get-from (filing_in run) shelves j filing there in
       let inside : j < length (map (filed_in run) shelves) = omega (arith, slice_get_within shelves j shelf at, length-map shelves (filed_in run)) in
       let read : get_or (map (filed_in run) shelves) j (filed_in run shelf) ≡ filed_in run shelf =
       get_or_from_slice_get (map (filed_in run) shelves) j (filed_in run shelf) (filed_in run shelf) (slice_get-mapped_by (filed_in run) shelves j shelf at) in
@@ -706,13 +701,13 @@ module _ (ranks : Ranks) (aim : Aim) (end : ℕ) (here : List Visit) where
       → (j : ℕ) (filing : Filing) → slice_get now j ≡ Some filing → filing.end ≤ end
   ends-filed old now is most j filing at =
       let at' : slice_get (map (filed_behind_all ranks aim end here) old) j ≡ Some filing = subst (λ (l : List Filing). slice_get l j ≡ Some filing) is at in
-      let (before, there, same) = get-mapped (filed_behind_all ranks aim end here) old j filing at' in
+      let (before, there, same) = get-from (filed_behind_all ranks aim end here) old j filing at' in
       subst (λ (f : Filing). f.end ≤ end) (sym same) (end-most ranks aim end here before (most j before there))
 
 module _ (nexts : List NextRank) (rising : AllPairs (λ low high. low.rank < high.rank) nexts) (k : ℕ) (d : NextRank) (inside : k < length nexts) where
   pub ranks-apart : (j : ℕ) (one : Shelf) → slice_get (map empty_shelf (take k nexts)) j ≡ Some one → one.rank ≢ (get_or nexts k d).rank
   ranks-apart j one at same =
-      let (next, there, is) = get-mapped empty_shelf (take k nexts) j one at in
+      let (next, there, is) = get-from empty_shelf (take k nexts) j one at in
       let short : j < k = omega (arith, slice_get_within (take k nexts) j next there, length-take k nexts) in
       let read : get_or nexts j d ≡ next = sym (get_or-take k nexts j d short) ∙ get_or_from_slice_get (take k nexts) j next d there in
       let less : (get_or nexts j d).rank < (get_or nexts k d).rank = rising j k d short inside in

@@ -1,12 +1,12 @@
 -- The stands of a longer prefix, as those of one sequence behind another.
-use Rattle.std.proofs.Common.{◌≡◌, ◌↔◌, ℕ, zero, suc, ◌≤◌, inl, inr, Bool, true, false, true≢false, cond, IsTrue, Some, List, [], ◌∷◌, ◌++◌, map, refl, sym, ap, ◌∙◌, subst, arith}
+use Rattle.std.proofs.Common.{◌≡◌, ℕ, zero, suc, ◌≤◌, inl, inr, Bool, true, false, true≢false, cond, Some, List, [], ◌∷◌, ◌++◌, map, refl, sym, ap, ◌∙◌, subst, arith}
 use Rattle.std.specs.List.{AllPairs, Contains, filter, slice_get}
 use Rattle.std.proofs.lemmas.List.Elements.{Contains-append_cases, Contains-append_left, Contains-append_right}
 use Rattle.std.proofs.lemmas.Option.{same_Some}
 use Rattle.mine_model.proofs.ListLemmas.{Contains-cases, Contains-first, Contains-other, Contains-none, Contains-filter, AllPairs-head, AllPairs-tail, AllPairs-append}
 use Rattle.place_walk.specs.declared.visit.Visit.{Visit}
 use Rattle.place_walk.specs.declared.stand.Stand.{Stand}
-use Rattle.place_walk.specs.Groups.{AreGroups}
+use Rattle.place_walk.specs.Groups.{AreGroups, IsMarked}
 use Rattle.stand_sums.specs.declared.aim.Aim.{Aim}
 use Rattle.stand_sums.specs.Writings.{Ranks, opens}
 use Rattle.stand_sums.specs.Sequences.{AreSequences}
@@ -14,15 +14,12 @@ use Rattle.stand_sums.specs.Files.{stand_at, stands_at, stands_in, stands_of}
 
 -- ---- groups
 
-abbrev IsMarked : List Stand → Type 0
-IsMarked stands = (k : ℕ) (stand : Stand) → slice_get stands k ≡ Some stand → IsTrue stand.first ↔ (k ≡ 0)
-
 pub plain-at : (visits : List Visit) (k : ℕ) (stand : Stand) → slice_get (map (stand_at false) visits) k ≡ Some stand → stand.first ≡ false
 plain-at [] k stand at = absurd (cc)
 plain-at (visit ∷ visits) zero stand at = ap (λ (s : Stand). s.first) (sym (same_Some (stand_at false visit) stand at))
 plain-at (visit ∷ visits) (suc k) stand at = plain-at visits k stand at
 
-stands-marked : (visits : List Visit) → IsMarked (stands_at visits)
+pub stands-marked : (visits : List Visit) → IsMarked (stands_at visits)
 stands-marked [] k stand at = absurd (cc)
 stands-marked (visit ∷ visits) zero stand at =
     let first : stand.first ≡ true = ap (λ (s : Stand). s.first) (sym (same_Some (stand_at true visit) stand at)) in

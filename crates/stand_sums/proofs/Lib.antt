@@ -7,3 +7,4 @@ pub mod ShelfLemmas
 pub mod LawLemmas
 pub mod GroupLemmas
 pub mod RunLemmas
+pub mod WritingLemmas

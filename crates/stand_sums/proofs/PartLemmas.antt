@@ -2,7 +2,7 @@
 use Rattle.std.proofs.Common.{◌≡◌, ℕ, suc, ◌+◌, ◌-◌, ◌≤◌, ◌<◌, inl, inr, Bool, true, false, true≢false, cond, ◌||◌, List, [], ◌∷◌, ◌++◌, length, fold, Some, take, drop, get_or, append_assoc, refl, sym, ap, ◌∙◌, subst, arith, ltb}
 use Rattle.std.specs.List.{filter, list_any, slice_get, slice_range}
 use Rattle.std.proofs.lemmas.Bool.{lt-ltb, false_from_ne_true, ltb-true}
-use Rattle.std.proofs.lemmas.List.{map-append, length-append, append-nil, take_all, take_more, drop_more}
+use Rattle.std.proofs.lemmas.List.{map-append, length-append, append-nil, take_all, take_more, drop_more, drop_all}
 use Rattle.std.proofs.lemmas.Option.{same_Some, slice_get_within}
 use Rattle.mine_model.proofs.ElementLemmas.{get-some}
 use Rattle.std.proofs.lemmas.List.Elements.{filter-append}
@@ -17,7 +17,7 @@ use Rattle.stand_sums.specs.Writings.{Ranks, opens, ends, follows}
 use Rattle.stand_sums.specs.Sequences.{HasOne, weighed, weight_at, weight_of, all_weighed, AreSequences}
 use Rattle.stand_sums.specs.Sums.{Grows, stands_among, AreCounted}
 use Rattle.stand_sums.specs.Kept.{once, latest, behind_visit, behind_visits, tally_of, IsSum, IsSequenceEnd}
-use Rattle.stand_sums.proofs.CutLemmas.{AreNone, next-cut, all-none, take-range, drop-past}
+use Rattle.stand_sums.proofs.CutLemmas.{AreNone, next-cut, all-none, take-range}
 
 -- ---- one after another
 
@@ -213,7 +213,7 @@ pub counted-all : (ranks : Ranks) (aim : Aim) (weights : List ℕ) (visits : Lis
     → AreCountedTo ranks aim weights visits from sequences before now → length visits ≤ from → (rank : ℕ) (sum after : Sum) → slice_get before rank ≡ Some sum → slice_get now rank ≡ Some after
     → AreCounted ranks aim weights rank visits sequences (tally_of sum) (tally_of after)
 counted-all ranks aim weights visits from sequences before now to past rank sum after is also =
-    let none : drop from visits ≡ [] = drop-past from visits past in
+    let none : drop from visits ≡ [] = drop_all from visits past in
     let first = to.counted rank sum after is also in
     let quiet = none-counted ranks aim weights rank to.left after (all-none (drop from visits) to.left none to.left_are) in
     let both = counts-more ranks aim weights rank (take from visits) [] to.done to.left sum after after first quiet in

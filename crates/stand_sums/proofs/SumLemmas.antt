@@ -3,7 +3,7 @@ use Rattle.std.proofs.Common.{◌≡◌, ◌≢◌, ℕ, zero, suc, ◌+◌, ◌
 use Rattle.std.specs.List.{AllPairs, Contains, list_any, slice_get}
 use Rattle.std.proofs.lemmas.Bool.{cases_lt, cases_eq, eq-eqb, lt-ltb, le-ltb, ne_eqb}
 use Rattle.std.proofs.lemmas.List.Elements.{Contains-push, Contains-push_cases, Contains-append_left}
-use Rattle.std.proofs.lemmas.List.{get_or_default, take_more, drop_more}
+use Rattle.std.proofs.lemmas.List.{get_or_default, take_more, drop_more, drop_all}
 use Rattle.std.proofs.lemmas.List.Quantifiers.{all_pairs_push}
 use Rattle.std.proofs.lemmas.List.Folds.{list_any-append}
 use Rattle.std.proofs.lemmas.Option.{same_Some, slice_get_within}
@@ -15,7 +15,6 @@ use Rattle.stand_sums.specs.declared.sum.Sum.{Sum}
 use Rattle.stand_sums.specs.declared.sum.Counted.{Counted}
 use Rattle.stand_sums.specs.Aims.{sees}
 use Rattle.stand_sums.specs.Writings.{Ranks, goes_on, stops}
-use Rattle.stand_sums.proofs.CutLemmas.{drop-past}
 use Rattle.stand_sums.specs.Sums.{Tally, empty_tally}
 use Rattle.stand_sums.specs.Kept.{nothing, tally_of, once, latest, met, is_among, behind_ranks, behind_visit, IsSum, AreSums}
 
@@ -207,7 +206,7 @@ pub cleared-all : (sums : List Sum) (touched : List ℕ) (k : ℕ) → length to
     → sums ≡ replicate (length sums) nothing
 cleared-all sums touched k past rest = all-nothing sums (λ rank sum at. elim (rest rank sum at) [
   | inl none ↦ none
-  | inr held ↦ absurd (Contains-none rank (subst (λ (l : List ℕ). Contains l rank) (drop-past k touched past) held))
+  | inr held ↦ absurd (Contains-none rank (subst (λ (l : List ℕ). Contains l rank) (drop_all k touched past) held))
 ])
 
 -- ---- the room of a worker

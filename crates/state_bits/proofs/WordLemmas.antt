@@ -69,3 +69,8 @@ pub joined-replicate : (width : ℕ) → joined (replicate width 0) ≡ 0
 unfolding joined
 joined-replicate zero = refl
 joined-replicate (suc width) = omega (arith, joined-replicate width)
+
+pub length-words_of : (width set : ℕ) → length (words_of width set) ≡ width
+unfolding words_of
+length-words_of zero set = refl
+length-words_of (suc width) set = ap suc (length-words_of width (set / 2 ^ 64))

@@ -6,3 +6,4 @@ pub mod FieldLemmas
 pub mod LaneLemmas
 pub mod ScanLemmas
 pub mod VisitLemmas
+pub mod DecimalLemmas

@@ -1,5 +1,5 @@
 -- Lemmas on layouts, and on stands in them one behind another.
-use Rattle.std.proofs.Common.{◌≡◌, ℕ, zero, suc, ◌+◌, ◌-◌, ◌≤◌, ◌<◌, ◌^◌, ◌⊎◌, inl, inr, Bool, Some, List, [], ◌∷◌, ◌++◌, length, take, fold, get_or, refl, sym, ◌∙◌, ap, subst, arith}
+use Rattle.std.proofs.Common.{◌≡◌, ℕ, zero, suc, ◌+◌, ◌-◌, ◌≤◌, ◌<◌, ◌^◌, ◌⊎◌, inl, inr, Bool, Some, List, [], ◌∷◌, length, take, fold, get_or, refl, sym, ◌∙◌, ap, subst, arith}
 use Rattle.std.specs.List.{All, AllPairs, AllZip, slice_get}
 use Rattle.std.proofs.lemmas.Option.{slice_get_within, get_or_from_slice_get, slice_get-get_or}
 use Rattle.packed_snapshots.specs.declared.snapshot.PlainSnapshot.{PlainSnapshot}
@@ -65,15 +65,6 @@ pub rises-at : (before : Place) (list : List PlainSnapshot) (i : ℕ) (one : Pla
 rises-at before [] i one rises is = absurd (cc)
 rises-at before (next ∷ more) zero one (behind, rises) is = subst (λ snapshot. IsBehind before (place_of snapshot)) (let e : next ≡ one = cc in e) behind
 rises-at before (next ∷ more) (suc i) one (behind, rises) is = rises-at (place_of next) more i one rises is
-
--- one more of a list
-pub take-next : {X : Type 0} (xs : List X) (i : ℕ) (x : X) → slice_get xs i ≡ Some x → take (i + 1) xs ≡ take i xs ++ x ∷ []
-take-next xs i x is = ap (λ n. take n xs) (let e : i + 1 ≡ suc i = omega arith in e) ∙ by xs i is
-  where
-    by : (ys : List _) (k : ℕ) → slice_get ys k ≡ Some x → take (suc k) ys ≡ take k ys ++ x ∷ []
-    by [] k none = absurd (cc)
-    by (y ∷ ys) zero first = ap (λ z. z ∷ []) (let e : y ≡ x = cc in e)
-    by (y ∷ ys) (suc k) there = ap (λ l. y ∷ l) (by ys k there)
 
 -- where the next stand is, and that what was reached is not behind it
 pub record IsNext (sequences starts : List ℕ) (list : List PlainSnapshot) (i grid : ℕ) (before : Place) (stand : Stand) : Type 0 where

@@ -4,8 +4,9 @@ use Rattle.std.proofs.Math.ListN.{length-set}
 use Rattle.pattern_counts.specs.Tally.{Tally, no_lists, Adds}
 use Rattle.count_shards.specs.Blocks.{tally_of}
 use Rattle.count_shards.specs.Tallied.{AddsEach}
-use Rattle.count_shards.proofs.AddLemmas.{adds_home, adds_more, not_before, take_one}
+use Rattle.count_shards.proofs.AddLemmas.{adds_home, adds_more, not_before}
 use Rattle.count_shards.proofs.block.add_each.Goals as goal
+use Rattle.mine_model.proofs.ElementLemmas.{take-next}
 
 pub loop-i-preserved : goal.loop-i-preserved
 loop-i-preserved c =
@@ -23,6 +24,6 @@ loop-i-preserved c =
     record {
       all = omega (arith, length-set {A = Tally}, ap length same, c.loop-i.invariant.all);
       added = adds_more (take i listed) (take (i + 1) listed) list weight c.args.homes.now.items homes (set homes home c.add.new.self)
-          (take_one listed i list c.get-list.ensures) (not_before listed i list c.requires.each_once c.get-list.ensures)
+          (take-next listed i list c.get-list.ensures) (not_before listed i list c.requires.each_once c.get-list.ensures)
           (subst (λ (lists : List Tally). AddsEach (take i listed) weight c.args.homes.now.items lists) (sym same) c.loop-i.invariant.added) one;
     }

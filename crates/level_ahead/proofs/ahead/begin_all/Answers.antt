@@ -1,7 +1,8 @@
 use Rattle.std.proofs.Common.{◌≡◌, ◌∙◌, ◌+◌, ◌<◌, ◌++◌, [], ◌∷◌, ℕ, true, false, List, length, set, replicate, get_or, sym, subst}
 use Rattle.stand_sums.specs.declared.next_rank.NextRank.{NextRank}
+use Rattle.stand_sums.proofs.WritingLemmas.{no_rank}
 use Rattle.level_ahead.specs.Counts.{is_asked}
-use Rattle.level_ahead.proofs.RoomLemmas.{no_rank, AreBegun, begun-start, begun-skip, begun-more, begun-all}
+use Rattle.level_ahead.proofs.RoomLemmas.{AreBegun, begun-start, begun-skip, begun-more, begun-all}
 use Rattle.level_ahead.proofs.ahead.begin_all.Goals.{then-asks_about+in_ok-push, else-asks_about}
 use Rattle.level_ahead.proofs.ahead.begin_all.Goals as goal
 

@@ -1,3 +1,2 @@
 use Rattle.std.proofs.Common.{refl}
-use Rattle.level_ahead.proofs.NeedLemmas.{goes-without}
 use Rattle.level_ahead.proofs.reading.goes_with_others.Goals as goal

@@ -1,8 +1,9 @@
 use Rattle.std.proofs.Common.{◌<◌, ℕ, length, get_or, ◌∙◌, ap, arith}
 use Rattle.std.proofs.lemmas.List.{length-replicate}
-use Rattle.member_counts.proofs.BitLemmas.{length-words_of, word_is}
+use Rattle.member_counts.proofs.BitLemmas.{word_is}
 use Rattle.member_counts.proofs.CountLemmas.{bit_in-none, sets_with-next, sets_with-none, sets_with-take_le}
 use Rattle.member_counts.proofs.low.added.Goals as goal
+use Rattle.state_bits.proofs.WordLemmas.{length-words_of}
 
 pub loop-index-init : goal.loop-index-init
 loop-index-init g c q inside = omega (arith, c.new-low.ensures q, sets_with-none c.args.sets.now q)

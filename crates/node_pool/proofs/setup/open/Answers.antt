@@ -6,8 +6,9 @@ use Rattle.node_pool.specs.Pool.{seat_ground, IsWholePool}
 use Rattle.node_pool.specs.Opening.{AreSeats}
 use Rattle.node_pool.proofs.Kept.{first_ground, first_fresh, first_ground_is, fresh_for, rows_for}
 use Rattle.node_pool.proofs.NewWays.{same_length}
-use Rattle.node_pool.proofs.Opened.{ok_both, whole_pool, all_ground}
+use Rattle.node_pool.proofs.Opened.{whole_pool, all_ground}
 use Rattle.node_pool.proofs.setup.open.Goals as goal
+use Rattle.mine_model.proofs.ResultLemmas.{ok_both}
 
 pub all_ways-requires-send-T : goal.all_ways-requires-send-T
 all_ways-requires-send-T g c κs within =

@@ -1,11 +1,12 @@
 use Rattle.std.proofs.Common.{◌≡◌, ℕ, ◌+◌, ◌-◌, ◌<◌, ◌≤◌, List, [], ◌∷◌, length, take, drop, sym, ap, ◌∙◌, subst, arith}
+use Rattle.std.proofs.lemmas.List.{take_rest}
 use Rattle.pattern_proof.specs.ProofLines.{SaysPath}
 use Rattle.pattern_proof.specs.Reading.{SaysStates}
-use Rattle.pattern_proof.proofs.PieceLemmas.{rest-read, path-cut, path-head, same-number}
+use Rattle.pattern_proof.proofs.PieceLemmas.{path-cut, path-head, same-number}
 use Rattle.pattern_proof.proofs.lines.path_in.Goals as goal
 
 head : (text : List ℕ) → Rattle.pattern_proof.specs.ProofLines.is_path_line text ≡ Rattle.std.proofs.Common.true → text ≡ 9 ∷ take (length text - 1) (drop 1 text)
-head text is = path-head text is ∙ ap (λ l. 9 ∷ l) (sym (rest-read text 1))
+head text is = path-head text is ∙ ap (λ l. 9 ∷ l) (sym (take_rest text 1))
 
 pub returns-in_default : goal.returns-in_default
 returns-in_default c = λ path says small.
@@ -27,4 +28,4 @@ returns-then-not-branch c = λ path says small.
     let text = c.args.text.now in
     let behind = take (length text - 1) (drop 1 text) in
     let cut = path-cut behind c.place_of-end.result c.place_of-end.ensures.before c.place_of-end.ensures.behind path (subst (λ t. SaysPath t path) (head text c.requires) says) in
-    none path.states (subst (λ l. SaysStates l path.states) (sym (rest-read behind c.place_of-end.result)) cut.1) small.1
+    none path.states (subst (λ l. SaysStates l path.states) (sym (take_rest behind c.place_of-end.result)) cut.1) small.1

@@ -5,15 +5,17 @@ use Rattle.std.specs.Arc.{arc_value}
 use Rattle.place_walk.specs.declared.stand.Stand.{Stand}
 use Rattle.std.proofs.lemmas.List.{take_more, take_all}
 use Rattle.std.proofs.lemmas.Option.{slice_get-get_or, slice_get_within}
+use Rattle.std.proofs.lemmas.Slice.Zip.{all_zipped_more}
 use Rattle.mine_model.proofs.ElementLemmas.{get-held}
 use Rattle.stand_sums.specs.declared.next_rank.NextRank.{NextRank}
 use Rattle.mask_sums.specs.Kept.{lacking}
 use Rattle.level_ahead.specs.Counts.{is_asked}
 use Rattle.stand_sums.specs.Runs.{RunValue}
+use Rattle.stand_sums.proofs.WritingLemmas.{no_rank}
 use Rattle.snapshot_project.specs.Ahead.{IsKeptAhead, moved_front}
 use Rattle.snapshot_project.specs.Longer.{kept_of}
 use Rattle.snapshot_project.specs.Stands.{StandList}
-use Rattle.snapshot_project.proofs.PlacedLemmas.{blank, entry-of, zip-push, count-yes, count-no, count-most}
+use Rattle.snapshot_project.proofs.PlacedLemmas.{entry-of, count-yes, count-no, count-most}
 use Rattle.snapshot_project.proofs.ahead.longer_ahead.Goals.{then-asks_about+in_ok-behind+in_ok-push, else-asks_about+then-next+in_ok-clone+in_ok-push-2, else-asks_about+else-next+in_ok-push-3}
 use Rattle.snapshot_project.proofs.ahead.longer_ahead.Goals as goal
 
@@ -35,9 +37,9 @@ reaching-requires c =
     let found : List NextRank = c.args.found.now in
     let k : ℕ = c.loop-next.next-index in
     let lack : Option ℕ = lacking c.args.aim in
-    let next : NextRank = get_or found k blank in
+    let next : NextRank = get_or found k no_rank in
     let asked : is_asked lack next ≡ true = subst (λ (o : Option ℕ). is_asked o next ≡ true) c.lacking.ensures (sym c.asks_about.ensures ∙ c.if-asks_about.true) in
-    let (behind, here, same) = entry-of lack c.args.ahead.now found c.requires.asked k next (slice_get-get_or found k blank c.loop-next-test.true) asked in
+    let (behind, here, same) = entry-of lack c.args.ahead.now found c.requires.asked k next (slice_get-get_or found k no_rank c.loop-next-test.true) asked in
     let inside = slice_get_within c.args.ahead.now (length (filter (is_asked lack) (take k found))) behind here in
     let entry : c.loop-next.entry ≡ length (filter (is_asked lack) (take k found)) = c.loop-next.invariant.entry in
     omega arith
@@ -58,22 +60,22 @@ loop-next-preserved c =
     let found : List NextRank = c.args.found.now in
     let k : ℕ = c.loop-next.next-index in
     let lack : Option ℕ = lacking c.args.aim in
-    let next : NextRank = get_or found k blank in
+    let next : NextRank = get_or found k no_rank in
     let inside : k < length found = c.loop-next-test.true in
-    let at : slice_get found k ≡ Some next = slice_get-get_or found k blank inside in
+    let at : slice_get found k ≡ Some next = slice_get-get_or found k no_rank inside in
     let entry : c.loop-next.entry ≡ length (filter (is_asked lack) (take k found)) = c.loop-next.invariant.entry in
     let run : List Stand = (arc_value c.in_ok-shared.shared).stands in
     let R : NextRank → StandList → Type 0 = IsKeptAhead c.args.aim c.args.least c.args.ahead.now run in
     let asks : is_asked lack next ≡ c.asks_about.result = subst (λ (o : Option ℕ). is_asked o next ≡ c.asks_about.result) c.lacking.ensures (sym c.asks_about.ensures) in
-    let more : take (k + 1) found ≡ take k found ++ next ∷ [] = take_more found k blank inside in
+    let more : take (k + 1) found ≡ take k found ++ next ∷ [] = take_more found k no_rank inside in
     let pushed : (kept : StandList) → R next kept → (all : List StandList) → all ≡ c.loop-next.longer.items ++ kept ∷ [] → AllZip R (take (k + 1) found) all = λ kept one all all_is.
     subst (λ (l : List NextRank). AllZip R l all) (sym more)
     (subst (λ (l : List StandList). AllZip R (take k found ++ next ∷ []) l) (sym all_is)
-    (zip-push R (take k found) c.loop-next.longer.items next kept c.loop-next.invariant.kept one)) in
+    (all_zipped_more R (take k found) c.loop-next.longer.items next kept c.loop-next.invariant.kept one)) in
     elim c.if-asks_about.branch [
       | then-asks_about+in_ok-behind+in_ok-push w ↦
           let asked : is_asked lack next ≡ true = asks ∙ w.if-asks_about.true in
-          let counted = count-yes lack found k blank inside asked in
+          let counted = count-yes lack found k no_rank inside asked in
           let told_is = w.told.ensures in
           record {
             entry = w.entry-is ∙ ap (λ (n : ℕ). n + 1) entry ∙ sym counted;
@@ -92,7 +94,7 @@ loop-next-preserved c =
       | else-asks_about+then-next+in_ok-clone+in_ok-push-2 w ↦
           let not_asked : is_asked lack next ≡ false = asks ∙ w.if-asks_about.false in
           let some : next.first < next.last = w.if-next.true in
-          let counted = count-no lack found k blank inside not_asked in
+          let counted = count-no lack found k no_rank inside not_asked in
           let copy : arc_value w.in_ok-clone.field-0 ≡ arc_value c.in_ok-shared.shared = search rules in
           let piece_is : w.piece.result ≡ kept_of c.args.aim run (moved_front next) = w.piece.ensures ∙ (λ i. kept_of c.args.aim (copy i).stands (w.at_front.ensures i)) in
           record {
@@ -103,7 +105,7 @@ loop-next-preserved c =
       | else-asks_about+else-next+in_ok-push-3 w ↦
           let not_asked : is_asked lack next ≡ false = asks ∙ w.if-asks_about.false in
           let past : next.last ≤ next.first = w.if-next.false in
-          let counted = count-no lack found k blank inside not_asked in
+          let counted = count-no lack found k no_rank inside not_asked in
           let told_is = w.told-else-next.ensures in
           record {
             entry = w.entry-is ∙ entry ∙ sym counted;

@@ -8,8 +8,9 @@ use Rattle.snapshot_project.specs.Ahead.{next_of, last_of}
 use Rattle.snapshot_project.specs.Extensions.{AreNextRanks}
 use Rattle.snapshot_project.specs.Stands.{StandList, IsProjected, standing}
 use Rattle.snapshot_project.proofs.FormLemmas.{bytes-standing, stands-standing}
-use Rattle.snapshot_project.proofs.LastLemmas.{both-ok, told-each}
+use Rattle.snapshot_project.proofs.LastLemmas.{told-each}
 use Rattle.snapshot_project.proofs.growing.grow.Goals as goal
+use Rattle.mine_model.proofs.ResultLemmas.{ok_both}
 
 pub returns-in-Some-clause-each : goal.returns-in-Some-clause-each
 returns-in-Some-clause-each c =
@@ -23,7 +24,7 @@ returns-in-Some-clause-each c =
     (λ grown both ranks projected.
     told-each part c.need.ensures.part c.args.least c.requires.least ranks kept projected aim c.seen.ensures c.need.ensures.need c.in-Some.next.now c.in-Some.ensures.some
     grown.next.items grown.longer.items both.0 both.1)
-    (both-ok c.told_before.result (λ grown. grown.next.items ≡ map next_of c.in-Some.next.now) (λ grown. grown.longer.items ≡ map (last_of aim) c.in-Some.next.now)
+    (ok_both c.told_before.result (λ grown. grown.next.items ≡ map next_of c.in-Some.next.now) (λ grown. grown.longer.items ≡ map (last_of aim) c.in-Some.next.now)
     c.told_before.ensures.next c.told_before.ensures.longer)
 
 pub grow_from-requires-clause-projected : goal.grow_from-requires-clause-projected

@@ -9,8 +9,9 @@ use Rattle.packed_snapshots.specs.Packed.{IsPacked}
 use Rattle.place_walk.specs.declared.stand.Stand.{Stand}
 use Rattle.waiting_stands.specs.Layouts.{IsStandOf}
 use Rattle.packed_snapshots.proofs.SnapshotLemmas.{last_place-append}
-use Rattle.waiting_stands.proofs.LayoutLemmas.{seen-at, IsNext, is-next, IsRead, is-read, read_at, read-is, read-place, take-next}
+use Rattle.waiting_stands.proofs.LayoutLemmas.{seen-at, IsNext, is-next, IsRead, is-read, read_at, read-is, read-place}
 use Rattle.waiting_stands.proofs.packing.pack.Goals as goal
+use Rattle.mine_model.proofs.ElementLemmas.{take-next}
 
 pub last_up_to-grid-requires-clause-within : goal.last_up_to-grid-requires-clause-within
 last_up_to-grid-requires-clause-within c =

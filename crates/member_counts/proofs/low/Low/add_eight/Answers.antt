@@ -1,7 +1,8 @@
 use Rattle.std.proofs.Common.{length, get_or, ◌∙◌, ap, arith}
-use Rattle.member_counts.proofs.BitLemmas.{length-words_of, word_is}
+use Rattle.member_counts.proofs.BitLemmas.{word_is}
 use Rattle.member_counts.proofs.CountLemmas.{sets_with-seven}
 use Rattle.member_counts.proofs.low.Low.add_eight.Goals as goal
+use Rattle.state_bits.proofs.WordLemmas.{length-words_of}
 
 pub add_rows-two-requires : goal.add_rows-two-requires
 add_rows-two-requires g c = (omega arith, (ap length c.words.ensures ∙ length-words_of g.row.W _, ap length c.words-2.ensures ∙ length-words_of g.row.W _))

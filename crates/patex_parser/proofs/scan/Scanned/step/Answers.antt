@@ -1,7 +1,7 @@
 use Rattle.std.proofs.Common.{◌≡◌, ◌+◌, ◌-◌, length, take, drop, map, vec_len, sym, ◌∙◌, inr, refl}
-use Rattle.std.proofs.lemmas.List.{length-map}
+use Rattle.std.proofs.lemmas.List.{length-map, take_rest}
 use Rattle.patex_parser.specs.Parsing.{use_view}
-use Rattle.patex_parser.proofs.ScanLemmas.{scanned-free, scanned-token, scanned-bad, tail-slice}
+use Rattle.patex_parser.proofs.ScanLemmas.{scanned-free, scanned-token, scanned-bad}
 use Rattle.patex_parser.proofs.scan.Scanned.step.Goals as goal
 
 pub returns-then-is_free-clause-scanned : goal.returns-then-is_free-clause-scanned
@@ -14,7 +14,7 @@ returns-in_default-clause-err c =
     let behind = take (length text - c.args.at) (drop c.args.at text) in
     inr (
       c.args.at + 1,
-      scanned-bad text behind c.args.at _ _ c.requires.more (tail-slice text c.args.at) (sym c.is_free.ensures ∙ c.if-is_free.false)
+      scanned-bad text behind c.args.at _ _ c.requires.more (take_rest text c.args.at) (sym c.is_free.ensures ∙ c.if-is_free.false)
           (rw c.in_default.is at c.in_ok-lexeme.ensures.none) c.requires.scanned,
       refl,
     )
@@ -26,6 +26,6 @@ returns-clause-scanned c =
     let uses = map use_view old.uses.items in
     let behind = take (length text - c.args.at) (drop c.args.at text) in
     let count : length uses ≡ vec_len old.uses = length-map old.uses.items use_view ∙ sym old.uses.ok.0 in
-    let read = scanned-token text behind c.args.at c.in-Some.count c.in-Some.lexeme old.tokens.items uses c.requires.more (tail-slice text c.args.at)
+    let read = scanned-token text behind c.args.at c.in-Some.count c.in-Some.lexeme old.tokens.items uses c.requires.more (take_rest text c.args.at)
     (rw c.in-Some.is at c.in_ok-lexeme.ensures.some) c.requires.scanned in
     rw (c.in_ok-push.ensures.tokens, c.in_ok-push.ensures.uses) (rw count at read)
