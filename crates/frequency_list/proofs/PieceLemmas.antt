@@ -11,7 +11,8 @@ use Rattle.std.proofs.lemmas.List.Sums.{sum_by-cons}
 use Rattle.std.proofs.lemmas.List.Elements.{All-cons, All-nil, All-head, All-tail}
 use Rattle.mine_model.specs.declared.item.Item.{Item}
 use Rattle.mine_model.specs.declared.memory.NoMemory.{NoMemory}
-use Rattle.mine_model.specs.Ancestry.{Ancestry, item_at, start_of, list_at, AreCut}
+use Rattle.mine_model.specs.Ancestry.{Ancestry, item_at}
+use Rattle.flat_lists.specs.Cuts.{start_of, list_at, AreCut}
 use Rattle.mine_model.specs.Limits.{most_sequences, most_weight}
 use Rattle.mine_model.specs.Database.{IsWithinLimits}
 use Rattle.mine_model.specs.Support.{Sequence, HoldsUnder, HasFrequency}

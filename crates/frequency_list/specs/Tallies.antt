@@ -3,7 +3,8 @@ use Rattle.std.specs.Prelude.{◌≡◌, ℕ, ◌+◌, ◌⊎◌, ◌==◌, if�
 use Rattle.std.specs.List.{slice_index, range_with_len, AllZip}
 use Rattle.std.specs.Global.{Vec}
 use Rattle.mine_model.specs.declared.item.Item.{Item}
-use Rattle.mine_model.specs.Ancestry.{Ancestry, list_at}
+use Rattle.mine_model.specs.Ancestry.{Ancestry}
+use Rattle.flat_lists.specs.Cuts.{list_at}
 use Rattle.mine_model.specs.Support.{Sequence}
 use Rattle.mine_model.specs.Ranks.{AreFrequencies}
 

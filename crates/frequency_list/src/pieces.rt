@@ -2,7 +2,7 @@
 
 ghost use Rattle.std.specs.Prelude.{◌≡◌, ℕ, ◌+◌, ◌*◌, ◌^◌, ◌≤◌, ◌<◌, length, slice_index, All, IfOk, sum_by};
 ghost use Rattle.std.specs.List.{AllByRecursion};
-ghost use Rattle.mine_model.specs.Ancestry.{start_of, list_at, AreCut};
+ghost use Rattle.flat_lists.specs.Cuts.{start_of, list_at, AreCut};
 ghost use Rattle.frequency_list.specs.Tallies.{IsTally, AreTallies};
 
 use super::tally::tally;

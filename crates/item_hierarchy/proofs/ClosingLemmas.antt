@@ -11,10 +11,11 @@ use Rattle.item_hierarchy.specs.declared.hierarchy_fault.CloseFault.{CloseFault}
 use Rattle.item_hierarchy.specs.declared.hierarchy_fault.CloseFault.TheVariants.{Cycle, TooManyAncestors, NoMemory}
 use Rattle.mine_model.specs.Limits.{most_ancestors}
 use Rattle.mine_model.specs.Hierarchy.{Link, IsWalk, IsAncestor, IsAcyclic, HasMoreAncestors}
-use Rattle.mine_model.specs.Ancestry.{Ancestry, item_at, AreCut, AreRising, list_at, Lists, AreAncestorLists}
+use Rattle.flat_lists.specs.Cuts.{AreCut, list_at}
+use Rattle.mine_model.specs.Ancestry.{Ancestry, item_at, AreRising, Lists, AreAncestorLists}
 use Rattle.mine_model.proofs.ListLemmas.{Contains-by, Contains-from, AllPairs-append, apart_by_image}
 use Rattle.mine_model.proofs.NameLemmas.{distinct_fit}
-use Rattle.mine_model.proofs.AncestryLemmas.{cut-more, list_at-old, list_at-new}
+use Rattle.flat_lists.proofs.CutLemmas.{cut-more, list_at-old, list_at-new}
 use Rattle.mine_model.proofs.WalkLemmas.{IsAncestor-chain, IsAncestor-more, HasCycle-more, IsAcyclic-fewer, same_or_cycle}
 use Rattle.item_hierarchy.specs.declared.edges.EdgeRow.{EdgeRow}
 use Rattle.item_hierarchy.specs.declared.ancestors.Part.{Part}

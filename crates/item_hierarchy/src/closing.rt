@@ -2,7 +2,7 @@ ghost use Rattle.std.specs.Prelude.{◌≡◌, ◌≤◌, ◌<◌, ◌↔◌, �
 ghost use Rattle.mine_model.specs.declared.item.Item.{Item};
 ghost use Rattle.mine_model.specs.Limits.{most_ancestors};
 ghost use Rattle.mine_model.specs.Hierarchy.{IsAncestor, HasCycle, IsAcyclic, IsCycleLine, HasMoreAncestors};
-ghost use Rattle.mine_model.specs.Ancestry.{AreCut, list_at};
+ghost use Rattle.flat_lists.specs.Cuts.{AreCut, list_at};
 ghost use Rattle.item_hierarchy.specs.declared.edges.EdgeRow.{EdgeRow};
 ghost use Rattle.item_hierarchy.specs.Edges.{links_of, placed_of, AreWithin, IsCloseRefusal, Closes};
 ghost use Rattle.item_hierarchy.specs.ByChild.{AreByChild};

@@ -5,38 +5,17 @@ use Rattle.std.proofs.lemmas.List.{length_push, get_or_push, get_or_append_left,
 use Rattle.std.proofs.lemmas.List.Elements.{Contains-append_left, Contains-append_right, Contains-append_cases}
 use Rattle.std.proofs.lemmas.Bool.{cases_eq, cases_lt}
 use Rattle.std.proofs.lemmas.Bool.Decides.{Decides-eqb}
+use Rattle.flat_lists.specs.Cuts.{start_of, list_at}
+use Rattle.flat_lists.proofs.CutLemmas.{slice_range-append, end_within, list_at-old, list_at-new, cut-more}
+pub use Rattle.flat_lists.proofs.CutLemmas.{slice_range-behind}
 use Rattle.mine_model.specs.declared.item.Item.{Item}
 use Rattle.mine_model.specs.Hierarchy.{Link, IsWalk, IsAncestor}
-use Rattle.mine_model.specs.Ancestry.{item_at, start_of, list_at, AreCut, AreRising, Lists, AreAncestorLists, links_from_item, links_from_number}
-use Rattle.mine_model.proofs.ListLemmas.{slice_range-append, Contains-cases, Contains-first, Contains-none, Contains-by, Contains-from, Contains-filter, filter-Contains}
+use Rattle.mine_model.specs.Ancestry.{item_at, AreRising, Lists, AreAncestorLists, links_from_item, links_from_number}
+use Rattle.mine_model.proofs.ListLemmas.{Contains-cases, Contains-first, Contains-none, Contains-by, Contains-from, Contains-filter, filter-Contains}
 
 -- items with one number are one
 pub Item-same : (t w : Item) → t.0 ≡ w.0 → t ≡ w
 Item-same t w same = ap (λ number. item_at number) same
-
--- Where lists begin and end
-
-module _ (ends : List ℕ) (size : ℕ) (cut : AreCut ends size) where
-  pub start_rises : (i j : ℕ) → i ≤ j → j ≤ length ends → start_of ends i ≤ start_of ends j
-  start_rises i zero below within = let e : i ≡ 0 = omega arith in subst (λ n. start_of ends n ≤ start_of ends 0) (sym e) (omega arith)
-  start_rises i (suc j) below within =
-      elim (cases_eq i (suc j)) [
-        | inl same ↦ subst (λ n. start_of ends n ≤ start_of ends (suc j)) (sym same) (omega arith)
-        | inr other ↦
-            let before : start_of ends i ≤ start_of ends j = start_rises i j (omega arith) (omega arith) in
-            let step : start_of ends j ≤ slice_index ends j = cut.forward j (omega arith) in
-            omega (arith, before, step)
-      ]
-
-  pub end_within : (i : ℕ) → i < length ends → slice_index ends i ≤ size
-  end_within i within =
-      let rises : start_of ends (suc i) ≤ start_of ends (length ends) = start_rises (suc i) (length ends) (omega arith) (omega arith) in
-      omega (arith, rises, cut.whole)
-
-  pub start_within : (i : ℕ) → i ≤ length ends → start_of ends i ≤ size
-  start_within i within =
-      let rises : start_of ends i ≤ start_of ends (length ends) = start_rises i (length ends) within (omega arith) in
-      omega (arith, rises, cut.whole)
 
 -- Links and lists
 
@@ -158,46 +137,6 @@ module _ (ends : List ℕ) (lists : List Item) where
     items_le_lists = omega (arith, items_few (length ends) (omega arith), are.cut.whole)
 
 -- One more item, with itself alone in its list
-
-pub slice_range-behind : {X : Type 0} (xs ys : List X) (to : ℕ) → to ≡ length xs + length ys → slice_range (xs ++ ys) (length xs) to ≡ ys
-slice_range-behind xs ys to is =
-    let size : to - length xs ≡ length ys = omega arith in
-    ap (λ n. take n (drop (length xs) (xs ++ ys))) size ∙ ap (take (length ys)) (drop_at xs ys (length xs) refl) ∙ take_all (length ys) ys (omega arith)
-
--- one more list behind the others
-module _ {X : Type 0} (ends : List ℕ) (lists own : List X) (to : ℕ) (is : to ≡ length lists + length own) (cut : AreCut ends (length lists)) where
-  pub start-old : (n : ℕ) → n ≤ length ends → start_of (ends ++ to ∷ []) n ≡ start_of ends n
-  start-old n below = get_or_append_left (0 ∷ ends) (to ∷ []) 0 n (omega arith)
-
-  pub end-old : (n : ℕ) → n < length ends → slice_index (ends ++ to ∷ []) n ≡ slice_index ends n
-  end-old n below = get_or_append_left ends (to ∷ []) 0 n below
-
-  pub end-new : slice_index (ends ++ to ∷ []) (length ends) ≡ to
-  end-new = get_or_push ends to 0 (length ends) refl
-
-  pub list_at-old : (n : ℕ) → n < length ends → list_at (ends ++ to ∷ []) (lists ++ own) n ≡ list_at ends lists n
-  list_at-old n below =
-      ap (λ from. slice_range (lists ++ own) from (slice_index (ends ++ to ∷ []) n)) (start-old n (omega arith))
-      ∙ ap (slice_range (lists ++ own) (start_of ends n)) (end-old n below)
-      ∙ slice_range-append lists own (start_of ends n) (slice_index ends n) (cut.forward n below) (end_within ends (length lists) cut n below)
-
-  pub list_at-new : list_at (ends ++ to ∷ []) (lists ++ own) (length ends) ≡ own
-  list_at-new =
-      let start : start_of (ends ++ to ∷ []) (length ends) ≡ length lists = start-old (length ends) (omega arith) ∙ cut.whole in
-      ap (λ from. slice_range (lists ++ own) from (slice_index (ends ++ to ∷ []) (length ends))) start
-      ∙ ap (slice_range (lists ++ own) (length lists)) end-new ∙ slice_range-behind lists own to is
-
-  pub cut-more : AreCut (ends ++ to ∷ []) (length (lists ++ own))
-  cut-more = record {
-    forward = λ n below. elim (cases_lt n (length ends)) [
-      | inl old ↦ omega (arith, start-old n (omega arith), end-old n old, cut.forward n old)
-      | inr beyond ↦
-          let last : n ≡ length ends = omega (arith, length_push ends to) in
-          let P : ℕ → Type 0 = λ n. start_of (ends ++ to ∷ []) n ≤ slice_index (ends ++ to ∷ []) n in
-          subst P (sym last) (omega (arith, start-old (length ends) (omega arith), end-new, cut.whole, is))
-    ];
-    whole = ap (start_of (ends ++ to ∷ [])) (length_push ends to ∙ add-one (length ends)) ∙ end-new ∙ is ∙ sym (length-append lists own);
-  }
 
 pub links_from_number-more : (lists : List Item) (x : Item) (number start : ℕ) (ends : List ℕ)
     → ((k : ℕ) → k < length ends → (get_or (start ∷ ends) k 0 ≤ get_or ends k 0) × (get_or ends k 0 ≤ length lists))

@@ -28,7 +28,6 @@ pub mod SumLemmas
 pub mod AliveLemmas
 pub mod PartitionWorkLemmas
 pub mod TextFaultLemmas
-pub mod CutLemmas
 pub mod EarlierLemmas
 pub mod FieldLemmas
 pub mod ResultLemmas

@@ -6,6 +6,7 @@ use Rattle.std.proofs.lemmas.List.{get_or_default, append-nil, map-append, take-
 use Rattle.std.proofs.lemmas.Bool.{cases_Bool}
 use Rattle.std.proofs.lemmas.List.Elements.{Contains-append_cases}
 use Rattle.std.proofs.lemmas.List.Kept.{AllPairs-cons}
+pub use Rattle.flat_lists.proofs.CutLemmas.{slice_range-append}
 use Rattle.mine_model.specs.Lists.{AddsTo}
 
 -- an element is the first or one of the others
@@ -216,13 +217,6 @@ filter_map-pairs {X} {Y} R S f (x ∷ xs) follows pairs =
         let (z, inside, same) = filter_map-forth f xs v (k, below, get_or_default (filter_map f xs) k v d below) in
         follows x z u v (Contains-first x xs) (Contains-other x xs z inside) gives same (AllPairs-head R x xs pairs z inside))
         rest
-
--- elements behind the end of a range don't alter it
-pub slice_range-append : {X : Type 0} (xs ys : List X) (from end : ℕ) → from ≤ end → end ≤ length xs → slice_range (xs ++ ys) from end ≡ slice_range xs from end
-slice_range-append xs ys from end rises within =
-    let begun : from ≤ length xs = omega arith in
-    let fits : end - from ≤ length (drop from xs) = rw length-drop (omega arith) in
-    rw (drop-append-le from xs ys begun, take-append-le (end - from) (drop from xs) ys fits) refl
 
 -- what a slice of all elements wrote back is the whole
 pub written_back : {X : Type 0} (new old : List X) (n : ℕ) → n ≡ length new → take n (new ++ drop (length new) old) ≡ new

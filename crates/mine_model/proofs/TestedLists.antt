@@ -5,7 +5,8 @@ use Rattle.std.specs.List.{slice_index, Contains}
 use Rattle.std.proofs.lemmas.Bool.{and_parts, false≢true, eqb-true, eq-eqb, leb-true, ltb-true, cases_eq}
 use Rattle.std.proofs.lemmas.List.Elements.{Contains-get_or}
 use Rattle.mine_model.specs.declared.item.Item.{Item}
-use Rattle.mine_model.specs.Ancestry.{item_at, start_of, list_at, AreRising, Lists, AreAncestorLists}
+use Rattle.flat_lists.specs.Cuts.{start_of, list_at}
+use Rattle.mine_model.specs.Ancestry.{item_at, AreRising, Lists, AreAncestorLists}
 use Rattle.mine_model.proofs.AncestryLemmas.{Item-same}
 use Rattle.mine_model.proofs.ListLemmas.{Contains-cases, Contains-first, Contains-other, Contains-none}
 

@@ -1,6 +1,7 @@
 -- A hierarchy by the list of ancestors of each item, where all lists stand behind each other in one.
 use Rattle.std.specs.Prelude.{◌≡◌, ℕ, ◌+◌, ◌≤◌, ◌<◌, ◌==◌, not, List, [], ◌∷◌, ◌++◌, map, filter, length, slice_index, AllPairs, Contains}
 use Rattle.std.specs.List.{slice_range}
+use Rattle.flat_lists.specs.Cuts.{list_at, AreCut}
 use Rattle.mine_model.specs.declared.item.Item.{Item}
 use Rattle.mine_model.specs.Hierarchy.{Link}
 
@@ -11,19 +12,6 @@ pub record Ancestry : Type 0 where
 
 abbrev pub item_at : ℕ → Item
 item_at number = record { 0 = number }
-
--- where the list of this number begins: where the one before it ends
-abbrev pub start_of : List ℕ → ℕ → ℕ
-start_of ends number = slice_index (0 ∷ ends) number
-
--- the list of this number
-abbrev pub list_at : {A : Type 0} → List ℕ → List A → ℕ → List A
-list_at ends lists number = slice_range lists (start_of ends number) (slice_index ends number)
-
--- the lists stand behind each other, and nothing stands behind the last
-pub record AreCut (ends : List ℕ) (size : ℕ) : Type 0 where
-  pub forward : (number : ℕ) → number < length ends → start_of ends number ≤ slice_index ends number
-  pub whole : start_of ends (length ends) ≡ size
 
 -- items by rising number
 abbrev pub AreRising : List Item → Type 0

@@ -1,7 +1,6 @@
--- A sequence database: its sequences by number, and how they lie in memory.
-use Rattle.std.specs.Prelude.{◌≡◌, ℕ, zero, suc, ◌+◌, ◌≤◌, List, [], ◌∷◌, length, slice_range, slice_index_or}
+-- A sequence database: its sequences by number, and how they are held.
+use Rattle.std.specs.Prelude.{◌≡◌, ℕ, ◌≤◌, List, [], ◌∷◌, length, slice_index_or, All}
 use Rattle.mine_model.specs.declared.item.Item.{Item}
-use Rattle.mine_model.specs.declared.database.Entry.{Entry}
 use Rattle.mine_model.specs.Limits.{most_sequences, most_length, most_weight}
 use Rattle.mine_model.specs.Support.{Sequence}
 
@@ -15,31 +14,15 @@ pub record IsWithinLimits (sequence : Sequence Item) : Type 0 where
   pub least : 1 ≤ sequence.weight
   pub most : sequence.weight ≤ most_weight
 
--- the sequences of the entries, the first of which begins here among the items
-abbrev pub sequences_from : List Item → ℕ → List Entry → List (Sequence Item)
-sequences_from items from [] = []
-sequences_from items from (entry ∷ entries) =
-    (record { items = slice_range items from entry.end; weight = entry.weight })
-    ∷ sequences_from items entry.end entries
+-- the sequences with these items, each with its weight
+abbrev pub sequences_of : List (List Item) → List ℕ → List (Sequence Item)
+sequences_of [] weights = []
+sequences_of (items ∷ lists) [] = []
+sequences_of (items ∷ lists) (weight ∷ weights) =
+    (record { items = items; weight = weight }) ∷ sequences_of lists weights
 
--- the sequence of the entry that begins here is within the limits
-pub record IsEntry (from : ℕ) (entry : Entry) : Type 0 where
-  pub rises : from ≤ entry.end
-  pub short : entry.end ≤ from + most_length
-  pub least : 1 ≤ entry.weight
-  pub most : entry.weight ≤ most_weight
-
--- the sequences follow each other from here to the end of so many items
-abbrev pub AreEntries : ℕ → ℕ → List Entry → Type 0
-AreEntries count from [] = from ≡ count
-AreEntries count from (entry ∷ entries) = IsEntry from entry × AreEntries count entry.end entries
-
--- where the entry with this number begins
-abbrev pub start_of : ℕ → List Entry → ℕ → ℕ
-start_of from entries zero = from
-start_of from [] (suc i) = from
-start_of from (entry ∷ entries) (suc i) = start_of entry.end entries i
-
-pub record IsFlat (items : List Item) (entries : List Entry) : Type 0 where
-  pub few : length entries ≤ most_sequences
-  pub follow : AreEntries (length items) 0 entries
+-- each of the lists has a weight, and all are within the limits
+pub record AreWeighted (lists : List (List Item)) (weights : List ℕ) : Type 0 where
+  pub each : length weights ≡ length lists
+  pub few : length lists ≤ most_sequences
+  pub limits : All IsWithinLimits (sequences_of lists weights)

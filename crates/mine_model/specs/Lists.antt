@@ -1,18 +1,12 @@
--- Lists that grow, lists that lie one behind the other, and the order of lists of ranks.
+-- Lists that grow, and the order of lists of ranks.
 use Rattle.std.specs.Prelude.{◌≡◌, ℕ, List, ◌++◌, map, length, Contains}
-use Rattle.std.specs.List.{range_with_len}
 use Rattle.std.specs.Ordering.{nat_cmp}
 use Rattle.std.specs.Cmp.Lexicographic.{slice_cmp}
 use Rattle.std.specs.declared.cmp.Ordering.TheVariants.{Less}
-use Rattle.mine_model.specs.Ancestry.{list_at}
 
 -- the list stays, or gains the element at its end
 abbrev pub AddsTo : {A : Type 0} → List A → A → List A → Type 0
 AddsTo {A} before x after = (more : List A) × (after ≡ before ++ more) × ((y : A) → Contains more y → y ≡ x)
-
--- the lists that end there, each where the next one begins
-abbrev pub lists_in : {A : Type 0} → List ℕ → List A → List (List A)
-lists_in ends lists = map (list_at ends lists) (range_with_len 0 (length ends))
 
 -- the first list comes earlier: rank by rank, a proper prefix first
 abbrev pub IsEarlier : List ℕ → List ℕ → Type 0

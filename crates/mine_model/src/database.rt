@@ -2,27 +2,19 @@ ghost use Rattle.std.specs.Prelude.{◌≡◌, ℕ, ◌≤◌, ◌<◌, List, []
 ghost use Rattle.mine_model.specs.declared.item.Item.{Item};
 ghost use Rattle.mine_model.specs.Limits.{most_sequences, most_length, most_weight};
 ghost use Rattle.mine_model.specs.Support.{Sequence};
-ghost use Rattle.mine_model.specs.Database.{sequence_at, IsWithinLimits, start_of};
+ghost use Rattle.mine_model.specs.Database.{sequence_at, IsWithinLimits};
 
 use super::item::Item;
 use super::memory::NoMemory;
+use flat_lists::FlatLists;
 use std::alloc::Global;
 use std::marker::Model;
 
-/// Where a sequence ends among the items of all, and what it counts.
-#[derive(Clone, Copy, Debug)]
-struct Entry {
-    end: usize,
-    weight: u64,
-}
-
 /// Sequences of items, each with its weight.
-///
-/// The items of all sequences stand one after another in one vector, and a second one has where each ends.
 #[derive(Debug, Drop)]
 pub struct Db {
-    items: Vec<Item>,
-    entries: Vec<Entry>,
+    sequences: FlatLists<Item>,
+    weights: Vec<u64>,
 }
 
 impl Model for Db {
@@ -32,11 +24,11 @@ impl Model for Db {
 
     ghost Value = { List (Sequence Item) };
 
-    ghost use Rattle.mine_model.specs.Database.{sequences_from, IsFlat};
+    ghost use Rattle.mine_model.specs.Database.{sequences_of, AreWeighted};
 
-    ghost view = { λ d. sequences_from d.items.items 0 d.entries.items };
+    ghost view = { λ d. sequences_of d.sequences.lists d.weights.items };
 
-    ghost invariant = { λ d. IsFlat d.items.items d.entries.items };
+    ghost invariant = { λ d. AreWeighted d.sequences.lists d.weights.items };
 }
 
 impl Db {
@@ -45,8 +37,8 @@ impl Db {
         ensures { result ≡ [] }
     {
         Db {
-            items: Vec::new(alloc),
-            entries: Vec::new(alloc),
+            sequences: FlatLists::new(alloc),
+            weights: Vec::new(alloc),
         }
     }
 
@@ -56,7 +48,7 @@ impl Db {
         ensures most { result ≤ most_sequences }
         ensures limits { All IsWithinLimits self.now }
     {
-        self.entries.len() as u32
+        self.weights.len() as u32
     }
 
     /// The items of the sequence with this number, counted from 0. Takes no memory.
@@ -65,9 +57,7 @@ impl Db {
         ensures items { result.now ≡ (sequence_at self.now i).items }
         ensures most { length result.now ≤ most_length }
     {
-        let from = start(self.entries.as_slice(), i as usize);
-        let to = self.entries[i as usize].end;
-        &self.items[from..to]
+        self.sequences.list(i as usize)
     }
 
     /// The weight of the sequence with this number, counted from 0. Takes no memory.
@@ -77,7 +67,7 @@ impl Db {
         ensures least { 1 ≤ result }
         ensures most { result ≤ most_weight }
     {
-        self.entries[i as usize].weight
+        self.weights[i as usize]
     }
 
     /// Appends a sequence of weight 1.
@@ -100,18 +90,9 @@ impl Db {
             ≡ self.old ++ (record { items = items.now; weight = weight }) ∷ []) }
         ensures err { OnErr result (self.new ≡ self.old) }
     {
-        self.entries.reserve(1)?;
-        self.items.extend_from_slice(items)?;
-        let end = self.items.len();
-        self.entries.push(Entry { end, weight }).unwrap();
+        self.weights.reserve(1)?;
+        self.sequences.push(items)?;
+        self.weights.push_reserved(weight);
         Ok(())
     }
-}
-
-/// Where the sequence with this number begins among the items of all.
-fn start(entries: &[Entry], i: usize) -> usize
-    requires { i < length entries.now }
-    ensures { result ≡ start_of 0 entries.now i }
-{
-    if i == 0 { 0 } else { entries[i - 1].end }
 }

@@ -1,8 +1,9 @@
 ghost use Rattle.std.specs.Prelude.{◌≡◌, ◌≤◌, ◌<◌, ◌↔◌, max, length, All, Contains, IsTrue, OnOk, OnErr};
+ghost use Rattle.flat_lists.specs.Cuts.{start_of};
 ghost use Rattle.mine_model.specs.declared.item.Item.{Item};
 ghost use Rattle.mine_model.specs.Limits.{most_items, most_ancestors};
 ghost use Rattle.mine_model.specs.Hierarchy.{IsAncestor};
-ghost use Rattle.mine_model.specs.Ancestry.{AreAncestorLists, AreRising, Lists, start_of};
+ghost use Rattle.mine_model.specs.Ancestry.{AreAncestorLists, AreRising, Lists};
 
 use super::item::Item;
 use super::memory::NoMemory;

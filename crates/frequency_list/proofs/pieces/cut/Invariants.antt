@@ -1,5 +1,5 @@
 use Rattle.std.proofs.Common.{◌≡◌, ◌+◌, ◌*◌, ◌≤◌, length}
-use Rattle.mine_model.specs.Ancestry.{AreCut}
+use Rattle.flat_lists.specs.Cuts.{AreCut}
 use Rattle.frequency_list.proofs.pieces.cut.Given as goal
 
 abbrev pub invariant-loop : goal.invariant-loop

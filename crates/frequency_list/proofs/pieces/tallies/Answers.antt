@@ -4,7 +4,7 @@ use Rattle.std.specs.Global.{Vec}
 use Rattle.rayon.specs.Numbers.{nat_range}
 use Rattle.rayon.proofs.ToStd.{nat_range-All}
 use Rattle.mine_model.specs.declared.memory.NoMemory.{NoMemory}
-use Rattle.mine_model.specs.Ancestry.{list_at, AreCut}
+use Rattle.flat_lists.specs.Cuts.{list_at, AreCut}
 use Rattle.frequency_list.specs.Tallies.{IsTally}
 use Rattle.frequency_list.proofs.PieceLemmas.{AreTallies-collected}
 use Rattle.frequency_list.proofs.pieces.tallies.Goals as goal

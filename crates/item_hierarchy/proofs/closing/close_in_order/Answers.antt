@@ -1,6 +1,6 @@
 use Rattle.std.proofs.Common.{◌≡◌, ◌≤◌, ◌<◌, ℕ, length, ap, ◌∙◌, arith}
 use Rattle.mine_model.specs.Limits.{most_ancestors}
-use Rattle.mine_model.specs.Ancestry.{list_at}
+use Rattle.flat_lists.specs.Cuts.{list_at}
 use Rattle.item_hierarchy.specs.Edges.{links_of}
 use Rattle.item_hierarchy.specs.Gathering.{list_in, AreGathered}
 use Rattle.item_hierarchy.proofs.ClosingLemmas.{parts_of_all, few_pairs, are_lists, closes}

@@ -1,34 +1,43 @@
-use Rattle.std.proofs.Common.{◌<◌, List, length, arith, ap, ◌∙◌, sym}
+use Rattle.std.proofs.Common.{◌≡◌, ◌<◌, ◌≤◌, List, [], length, get_or, arith, ap, ◌∙◌, sym, subst}
+use Rattle.std.proofs.lemmas.List.{get_or_default}
 use Rattle.mine_model.specs.declared.item.Item.{Item}
-use Rattle.mine_model.specs.declared.database.Entry.{Entry}
+use Rattle.mine_model.specs.Limits.{most_weight}
 use Rattle.mine_model.specs.Support.{Sequence}
-use Rattle.mine_model.specs.Database.{sequence_at, IsEntry}
-use Rattle.mine_model.proofs.DatabaseLemmas.{length-sequences_from, sequence_at-entry, IsEntry-at}
+use Rattle.mine_model.specs.Database.{sequence_at, sequences_of, IsWithinLimits}
+use Rattle.mine_model.proofs.DatabaseLemmas.{length-sequences_of, sequence_at-of}
 use Rattle.mine_model.proofs.database.Db.weight.Goals as goal
+use Rattle.mine_model.proofs.database.Db.weight.Goals.{After-index}
 
 pub index-requires : goal.index-requires
 index-requires c =
-    let same = length-sequences_from c.self.inside.items.items 0 c.self.inside.entries.items in
-    let whole = ap length c.self.view_is in
-    omega (arith, same, whole, c.requires)
+    omega (arith, c.requires, length-sequences_of c.self.inside.sequences.lists c.self.inside.weights.items c.self.invariant.each, ap length c.self.view_is, c.self.invariant.each, c.self.inside.weights.ok.0)
 
-within : (c : goal.After-index) → c.args.i < length c.self.inside.entries.items
-within c =
-    let same = length-sequences_from c.self.inside.items.items 0 c.self.inside.entries.items in
-    let whole = ap length c.self.view_is in
-    omega (arith, same, whole, c.requires)
+module _ (c : After-index) where
+  within : c.args.i < length c.self.inside.sequences.lists
+  within =
+      omega (arith, c.requires, length-sequences_of c.self.inside.sequences.lists c.self.inside.weights.items c.self.invariant.each, ap length c.self.view_is)
 
-entry : (c : goal.After-index) → (from : _) × IsEntry from c.index.result.now
-entry c = (_, rw (← c.index.ensures) at (IsEntry-at _ 0 c.self.inside.entries.items c.args.i c.index.result.now c.self.invariant.follow (within c)))
+  weight : c.index.result.now ≡ (sequence_at (sequences_of c.self.inside.sequences.lists c.self.inside.weights.items) c.args.i).weight
+  weight =
+      c.index.ensures ∙ get_or_default c.self.inside.weights.items c.args.i c.index.result.now 0 (omega (arith, within, c.self.invariant.each))
+      ∙ sym (ap (λ (s : Sequence Item). s.weight) (sequence_at-of c.self.inside.sequences.lists c.self.inside.weights.items c.args.i c.self.invariant.each within))
+
+  limits : IsWithinLimits (sequence_at (sequences_of c.self.inside.sequences.lists c.self.inside.weights.items) c.args.i)
+  limits =
+      let count = length-sequences_of c.self.inside.sequences.lists c.self.inside.weights.items c.self.invariant.each in
+      c.self.invariant.limits c.args.i (record { items = []; weight = 0 }) (omega (arith, count, within))
 
 pub returns-clause-weight : goal.returns-clause-weight
 returns-clause-weight c =
-    ap (λ (e : Entry). e.weight) c.index.ensures
-    ∙ sym (ap (λ (s : Sequence Item). s.weight) (sequence_at-entry c.self.inside.items.items 0 c.self.inside.entries.items c.args.i c.index.result.now (within c)))
-    ∙ ap (λ (w : List (Sequence Item)). (sequence_at w c.args.i).weight) c.self.view_is
+    let at = (goal.at.returns-clause-weight c).After-index in
+    weight at ∙ ap (λ (w : List (Sequence Item)). (sequence_at w c.args.i).weight) c.self.view_is
 
 pub returns-clause-least : goal.returns-clause-least
-returns-clause-least c = (entry c).1.least
+returns-clause-least c =
+    let at = (goal.at.returns-clause-least c).After-index in
+    omega (arith, weight at, (limits at).least)
 
 pub returns-clause-most : goal.returns-clause-most
-returns-clause-most c = (entry c).1.most
+returns-clause-most c =
+    let at = (goal.at.returns-clause-most c).After-index in
+    omega (arith, weight at, (limits at).most)

@@ -2,8 +2,10 @@ use Rattle.std.proofs.Common.{◌≡◌, ◌≤◌, ◌<◌, ◌↔◌, length, 
 use Rattle.std.specs.List.{slice_range, slice_index, All, Contains}
 use Rattle.std.proofs.lemmas.List.{get_or_default}
 use Rattle.mine_model.specs.Hierarchy.{IsAncestor}
-use Rattle.mine_model.specs.Ancestry.{Ancestry, start_of, list_at}
-use Rattle.mine_model.proofs.AncestryLemmas.{end_within, listed_from_walk, walk_from_listed, list_read, members_within}
+use Rattle.flat_lists.specs.Cuts.{start_of, list_at}
+use Rattle.flat_lists.proofs.CutLemmas.{end_within}
+use Rattle.mine_model.specs.Ancestry.{Ancestry}
+use Rattle.mine_model.proofs.AncestryLemmas.{listed_from_walk, walk_from_listed, list_read, members_within}
 use Rattle.mine_model.proofs.hierarchy.Hierarchy.ancestors.Goals as goal
 use Rattle.mine_model.proofs.hierarchy.Hierarchy.ancestors.Goals.{After-deref}
 
