@@ -35,7 +35,7 @@ module _ (problem : Problem) (whole : IsWhole problem)
       (λ v frequent. HasFrequency-within problem.hierarchy.links problem.hierarchy.items ends problem.sequences v frequent.frequency whole.items frequent.exact
       (omega (arith, whole.least, frequent.enough)))
       row.pattern
-      (frequent-items problem.hierarchy.links problem.sequences items-known problem.threshold (tree_of problem.machine.expression) row.pattern row.support is.exact is.enough)
+      (frequent-items problem.hierarchy.links problem.sequences items-known problem.threshold (tree_of problem.transducer.expression) row.pattern row.support is.exact is.enough)
 
   module _ (seeds : List PartSeed) (are : AreSeeds problem seeds) (workers : ℕ) (some : 1 ≤ workers)
       (results : List (Result Done NoMemory)) (tried : AreTried problem seeds workers results) (all : Done) (gathered : AreGathered results all) where

@@ -41,7 +41,7 @@ module _ (space : Space) (depth rank position : ℕ) where
   -- the state of the next place is one of the transducer
   pub next-within : (before waiting rest : List Place) (live_before live state : ℕ) (ended : Bool) → Absorbs space depth rank position before waiting live_before live ended
       → waiting ≡ rest ++ (record { depth = depth; rank = rank; position = position; state = state }) ∷ []
-      → ((place : Place) → Contains before place → IsPlace space place) → state ≤ length space.problem.machine.labels
+      → ((place : Place) → Contains before place → IsPlace space place) → state ≤ length space.problem.transducer.labels
   next-within before waiting rest live_before live state ended so_far next_is places =
       let (taken, same) = so_far.cut in
       let held : Contains before (record { depth = depth; rank = rank; position = position; state = state }) = front-held before waiting taken _ same (last-held waiting rest _ next_is) in
@@ -50,7 +50,7 @@ module _ (space : Space) (depth rank position : ℕ) where
   module _ (before waiting rest : List Place) (live_before live now state : ℕ) (ended : Bool)
       (so_far : Absorbs space depth rank position before waiting live_before live ended)
       (next_is : waiting ≡ rest ++ (record { depth = depth; rank = rank; position = position; state = state }) ∷ [])
-      (within : state ≤ length space.problem.machine.labels)
+      (within : state ≤ length space.problem.transducer.labels)
       (adds : (other : ℕ) → Has now other ↔ (Has live other ⊎ ((other ≡ state) × WritesMore space position state))) where
     cut-more : (taken : List Place) × (before ≡ rest ++ taken)
     cut-more = let (taken, same) = so_far.cut in (
@@ -103,7 +103,7 @@ module _ (space : Space) (depth rank position : ℕ) where
     states-more : AreStates space now
     states-more s has = elim ((adds s).0 has) [
       | inl had ↦ so_far.states s had
-      | inr (same, writes) ↦ subst (λ q. q ≤ length space.problem.machine.labels) (sym same) within
+      | inr (same, writes) ↦ subst (λ q. q ≤ length space.problem.transducer.labels) (sym same) within
     ]
 
     -- where a path can end at the place, and where none can

@@ -42,7 +42,7 @@ module _ (space : Space) (depth position state : ℕ) (found now : List Place) (
     ]),
   )
 
-  pub adds-pushed : state ≤ length space.problem.machine.labels → AddsPlaces space depth position found now
+  pub adds-pushed : state ≤ length space.problem.transducer.labels → AddsPlaces space depth position found now
   adds-pushed within place inside = elim (Contains-append_cases found (places_of depth position state ranks) place (subst (λ l. Contains l place) pushed inside)) [
     | inl old ↦ inl old
     | inr new ↦
@@ -50,7 +50,7 @@ module _ (space : Space) (depth position state : ℕ) (found now : List Place) (
         inr (
           ap (λ (p : Place). p.depth) same,
           ap (λ (p : Place). p.position) same,
-          subst (λ q. q ≤ length space.problem.machine.labels) (sym (ap (λ (p : Place). p.state) same)) within,
+          subst (λ q. q ≤ length space.problem.transducer.labels) (sym (ap (λ (p : Place). p.state) same)) within,
         )
   ]
 

@@ -38,7 +38,7 @@ written-captured links leaf captured t v writes = elim (writes-cases links leaf 
 ]
 
 module _ (space : Space) (position : ℕ) (inside : position < length space.sequence)
-    (labelled : (state : ℕ) (edge : Edge) → Contains (edges_from space.problem.machine state) edge → Enters space.problem.machine.labels edge) where
+    (labelled : (state : ℕ) (edge : Edge) → Contains (edges_from space.problem.transducer state) edge → Enters space.problem.transducer.labels edge) where
   pub item-there : (t : Item) × (slice_get space.sequence position ≡ Some t) × (drop position space.sequence ≡ t ∷ drop (position + 1) space.sequence)
   item-there = (
     get_or space.sequence position (record { 0 = 0 }),
@@ -47,17 +47,17 @@ module _ (space : Space) (position : ℕ) (inside : position < length space.sequ
   )
 
   -- what an edge reads there and writes, by the label of the state that it leads to
-  reads-edge : (state : ℕ) (edge : Edge) (output : List Item) (t : Item) → Contains (edges_from space.problem.machine state) edge
+  reads-edge : (state : ℕ) (edge : Edge) (output : List Item) (t : Item) → Contains (edges_from space.problem.transducer state) edge
       → Matches space.problem.hierarchy.links (leaf_of edge.leaf) t → WritesAt space.problem.hierarchy.links (leaf_of edge.leaf) edge.captured t output
       → Reads space.problem t edge.to.0 output
   reads-edge state edge output t leaves matches writes =
-      (record { leaf = edge.leaf; captured = edge.captured }, label_at_edge space.problem.machine.labels edge (labelled state edge leaves), matches, writes)
+      (record { leaf = edge.leaf; captured = edge.captured }, label_at_edge space.problem.transducer.labels edge (labelled state edge leaves), matches, writes)
 
-  edge-reads : (state : ℕ) (edge : Edge) (output : List Item) (t : Item) → Contains (edges_from space.problem.machine state) edge
+  edge-reads : (state : ℕ) (edge : Edge) (output : List Item) (t : Item) → Contains (edges_from space.problem.transducer state) edge
       → Reads space.problem t edge.to.0 output
       → Matches space.problem.hierarchy.links (leaf_of edge.leaf) t × WritesAt space.problem.hierarchy.links (leaf_of edge.leaf) edge.captured t output
   edge-reads state edge output t leaves (label, at, matches, writes) =
-      let own = label_at_edge space.problem.machine.labels edge (labelled state edge leaves) in
+      let own = label_at_edge space.problem.transducer.labels edge (labelled state edge leaves) in
       let same : label ≡ record { leaf = edge.leaf; captured = edge.captured } = cc in
       let leaf_is : label.leaf ≡ edge.leaf = ap (λ (l : Label). l.leaf) same in
       let captured_is : label.captured ≡ edge.captured = ap (λ (l : Label). l.captured) same in (
@@ -66,7 +66,7 @@ module _ (space : Space) (position : ℕ) (inside : position < length space.sequ
             (subst (λ l. WritesAt space.problem.hierarchy.links (leaf_of l) label.captured t output) leaf_is writes),
       )
 
-  module _ (live targets : ℕ) (leads : (to : ℕ) → Has targets to ↔ LeadsFrom space.problem.machine live to) (next : ℕ) (others : List ℕ) where
+  module _ (live targets : ℕ) (leads : (to : ℕ) → Has targets to ↔ LeadsFrom space.problem.transducer live to) (next : ℕ) (others : List ℕ) where
     live-out : FollowsLive space position live (next ∷ others) → (to : ℕ) × Has targets to × FollowsInto space position to next others
     live-out (state, has, path) =
         let (t, at, cut) = item-there in
@@ -159,7 +159,7 @@ module _ (space : Space) (depth position targets : ℕ) (before : List Place) wh
 
   pub step-more : (inside : position < length space.sequence) (done left : List ℕ) (found now : List Place) (live after state : ℕ) (later : List ℕ)
       → IsStepSoFar space depth position targets done left before found live
-      → left ≡ state ∷ later → state ≤ length space.problem.machine.labels
+      → left ≡ state ∷ later → state ≤ length space.problem.transducer.labels
       → ((t : Item) → slice_get space.sequence position ≡ Some t → (other : ℕ) → Has after other
       ↔ (Has live other ⊎ ((other ≡ state) × Reads space.problem t state [] × WritesMore space (position + 1) state)))
       → ((t : Item) → slice_get space.sequence position ≡ Some t → (next : ℕ) (others : List ℕ) → FollowsFound space now next others
@@ -175,7 +175,7 @@ module _ (space : Space) (depth position targets : ℕ) (before : List Place) wh
         ahead = λ next others. (out next others (get_or space.sequence position (record { 0 = 0 })) at, back next others);
         states = λ s has. elim ((silent (get_or space.sequence position (record { 0 = 0 })) at s).0 has) [
           | inl had ↦ so_far.states s had
-          | inr (is, reads, more) ↦ subst (λ k. k ≤ length space.problem.machine.labels) (sym is) within
+          | inr (is, reads, more) ↦ subst (λ k. k ≤ length space.problem.transducer.labels) (sym is) within
         ];
         places = λ place held. elim (adds place held) [ inl old ↦ so_far.places place old | inr new ↦ inr new ];
       }
@@ -249,8 +249,8 @@ module _ (space : Space) (depth position targets : ℕ) (before : List Place) wh
 
 -- what is ahead of the live states is what is ahead of the states that they lead to
 pub step-live : (space : Space) (position : ℕ) → position < length space.sequence
-    → ((state : ℕ) (edge : Edge) → Contains (edges_from space.problem.machine state) edge → Enters space.problem.machine.labels edge)
-    → (before found : List Place) (live targets after : ℕ) → ((to : ℕ) → Has targets to ↔ LeadsFrom space.problem.machine live to)
+    → ((state : ℕ) (edge : Edge) → Contains (edges_from space.problem.transducer state) edge → Enters space.problem.transducer.labels edge)
+    → (before found : List Place) (live targets after : ℕ) → ((to : ℕ) → Has targets to ↔ LeadsFrom space.problem.transducer live to)
     → ((next : ℕ) (others : List ℕ) → IsAhead space (position + 1) after found next others
     ↔ (FollowsFound space before next others ⊎ ((to : ℕ) × Has targets to × FollowsInto space position to next others)))
     → (next : ℕ) (others : List ℕ) → IsAhead space position live before next others ↔ IsAhead space (position + 1) after found next others

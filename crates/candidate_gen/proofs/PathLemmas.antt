@@ -12,7 +12,7 @@ use Rattle.candidate_gen.specs.Paths.{Space, Writes, IsRead, WritesBehind}
 
 module _ (space : Space) where
   -- at the end of the sequence a path writes nothing more
-  pub writes-end : (state : ℕ) (ranks : List ℕ) → Writes space [] state ranks ↔ (Has space.problem.machine.finals state × (ranks ≡ []))
+  pub writes-end : (state : ℕ) (ranks : List ℕ) → Writes space [] state ranks ↔ (Has space.problem.transducer.finals state × (ranks ≡ []))
   writes-end state ranks = (
     (λ w. let (output, path, ranked) = w in
         (path.0, ranked-none space.problem.ranking.order ranks (subst (λ o. AreRanked space.problem.ranking.order o ranks) path.1 ranked))),

@@ -35,7 +35,7 @@ module _ (space : Space) (rest : List Item) (state : ℕ) where
   ]
     where
       by : (o : List Item) (v : Item) → Contains o v → (ranks : List ℕ) → AreRanked space.problem.ranking.order o ranks
-          → IsPath space.problem.hierarchy.links space.problem.machine state rest o
+          → IsPath space.problem.hierarchy.links space.problem.transducer state rest o
           → (next : ℕ) × (others : List ℕ) × Writes space rest state (next ∷ others)
       by [] v inside ranks ranked path = absurd (Contains-none v inside)
       by (w ∷ o) v inside [] ranked path = absurd ranked
@@ -76,7 +76,7 @@ module _ (space : Space) (rest : List Item) (state : ℕ) where
     (λ h. let (output, path, ranked) = h in by output path ranked),
   )
     where
-      by : (o : List Item) → IsPath space.problem.hierarchy.links space.problem.machine state rest o
+      by : (o : List Item) → IsPath space.problem.hierarchy.links space.problem.transducer state rest o
           → AreRanked space.problem.ranking.order o [] → Ends space.problem rest state
       by [] path ranked = path
       by (v ∷ o) path ranked = absurd ranked

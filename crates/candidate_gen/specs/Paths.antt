@@ -16,13 +16,13 @@ pub record Space : Type 0 where
 -- a path from the state to the end of the rest writes frequent items, and these are their ranks
 abbrev pub Writes : Space → List Item → ℕ → List ℕ → Type 0
 Writes space rest state ranks =
-    (output : List Item) × IsPath space.problem.hierarchy.links space.problem.machine state rest output
+    (output : List Item) × IsPath space.problem.hierarchy.links space.problem.transducer state rest output
     × AreRanked space.problem.ranking.order output ranks
 
 -- the edge leaves the state, and reads t
 abbrev pub IsRead : Space → Item → ℕ → Edge → Type 0
 IsRead space t state edge =
-    Contains (edges_from space.problem.machine state) edge
+    Contains (edges_from space.problem.transducer state) edge
     × Matches space.problem.hierarchy.links (leaf_of edge.leaf) t
 
 -- behind the edge, which writes nothing, or one of its outputs, a path writes the rest of the ranks

@@ -21,7 +21,7 @@ grown path depth rank = take (depth - 1) path ++ rank ∷ []
 pub record IsPlace (space : Space) (place : Place) : Type 0 where
   pub short : place.depth ≤ place.position
   pub within : place.position ≤ length space.sequence
-  pub state : place.state ≤ length space.problem.machine.labels
+  pub state : place.state ≤ length space.problem.transducer.labels
 
 -- the upper place is to be taken before the lower one: longer prefixes first, then by rank, then by position
 pub record IsBelow (lower upper : Place) : Type 0 where

@@ -24,14 +24,14 @@ FollowsInto space position state next others =
 
 -- each state of the set is one of the transducer
 abbrev pub AreStates : Space → ℕ → Type 0
-AreStates space states = (state : ℕ) → Has states state → state ≤ length space.problem.machine.labels
+AreStates space states = (state : ℕ) → Has states state → state ≤ length space.problem.transducer.labels
 
 -- to the places that were found such of this depth at this position were added
 abbrev pub AddsPlaces : Space → ℕ → ℕ → List Place → List Place → Type 0
 AddsPlaces space depth position before after =
     (place : Place) → Contains after place → Contains before place
     ⊎ ((place.depth ≡ depth) × (place.position ≡ position)
-    × (place.state ≤ length space.problem.machine.labels))
+    × (place.state ≤ length space.problem.transducer.labels))
 
 -- what was ahead or waited with the prefix is ahead or waits, where places of the prefix at the position were
 -- taken

@@ -11,4 +11,4 @@ pub record IsView (grids : GridList) (count : ℕ) : Type 0 where
   pub whole : IsWhole grids.problem
   pub count_is : count ≡ length (items_at grids 0)
   pub short : count ≤ most_length
-  pub few : length grids.problem.machine.labels ≤ 1024
+  pub few : length grids.problem.transducer.labels ≤ 1024

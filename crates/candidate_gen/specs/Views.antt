@@ -25,4 +25,4 @@ WritesAs problem t state rank = (v : Item) × HasRank problem.ranking.order v ra
 -- there is room for the sequence and the states
 pub record IsSmall (space : Space) : Type 0 where
   pub short : length space.sequence ≤ most_length
-  pub few : length space.problem.machine.labels ≤ 1024
+  pub few : length space.problem.transducer.labels ≤ 1024

@@ -42,9 +42,9 @@ fn take_state<const W: usize>(
     state: u32,
     live: &mut StateSet<W>,
 ) -> bool
-    requires room { length view.now.problem.machine.labels < 64 * W }
+    requires room { length view.now.problem.transducer.labels < 64 * W }
     requires position { position ≤ length view.now.sequence }
-    requires state { state ≤ length view.now.problem.machine.labels }
+    requires state { state ≤ length view.now.problem.transducer.labels }
     ensures live { (other : ℕ) → Has live.new other
         ↔ (Has live.old other ⊎ ((other ≡ state) × WritesMore view.now position state)) }
     ensures ends { IsTrue result ↔ Writes view.now (drop position view.now.sequence) state [] }
@@ -65,7 +65,7 @@ fn absorb<const W: usize>(
     waiting: &mut Vec<Place>,
     live: &mut StateSet<W>,
 ) -> bool
-    requires room { length view.now.problem.machine.labels < 64 * W }
+    requires room { length view.now.problem.transducer.labels < 64 * W }
     requires position { position ≤ length view.now.sequence }
     requires places { (place : Place) → Contains waiting.old.items place → IsPlace view.now place }
     requires states { AreStates view.now live.old }
@@ -112,10 +112,10 @@ fn push_places(
 /// more can then be written.
 fn enter_silently<const W: usize>(view: &View, position: u32, state: u32, live: &mut StateSet<W>)
     requires small { IsSmall view.now }
-    requires room { length view.now.problem.machine.labels < 64 * W }
+    requires room { length view.now.problem.transducer.labels < 64 * W }
     requires position { position < length view.now.sequence }
     requires start { 0 < state }
-    requires state { state ≤ length view.now.problem.machine.labels }
+    requires state { state ≤ length view.now.problem.transducer.labels }
     ensures { (t : Item) → slice_get view.now.sequence position ≡ Some t → (other : ℕ) → Has live.new other
         ↔ (Has live.old other ⊎ ((other ≡ state) × Reads view.now.problem t state []
         × WritesMore view.now (position + 1) state)) }
@@ -140,7 +140,7 @@ fn enter_writing(
     requires small { IsSmall view.now }
     requires position { position < length view.now.sequence }
     requires start { 0 < state }
-    requires state { state ≤ length view.now.problem.machine.labels }
+    requires state { state ≤ length view.now.problem.transducer.labels }
     ensures found { OnOk result ((t : Item) → slice_get view.now.sequence position ≡ Some t
         → (next : ℕ) (others : List ℕ) → FollowsFound view.now found.new.items next others
         ↔ (FollowsFound view.now found.old.items next others ⊎ (WritesAs view.now.problem t state next
@@ -165,11 +165,11 @@ fn enter_all<const W: usize>(
     found: &mut Vec<Place>,
 ) -> Result<StateSet<W>, NoMemory>
     requires width { W ≤ 17 }
-    requires room { length view.now.problem.machine.labels < 64 * W }
+    requires room { length view.now.problem.transducer.labels < 64 * W }
     requires small { IsSmall view.now }
     requires position { position < length view.now.sequence }
     requires targets { (to : ℕ) → Has targets.now to
-        → (0 < to) × (to ≤ length view.now.problem.machine.labels) }
+        → (0 < to) × (to ≤ length view.now.problem.transducer.labels) }
     ensures ahead { IfOk result (λ after. (next : ℕ) (others : List ℕ)
         → IsAhead view.now (position + 1) after found.new.items next others
         ↔ (FollowsFound view.now found.old.items next others
@@ -197,7 +197,7 @@ fn step<const W: usize>(
     found: &mut Vec<Place>,
 ) -> Result<StateSet<W>, NoMemory>
     requires width { W ≤ 17 }
-    requires successors { AreSuccessors W view.now.problem.machine successors.now }
+    requires successors { AreSuccessors W view.now.problem.transducer successors.now }
     requires small { IsSmall view.now }
     requires states { AreStates view.now live.now }
     ensures ahead { IfOk result (λ after. (next : ℕ) (others : List ℕ)
@@ -256,7 +256,7 @@ pub(crate) fn advance<const W: usize>(
     found: &mut Vec<Place>,
 ) -> Result<bool, NoMemory>
     requires width { W ≤ 17 }
-    requires successors { AreSuccessors W view.now.problem.machine successors.now }
+    requires successors { AreSuccessors W view.now.problem.transducer successors.now }
     requires small { IsSmall view.now }
     requires sorted { AllPairs IsBelow waiting.old.items }
     requires below { (place : Place) → Contains waiting.old.items place

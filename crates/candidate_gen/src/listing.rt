@@ -48,7 +48,7 @@ impl<'a> Model for CandidateList<'a> {
 
     ghost use Rattle.sequence_grids.specs.Successors.{AreSuccessorsOf};
 
-    ghost invariant = { λ c. IsGridOf c.job.now c.grids × AreSuccessorsOf c.job.now.machine c.successors };
+    ghost invariant = { λ c. IsGridOf c.job.now c.grids × AreSuccessorsOf c.job.now.transducer c.successors };
 }
 
 impl<'a> CandidateList<'a> {

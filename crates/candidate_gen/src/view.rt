@@ -61,7 +61,7 @@ impl<'a, 'b> View<'a, 'b> {
     /// one.
     pub(crate) fn writes_more(&self, position: u32, state: u32) -> bool
         requires position { position ≤ length self.now.sequence }
-        requires state { state ≤ length self.now.problem.machine.labels }
+        requires state { state ≤ length self.now.problem.transducer.labels }
         ensures { IsTrue result ↔ WritesMore self.now position state }
     {
         self.grids.completes(0, position, State(state), false)
@@ -70,7 +70,7 @@ impl<'a, 'b> View<'a, 'b> {
     /// Whether a path from the state over the rest of the sequence writes frequent items alone.
     pub(crate) fn goes_on(&self, position: u32, state: u32) -> bool
         requires position { position ≤ length self.now.sequence }
-        requires state { state ≤ length self.now.problem.machine.labels }
+        requires state { state ≤ length self.now.problem.transducer.labels }
         ensures { IsTrue result
             ↔ ((ranks : List ℕ) × Writes self.now (drop position self.now.sequence) state ranks) }
     {
@@ -80,7 +80,7 @@ impl<'a, 'b> View<'a, 'b> {
     /// Whether a path from the state over the rest of the sequence writes nothing.
     pub(crate) fn ends(&self, position: u32, state: u32) -> bool
         requires position { position ≤ length self.now.sequence }
-        requires state { state ≤ length self.now.problem.machine.labels }
+        requires state { state ≤ length self.now.problem.transducer.labels }
         ensures { IsTrue result ↔ Writes self.now (drop position self.now.sequence) state [] }
     {
         self.grids.ends(0, position, State(state))
@@ -90,7 +90,7 @@ impl<'a, 'b> View<'a, 'b> {
     pub(crate) fn is_silent(&self, position: u32, state: u32) -> bool
         requires position { position < length self.now.sequence }
         requires start { 0 < state }
-        requires state { state ≤ length self.now.problem.machine.labels }
+        requires state { state ≤ length self.now.problem.transducer.labels }
         ensures { (t : Item) → slice_get self.now.sequence position ≡ Some t
             → (IsTrue result ↔ Reads self.now.problem t state []) }
     {
@@ -101,7 +101,7 @@ impl<'a, 'b> View<'a, 'b> {
     pub(crate) fn outputs(&self, position: u32, state: u32) -> &[u32]
         requires position { position < length self.now.sequence }
         requires start { 0 < state }
-        requires state { state ≤ length self.now.problem.machine.labels }
+        requires state { state ≤ length self.now.problem.transducer.labels }
         ensures { (t : Item) (rank : ℕ) → slice_get self.now.sequence position ≡ Some t
             → (Contains result.now rank ↔ WritesAs self.now.problem t state rank) }
     {

@@ -54,7 +54,7 @@ impl Walk {
         successors: &Successors,
         listed: &mut FlatLists<u32>,
     ) -> Result<(), NoMemory>
-        requires successors { AreSuccessorsOf view.now.problem.machine successors.now }
+        requires successors { AreSuccessorsOf view.now.problem.transducer successors.now }
         requires none { listed.old.lists ≡ [] }
         ensures { OnOk result (AreWritten view.now listed.new.lists) }
     {
@@ -73,7 +73,7 @@ impl Walk {
         listed: &mut FlatLists<u32>,
     ) -> Result<(), NoMemory>
         requires width { W ≤ 17 }
-        requires successors { AreSuccessors W view.now.problem.machine successors.now }
+        requires successors { AreSuccessors W view.now.problem.transducer successors.now }
         requires none { listed.old.lists ≡ [] }
         ensures { OnOk result (AreWritten view.now listed.new.lists) }
     {
@@ -92,7 +92,7 @@ impl Walk {
         successors: &[StateSet<W>],
     ) -> Result<(), NoMemory>
         requires width { W ≤ 17 }
-        requires successors { AreSuccessors W view.now.problem.machine successors.now }
+        requires successors { AreSuccessors W view.now.problem.transducer successors.now }
         requires small { IsSmall view.now }
         ensures path { OnOk result (self.new.path.items ≡ []) }
         ensures found { OnOk result (self.new.found.items ≡ []) }
@@ -131,7 +131,7 @@ impl Walk {
         listed: &mut FlatLists<u32>,
     ) -> Result<(), NoMemory>
         requires width { W ≤ 17 }
-        requires successors { AreSuccessors W view.now.problem.machine successors.now }
+        requires successors { AreSuccessors W view.now.problem.transducer successors.now }
         requires small { IsSmall view.now }
         requires waiting { AreWaiting view.now self.old.path.items self.old.waiting.items }
         requires top { (front : List Place) × (self.old.waiting.items ≡ front ++ top ∷ []) }

@@ -123,11 +123,11 @@ module _ (problem : Problem) (whole : IsWhole problem) where
   module _ (ends : All (λ link. (link.child.0 < problem.hierarchy.items) × (link.parent.0 < problem.hierarchy.items)) problem.hierarchy.links) where
     -- from the threshold on a support is what is counted of candidates
     by_candidates : (pattern : List Item) (n : ℕ) → problem.threshold ≤ n
-        → HasSupport problem.hierarchy.links (tree_of problem.machine.expression) problem.sequences pattern n ↔ Counts (IsCandidateFrom pattern) problem.sequences n
+        → HasSupport problem.hierarchy.links (tree_of problem.transducer.expression) problem.sequences pattern n ↔ Counts (IsCandidateFrom pattern) problem.sequences n
     by_candidates pattern n enough =
         support-by_candidates problem.hierarchy.links problem.sequences
         (frequencies-known problem.hierarchy.links problem.hierarchy.items ends problem.sequences problem.ranking.frequencies whole.items whole.ranked whole.ranks.exact)
-        problem.threshold IsFrequentOf (λ w is. is) (tree_of problem.machine.expression) pattern n whole.least enough
+        problem.threshold IsFrequentOf (λ w is. is) (tree_of problem.transducer.expression) pattern n whole.least enough
 
     frequent_of_row : (home : ℕ) (row : Row) → IsRowOf problem home row → IsFrequent (data_of problem) row.pattern row.support
     frequent_of_row home row r =

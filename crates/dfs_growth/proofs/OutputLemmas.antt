@@ -132,35 +132,35 @@ module _ (problem : Problem) where
   -- WHAT THE PATHS WRITE
 
   pub outputs-forth : (items : List Item) (state : ℕ) (ranks : List ℕ) → Contains (outputs_from problem state items) ranks
-      → (output : List Item) × IsPath problem.hierarchy.links problem.machine state items output × AreRanked problem.ranking.order output ranks
+      → (output : List Item) × IsPath problem.hierarchy.links problem.transducer state items output × AreRanked problem.ranking.order output ranks
   unfolding outputs_from Has
-  outputs-forth [] state ranks held = go (eqb (bit_at problem.machine.finals state) 1) refl held
+  outputs-forth [] state ranks held = go (eqb (bit_at problem.transducer.finals state) 1) refl held
     where
-      go : (b : Bool) → eqb (bit_at problem.machine.finals state) 1 ≡ b → Contains (cond b ([] ∷ []) []) ranks
-          → (output : List Item) × IsPath links problem.machine state [] output × AreRanked order output ranks
+      go : (b : Bool) → eqb (bit_at problem.transducer.finals state) 1 ≡ b → Contains (cond b ([] ∷ []) []) ranks
+          → (output : List Item) × IsPath links problem.transducer state [] output × AreRanked order output ranks
       go true is held = elim (Contains-cases [] [] ranks held) [
-        | inl none ↦ ([], (eqb-true (bit_at problem.machine.finals state) 1 is, refl), subst (AreRanked order []) (sym none) tt)
+        | inl none ↦ ([], (eqb-true (bit_at problem.transducer.finals state) 1 is, refl), subst (AreRanked order []) (sym none) tt)
         | inr never ↦ absurd (Contains-none ranks never)
       ]
       go false is held = absurd (Contains-none ranks held)
   outputs-forth (t ∷ items) state ranks held =
-      let (edge, leaves, part) = flat-cases (λ (edge : Edge). outputs_by problem edge t (outputs_from problem edge.to.0 items)) (edges_from problem.machine state) ranks held in
+      let (edge, leaves, part) = flat-cases (λ (edge : Edge). outputs_by problem edge t (outputs_from problem edge.to.0 items)) (edges_from problem.transducer state) ranks held in
       let (does, (here, there, first, rest, same)) = by_forth edge t (outputs_from problem edge.to.0 items) ranks part in
       let (front, writes, ranked) = written-forth edge t here first in
       let (back, path, later) = outputs-forth items edge.to.0 there rest in
       (front ++ back, (edge, front, back, leaves, does, writes, refl, path), subst (AreRanked order (front ++ back)) (sym same) (ranked-append order front back here there ranked later))
 
-  pub outputs-back : (items : List Item) (state : ℕ) (output : List Item) (ranks : List ℕ) → IsPath problem.hierarchy.links problem.machine state items output
+  pub outputs-back : (items : List Item) (state : ℕ) (output : List Item) (ranks : List ℕ) → IsPath problem.hierarchy.links problem.transducer state items output
       → AreRanked problem.ranking.order output ranks → Contains (outputs_from problem state items) ranks
   unfolding outputs_from Has
   outputs-back [] state output ranks (final, none) ranked =
       let same : ranks ≡ [] = ranked-none order ranks (subst (λ l. AreRanked order l ranks) none ranked) in
-      subst (λ b. Contains (cond b ([] ∷ []) []) ranks) (sym (eq-eqb (bit_at problem.machine.finals state) 1 final))
+      subst (λ b. Contains (cond b ([] ∷ []) []) ranks) (sym (eq-eqb (bit_at problem.transducer.finals state) 1 final))
       (subst (Contains ([] ∷ [])) (sym same) (Contains-first [] []))
   outputs-back (t ∷ items) state output ranks (edge, here, there, leaves, does, writes, same, path) ranked =
       let (front, back, cut, first, rest) = ranked-cut order here there ranks (subst (λ l. AreRanked order l ranks) same ranked) in
       subst (Contains (outputs_from problem state (t ∷ items))) (sym cut)
-      (flat-held (λ (edge : Edge). outputs_by problem edge t (outputs_from problem edge.to.0 items)) (edges_from problem.machine state) edge (front ++ back) leaves
+      (flat-held (λ (edge : Edge). outputs_by problem edge t (outputs_from problem edge.to.0 items)) (edges_from problem.transducer state) edge (front ++ back) leaves
       (by_back edge t (outputs_from problem edge.to.0 items) front back does (written-back edge t here front writes first) (outputs-back items edge.to.0 there back path rest)))
 
   module _ (whole : IsWhole problem) where
@@ -177,9 +177,9 @@ module _ (problem : Problem) where
         let (pattern, path, ranked) = outputs-forth items 0 output held in
         let (front, back, joined, first, rest) = ranked-split order pattern ranks others (subst (AreRanked order pattern) cut ranked) in
         let some : pattern ≢ [] = items_of_some order pattern output ranked (some-rank output both.0) in
-        let is_pattern : IsPatternOf links (tree_of problem.machine.expression) items pattern = (some, (whole.paths links items pattern).0 path) in
+        let is_pattern : IsPatternOf links (tree_of problem.transducer.expression) items pattern = (some, (whole.paths links items pattern).0 path) in
         let within : IsWithinPivot order pivot pattern = (within-Decides order whole.ranks.once pivot pattern output ranked).0 tests.1 in
-        (front, first, (back, subst (IsPatternOf links (tree_of problem.machine.expression) items) {y = front ++ back} joined is_pattern, subst (IsWithinPivot order pivot) {y = front ++ back} joined within))
+        (front, first, (back, subst (IsPatternOf links (tree_of problem.transducer.expression) items) {y = front ++ back} joined is_pattern, subst (IsWithinPivot order pivot) {y = front ++ back} joined within))
 
     pub grows-back : (pivot : ℕ) (prefix : List Item) (ranks : List ℕ) (items : List Item) → AreRanked problem.ranking.order prefix ranks
         → HasPatternBehind (data_of problem) (IsWithinPivot problem.ranking.order pivot) prefix items → grows problem pivot ranks items ≡ true
@@ -197,7 +197,7 @@ module _ (problem : Problem) where
     -- items that generate ranks have the pattern with these ranks
     pub generates-forth : (ranks : List ℕ) (items : List Item) → generates problem ranks items ≡ true
         → (pattern : List Item) × AreRanked problem.ranking.order pattern ranks
-        × IsPatternOf problem.hierarchy.links (tree_of problem.machine.expression) items pattern
+        × IsPatternOf problem.hierarchy.links (tree_of problem.transducer.expression) items pattern
     unfolding generates
     generates-forth ranks items passes =
         let (output, held, is) = any-held (λ output. is_some_rank output && bytes_eq ranks output) (outputs_from problem 0 items) passes in
@@ -210,7 +210,7 @@ module _ (problem : Problem) where
         )
 
     pub generates-back : (pattern : List Item) (ranks : List ℕ) (items : List Item) → AreRanked problem.ranking.order pattern ranks
-        → IsPatternOf problem.hierarchy.links (tree_of problem.machine.expression) items pattern → generates problem ranks items ≡ true
+        → IsPatternOf problem.hierarchy.links (tree_of problem.transducer.expression) items pattern → generates problem ranks items ≡ true
     unfolding generates
     generates-back pattern ranks items ranked is =
         any-back (λ output. is_some_rank output && bytes_eq ranks output) (outputs_from problem 0 items) ranks

@@ -69,9 +69,9 @@ module _ (problem : Problem) (seed : PartSeed) (complete : IsComplete problem se
 
   -- items generate the prefix with these ranks where it is a pattern of theirs
   pub generates-within : (pattern : List Item) (ranks : List ℕ) → AreRanked problem.ranking.order pattern ranks → Within pattern
-      → (items : List Item) → GeneratesWithin (part_of problem seed) ranks items ↔ IsPatternOf problem.hierarchy.links (tree_of problem.machine.expression) items pattern
+      → (items : List Item) → GeneratesWithin (part_of problem seed) ranks items ↔ IsPatternOf problem.hierarchy.links (tree_of problem.transducer.expression) items pattern
   generates-within pattern ranks ranked inside items = (
-    (λ (other, also, is, bounded). subst (IsPatternOf problem.hierarchy.links (tree_of problem.machine.expression) items) (ranked-same problem.ranking.order other pattern ranks also ranked) is),
+    (λ (other, also, is, bounded). subst (IsPatternOf problem.hierarchy.links (tree_of problem.transducer.expression) items) (ranked-same problem.ranking.order other pattern ranks also ranked) is),
     (λ is. (pattern, ranked, is, (within-pivot problem.ranking.order seed.pivot complete.least pattern).1 inside)),
   )
 

@@ -22,7 +22,7 @@ use Rattle.dfs_growth.proofs.PartLemmas.{for_part, Within, part-counts, generate
 
 module _ (problem : Problem) (seed : PartSeed) (complete : IsComplete problem seed) where
   abbrev IsPattern : List Item → List Item → Type 0
-  IsPattern pattern items = IsPatternOf problem.hierarchy.links (tree_of problem.machine.expression) items pattern
+  IsPattern pattern items = IsPatternOf problem.hierarchy.links (tree_of problem.transducer.expression) items pattern
 
   -- what the part counts of a pattern within the bound is its support
   counted-pattern : (pattern : List Item) (ranks : List ℕ) (n : ℕ) → AreRanked problem.ranking.order pattern ranks → Within problem seed complete pattern

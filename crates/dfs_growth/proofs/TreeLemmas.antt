@@ -105,14 +105,14 @@ module _ (problem : Problem) (whole : IsWhole problem) where
       }
 
   made : (pattern : List Item) (ranks : List ℕ) → AreRanked problem.ranking.order pattern ranks
-      → Counts (λ items. IsPatternOf problem.hierarchy.links (tree_of problem.machine.expression) items pattern) problem.sequences (support_of problem ranks)
-  made pattern ranks ranked = weight-counted (generates problem ranks) (λ items. IsPatternOf problem.hierarchy.links (tree_of problem.machine.expression) items pattern) decides problem.sequences
+      → Counts (λ items. IsPatternOf problem.hierarchy.links (tree_of problem.transducer.expression) items pattern) problem.sequences (support_of problem ranks)
+  made pattern ranks ranked = weight-counted (generates problem ranks) (λ items. IsPatternOf problem.hierarchy.links (tree_of problem.transducer.expression) items pattern) decides problem.sequences
     where
-      decides : (items : List Item) → Decides (generates problem ranks items) (IsPatternOf problem.hierarchy.links (tree_of problem.machine.expression) items pattern)
+      decides : (items : List Item) → Decides (generates problem ranks items) (IsPatternOf problem.hierarchy.links (tree_of problem.transducer.expression) items pattern)
       decides items = (
         (λ does.
             let (other, is, has) = generates-forth problem whole ranks items does in
-            subst (IsPatternOf problem.hierarchy.links (tree_of problem.machine.expression) items) (ranked-same problem.ranking.order other pattern ranks is ranked) has),
+            subst (IsPatternOf problem.hierarchy.links (tree_of problem.transducer.expression) items) (ranked-same problem.ranking.order other pattern ranks is ranked) has),
         (λ has. generates-back problem whole pattern ranks items ranked has),
       )
 
@@ -134,8 +134,8 @@ module _ (problem : Problem) (whole : IsWhole problem) where
       let (pattern, is, generated) = generates-forth problem whole ranks items has in
       let same : pattern ≡ map (item_of_rank problem.ranking.order) ranks = sym (ranked-items problem.ranking.order pattern ranks is) in
       let ranked : AreRanked problem.ranking.order (map (item_of_rank problem.ranking.order) ranks) ranks = subst (λ l. AreRanked problem.ranking.order l ranks) same is in
-      let here : IsPatternOf problem.hierarchy.links (tree_of problem.machine.expression) items (map (item_of_rank problem.ranking.order) ranks) =
-      subst (IsPatternOf problem.hierarchy.links (tree_of problem.machine.expression) items) same generated in
+      let here : IsPatternOf problem.hierarchy.links (tree_of problem.transducer.expression) items (map (item_of_rank problem.ranking.order) ranks) =
+      subst (IsPatternOf problem.hierarchy.links (tree_of problem.transducer.expression) items) same generated in
       record {
         ranked = ranked;
         within = (within-Decides problem.ranking.order whole.ranks.once pivot (map (item_of_rank problem.ranking.order) ranks) ranks ranked).0 both.0;
@@ -145,7 +145,7 @@ module _ (problem : Problem) (whole : IsWhole problem) where
   row_back : (pivot : ℕ) (ranks : List ℕ) (row : Row) → IsRowAt (data_of problem) problem.ranking.order pivot ranks row → passes pivot ranks ≡ true
   row_back pivot ranks row is =
       let same : row.support ≡ support_of problem ranks =
-      Counts-unique (λ items. IsPatternOf problem.hierarchy.links (tree_of problem.machine.expression) items row.pattern) problem.sequences row.support (support_of problem ranks)
+      Counts-unique (λ items. IsPatternOf problem.hierarchy.links (tree_of problem.transducer.expression) items row.pattern) problem.sequences row.support (support_of problem ranks)
       is.frequent.exact (made row.pattern ranks is.ranked) in
       let enough : problem.threshold ≤ row.support = is.frequent.enough in
       and_from (are_within pivot ranks) (leb problem.threshold (support_of problem ranks))

@@ -35,10 +35,10 @@ outputs_by problem edge t behind = cond (matches problem.hierarchy.links (leaf_o
 
 -- what the paths from the state over the items write, where that has ranks
 unfoldable pub outputs_from : Problem → ℕ → List Item → List (List ℕ)
-outputs_from problem state [] = cond (bit_at problem.machine.finals state == 1) ([] ∷ []) []
+outputs_from problem state [] = cond (bit_at problem.transducer.finals state == 1) ([] ∷ []) []
 outputs_from problem state (t ∷ items) =
     flat_map (λ edge. outputs_by problem edge t (outputs_from problem edge.to.0 items))
-    (edges_from problem.machine state)
+    (edges_from problem.transducer state)
 
 -- tests of ranks
 

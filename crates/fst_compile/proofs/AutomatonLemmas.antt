@@ -77,29 +77,29 @@ module _ (links : List (Link Item)) where
   labelled (maybe a) table before after o same at = labelled a table before after o same at
   labelled (more a) table before after o same at = labelled a table before after o same at
 
-  module _ (machine : Transducer) (labelled_all : (state : ℕ) (edge : Edge) → Contains (edges_from machine state) edge → Enters machine.labels edge) where
+  module _ (transducer : Transducer) (labelled_all : (state : ℕ) (edge : Edge) → Contains (edges_from transducer state) edge → Enters transducer.labels edge) where
     abbrev Entries : List Entry
-    Entries = map entry_of machine.labels
+    Entries = map entry_of transducer.labels
 
     abbrev Ends : ℕ → Type 0
-    Ends state = Has machine.finals state
+    Ends state = Has transducer.finals state
 
     abbrev Steps : ℕ → ℕ → Type 0
-    Steps from to = Leads machine from to
+    Steps from to = Leads transducer from to
 
-    entry_at : (edge : Edge) (enters : Enters machine.labels edge)
+    entry_at : (edge : Edge) (enters : Enters transducer.labels edge)
         → get_or Entries enters.number (record { leaf = leaf_of edge.leaf; captured = edge.captured }) ≡ record { leaf = leaf_of edge.leaf; captured = edge.captured }
     entry_at edge enters =
-        get_or-map entry_of machine.labels enters.number (record { leaf = edge.leaf; captured = edge.captured })
+        get_or-map entry_of transducer.labels enters.number (record { leaf = edge.leaf; captured = edge.captured })
         ∙ ap entry_of (enters.label (record { leaf = edge.leaf; captured = edge.captured }))
 
-    edge_reads : (edge : Edge) → Enters machine.labels edge → (t : Item) (here : List Item)
+    edge_reads : (edge : Edge) → Enters transducer.labels edge → (t : Item) (here : List Item)
         → Matches links (leaf_of edge.leaf) t → WritesAt links (leaf_of edge.leaf) edge.captured t here → ReadsAt links Entries edge.to.0 t here
     edge_reads edge enters t here matches writes =
         subst (λ (k : ℕ). ReadsAt links Entries k t here) (sym enters.to)
-        (record { leaf = leaf_of edge.leaf; captured = edge.captured }, omega (arith, length-map machine.labels entry_of, enters.within), entry_at edge enters, matches, writes)
+        (record { leaf = leaf_of edge.leaf; captured = edge.captured }, omega (arith, length-map transducer.labels entry_of, enters.within), entry_at edge enters, matches, writes)
 
-    edge_read : (edge : Edge) → Enters machine.labels edge → (k : ℕ) (t : Item) (here : List Item) → edge.to.0 ≡ k → ReadsAt links Entries k t here
+    edge_read : (edge : Edge) → Enters transducer.labels edge → (k : ℕ) (t : Item) (here : List Item) → edge.to.0 ≡ k → ReadsAt links Entries k t here
         → Matches links (leaf_of edge.leaf) t × WritesAt links (leaf_of edge.leaf) edge.captured t here
     edge_read edge enters zero t here to reads = absurd reads
     edge_read edge enters (suc k) t here to (entry, inside, is, matches, writes) =
@@ -112,7 +112,7 @@ module _ (links : List (Link Item)) where
         )
 
     -- a path is a chain that spells
-    path-chain : (state : ℕ) (input output : List Item) → IsPath links machine state input output
+    path-chain : (state : ℕ) (input output : List Item) → IsPath links transducer state input output
         → (word : List ℕ) × Chain Ends Steps state word × Spells (ReadsAt links Entries) word input output
     path-chain state [] output path = ([], path.0, (refl, path.1))
     path-chain state (t ∷ rest) output (edge, here, there, inside, matches, writes, joined, path) =
@@ -123,64 +123,64 @@ module _ (links : List (Link Item)) where
         )
 
     chain-path : (state : ℕ) (word : List ℕ) (input output : List Item)
-        → Chain Ends Steps state word → Spells (ReadsAt links Entries) word input output → IsPath links machine state input output
+        → Chain Ends Steps state word → Spells (ReadsAt links Entries) word input output → IsPath links transducer state input output
     chain-path state [] input output chain spells =
-        subst (λ x. IsPath links machine state x output) (sym spells.0) (chain, spells.1)
+        subst (λ x. IsPath links transducer state x output) (sym spells.0) (chain, spells.1)
     chain-path state (k ∷ word) input output ((edge, inside, to), chain) (t, rest, here, there, cut, joined, reads, spells) =
         let (matches, writes) = edge_read edge (labelled_all state edge inside) k t here to reads in
-        let path : IsPath links machine edge.to.0 rest there =
-        subst (λ (x : ℕ). IsPath links machine x rest there) (sym to) (chain-path k word rest there chain spells) in
-        subst (λ x. IsPath links machine state x output) (sym cut)
+        let path : IsPath links transducer edge.to.0 rest there =
+        subst (λ (x : ℕ). IsPath links transducer x rest there) (sym to) (chain-path k word rest there chain spells) in
+        subst (λ x. IsPath links transducer state x output) (sym cut)
         (edge, here, there, inside, matches, writes, joined, path)
 
-  module _ (machine : Transducer) (tree : Tree Item) (is : IsPositionAutomaton machine tree) where
+  module _ (transducer : Transducer) (tree : Tree Item) (is : IsPositionAutomaton transducer tree) where
     abbrev Whole : Shape
     Whole = unfold_tree tree false
 
-    ends-in : (j : ℕ) → 1 ≤ j → Has machine.finals j → Last Whole 1 j
+    ends-in : (j : ℕ) → 1 ≤ j → Has transducer.finals j → Last Whole 1 j
     ends-in j inside final = elim ((is.finals j).0 final) [ inl start ↦ absurd (omega arith) | inr last ↦ last ]
 
-    steps-in : (j k : ℕ) → 1 ≤ j → Leads machine j k → (1 ≤ k) × Follows Whole 1 j k
+    steps-in : (j k : ℕ) → 1 ≤ j → Leads transducer j k → (1 ≤ k) × Follows Whole 1 j k
     steps-in j k inside edge = elim ((is.edges j k).0 edge) [
       | inl start ↦ absurd (omega arith)
       | inr follows ↦ ((Follows-in Whole 1 j k follows).1.0, follows)
     ]
 
-    chain-accepts : (word : List ℕ) → Chain (λ j. Has machine.finals j) (λ j k. Leads machine j k) 0 word → Accepts Whole 1 word
+    chain-accepts : (word : List ℕ) → Chain (λ j. Has transducer.finals j) (λ j k. Leads transducer j k) 0 word → Accepts Whole 1 word
     chain-accepts [] final = elim ((is.finals 0).0 final) [ inl start ↦ start.1 | inr last ↦ absurd (let h : IsIn 1 (size Whole) 0 = Last-in Whole 1 0 last in omega arith) ]
     chain-accepts (k ∷ word) (edge, chain) = elim ((is.edges 0 k).0 edge) [
       | inl start ↦ (
         start.1,
-        Chain-stay (λ j. 1 ≤ j) (λ j. Has machine.finals j) (Last Whole 1) (λ i j. Leads machine i j) (Follows Whole 1) ends-in steps-in k word
+        Chain-stay (λ j. 1 ≤ j) (λ j. Has transducer.finals j) (Last Whole 1) (λ i j. Leads transducer i j) (Follows Whole 1) ends-in steps-in k word
             (First-in Whole 1 k start.1).0 chain,
       )
       | inr follows ↦ absurd (let h : IsIn 1 (size Whole) 0 × IsIn 1 (size Whole) k = Follows-in Whole 1 0 k follows in omega arith)
     ]
 
-    accepts-chain : (word : List ℕ) → Accepts Whole 1 word → Chain (λ j. Has machine.finals j) (λ j k. Leads machine j k) 0 word
+    accepts-chain : (word : List ℕ) → Accepts Whole 1 word → Chain (λ j. Has transducer.finals j) (λ j k. Leads transducer j k) 0 word
     accepts-chain [] empty = (is.finals 0).1 (inl (refl, empty))
     accepts-chain (k ∷ word) (first, chain) = (
       (is.edges 0 k).1 (inl (refl, first)),
-      Chain-map (Last Whole 1) (λ j. Has machine.finals j) (Follows Whole 1) (λ i j. Leads machine i j)
+      Chain-map (Last Whole 1) (λ j. Has transducer.finals j) (Follows Whole 1) (λ i j. Leads transducer i j)
           (λ j end. (is.finals j).1 (inr end)) (λ i j step. (is.edges i j).1 (inr step)) k word chain,
     )
 
-    reads : IsLabelled links (ReadsAt links (map entry_of machine.labels)) Whole 1
-    reads = labelled Whole (map entry_of machine.labels) [] [] 1 (is.labels ∙ sym (append-nil (labels_of Whole))) refl
+    reads : IsLabelled links (ReadsAt links (map entry_of transducer.labels)) Whole 1
+    reads = labelled Whole (map entry_of transducer.labels) [] [] 1 (is.labels ∙ sym (append-nil (labels_of Whole))) refl
 
-    pub path-sound : (input output : List Item) → IsPath links machine 0 input output → Makes links Whole input output
+    pub path-sound : (input output : List Item) → IsPath links transducer 0 input output → Makes links Whole input output
     path-sound input output path =
-        let (word, chain, spells) = path-chain machine is.labelled 0 input output path in
-        positions-sound links (ReadsAt links (map entry_of machine.labels)) Whole 1 reads word input output (chain-accepts word chain) spells
+        let (word, chain, spells) = path-chain transducer is.labelled 0 input output path in
+        positions-sound links (ReadsAt links (map entry_of transducer.labels)) Whole 1 reads word input output (chain-accepts word chain) spells
 
-    pub path-complete : (input output : List Item) → Makes links Whole input output → IsPath links machine 0 input output
+    pub path-complete : (input output : List Item) → Makes links Whole input output → IsPath links transducer 0 input output
     path-complete input output made =
-        let (word, accepts, spells) = positions-complete links (ReadsAt links (map entry_of machine.labels)) Whole 1 reads input output made in
-        chain-path machine is.labelled 0 word input output (accepts-chain word accepts) spells
+        let (word, accepts, spells) = positions-complete links (ReadsAt links (map entry_of transducer.labels)) Whole 1 reads input output made in
+        chain-path transducer is.labelled 0 word input output (accepts-chain word accepts) spells
 
 -- the paths of the position automaton are what the expression generates
-pub automaton-generates : (machine : Transducer) (tree : Tree Item) → IsPositionAutomaton machine tree → IsTransducerOf machine tree
-automaton-generates machine tree is links input output = (
-  (λ path. unfold-sound links tree false input output (path-sound links machine tree is input output path)),
-  (λ made. path-complete links machine tree is input output (unfold-complete links tree false input output made)),
+pub automaton-generates : (transducer : Transducer) (tree : Tree Item) → IsPositionAutomaton transducer tree → IsTransducerOf transducer tree
+automaton-generates transducer tree is links input output = (
+  (λ path. unfold-sound links tree false input output (path-sound links transducer tree is input output path)),
+  (λ made. path-complete links transducer tree is input output (unfold-complete links tree false input output made)),
 )

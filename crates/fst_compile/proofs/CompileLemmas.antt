@@ -14,7 +14,7 @@ use Rattle.fst_compile.specs.Positions.{size, CanBeEmpty, First, Last, Follows}
 use Rattle.fst_compile.specs.Rows.{HasEdge, IsSetOf}
 use Rattle.fst_compile.specs.Fragments.{IsBuilt}
 use Rattle.fst_compile.specs.declared.edge.Edge.{Edge}
-use Rattle.fst_compile.specs.Machines.{IsWhole}
+use Rattle.fst_compile.specs.Transducers.{IsWhole}
 use Rattle.fst_compile.specs.Transducer.{Transducer, Enters, Leads, IsPositionAutomaton, edges_from, entry_of}
 use Rattle.fst_compile.proofs.PositionLemmas.{IsIn, First-in, Last-in, Follows-in}
 use Rattle.fst_compile.proofs.UnfoldLemmas.{size-unfold}
@@ -109,11 +109,11 @@ if_three (Ok v) P Q R S step p q s = step v p q s
 if_three (Err e) P Q R S step p q s = tt
 
 -- the transducer made of the edges of all states
-pub IsPositionAutomaton-made : (tree : Tree Item) (rows : List ℕ) (finals : ℕ) (labels : List Label) (machine : Transducer) → IsWhole tree rows finals
-    → map entry_of labels ≡ labels_of (unfold_tree tree false) → machine.labels ≡ labels → machine.finals ≡ finals
-    → ((from to : ℕ) → Leads machine from to ↔ HasEdge rows from to) → ((state : ℕ) (edge : Edge) → Contains (edges_from machine state) edge → Enters machine.labels edge)
-    → IsPositionAutomaton machine tree
-IsPositionAutomaton-made tree rows finals labels machine whole entries same_labels same_finals leads labelled = record {
+pub IsPositionAutomaton-made : (tree : Tree Item) (rows : List ℕ) (finals : ℕ) (labels : List Label) (transducer : Transducer) → IsWhole tree rows finals
+    → map entry_of labels ≡ labels_of (unfold_tree tree false) → transducer.labels ≡ labels → transducer.finals ≡ finals
+    → ((from to : ℕ) → Leads transducer from to ↔ HasEdge rows from to) → ((state : ℕ) (edge : Edge) → Contains (edges_from transducer state) edge → Enters transducer.labels edge)
+    → IsPositionAutomaton transducer tree
+IsPositionAutomaton-made tree rows finals labels transducer whole entries same_labels same_finals leads labelled = record {
   labels = ap (λ ls. map entry_of ls) same_labels ∙ entries;
   labelled = labelled;
   edges = λ from to. ((λ has. (whole.edges from to).0 ((leads from to).0 has)), (λ is. (leads from to).1 ((whole.edges from to).1 is)));

@@ -6,6 +6,6 @@ pub mod RowLemmas
 pub mod LabelLemmas
 pub mod FragmentLemmas
 pub mod CopyLemmas
-pub mod MachineLemmas
+pub mod TransducerLemmas
 pub mod CompileLemmas
 pub mod OutputLemmas

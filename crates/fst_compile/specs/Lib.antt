@@ -5,4 +5,4 @@ pub mod Transducer
 -- what the proofs keep
 pub mod Rows
 pub mod Fragments
-pub mod Machines
+pub mod Transducers

@@ -23,16 +23,16 @@ pub record Transducer : Type 0 where
 
 -- the edges that leave the state
 abbrev pub edges_from : Transducer → ℕ → List Edge
-edges_from machine state = slice_index_or machine.edges state []
+edges_from transducer state = slice_index_or transducer.edges state []
 
 -- A path from the state to a final state reads the input, an item each edge, and writes the output.
 abbrev pub IsPath : List (Link Item) → Transducer → ℕ → List Item → List Item → Type 0
-IsPath links machine state [] output = Has machine.finals state × (output ≡ [])
-IsPath links machine state (t ∷ rest) output =
+IsPath links transducer state [] output = Has transducer.finals state × (output ≡ [])
+IsPath links transducer state (t ∷ rest) output =
     (edge : Edge) × (here : List Item) × (there : List Item)
-    × Contains (edges_from machine state) edge
+    × Contains (edges_from transducer state) edge
     × Matches links (leaf_of edge.leaf) t × WritesAt links (leaf_of edge.leaf) edge.captured t here
-    × (output ≡ here ++ there) × IsPath links machine edge.to.0 rest there
+    × (output ≡ here ++ there) × IsPath links transducer edge.to.0 rest there
 
 -- the edge leads into a state, and carries the label of that state
 pub record Enters (labels : List Label) (edge : Edge) : Type 0 where
@@ -55,20 +55,20 @@ RisesByTarget edges = IsStrictlyIncreasing (map target edges)
 
 -- an edge leads from one state to the other
 abbrev pub Leads : Transducer → ℕ → ℕ → Type 0
-Leads machine from to = (edge : Edge) × Contains (edges_from machine from) edge × (edge.to.0 ≡ to)
+Leads transducer from to = (edge : Edge) × Contains (edges_from transducer from) edge × (edge.to.0 ≡ to)
 
 -- The transducer is the position automaton (Glushkov) of the expression with its repetitions written out.
-pub record IsPositionAutomaton (machine : Transducer) (tree : Tree Item) : Type 0 where
-  pub labels : map entry_of machine.labels ≡ labels_of (unfold_tree tree false)
-  pub labelled : (state : ℕ) (edge : Edge) → Contains (edges_from machine state) edge
-      → Enters machine.labels edge
-  pub edges : (from to : ℕ) → Leads machine from to ↔ (((from ≡ 0) × First (unfold_tree tree false) 1 to)
+pub record IsPositionAutomaton (transducer : Transducer) (tree : Tree Item) : Type 0 where
+  pub labels : map entry_of transducer.labels ≡ labels_of (unfold_tree tree false)
+  pub labelled : (state : ℕ) (edge : Edge) → Contains (edges_from transducer state) edge
+      → Enters transducer.labels edge
+  pub edges : (from to : ℕ) → Leads transducer from to ↔ (((from ≡ 0) × First (unfold_tree tree false) 1 to)
       ⊎ Follows (unfold_tree tree false) 1 from to)
-  pub finals : (state : ℕ) → Has machine.finals state ↔ (((state ≡ 0) × CanBeEmpty (unfold_tree tree false))
+  pub finals : (state : ℕ) → Has transducer.finals state ↔ (((state ≡ 0) × CanBeEmpty (unfold_tree tree false))
       ⊎ Last (unfold_tree tree false) 1 state)
 
 -- what the paths from the start write is what the expression generates, whatever the hierarchy
 abbrev pub IsTransducerOf : Transducer → Tree Item → Type 0
-IsTransducerOf machine tree =
+IsTransducerOf transducer tree =
     (links : List (Link Item)) (input output : List Item)
-    → IsPath links machine 0 input output ↔ Generates links tree false input output
+    → IsPath links transducer 0 input output ↔ Generates links tree false input output

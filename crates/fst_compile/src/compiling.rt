@@ -3,7 +3,7 @@ ghost use Rattle.state_bits.specs.Members.{Has};
 ghost use Rattle.mine_model.specs.Limits.{most_leaves};
 ghost use Rattle.mine_model.specs.Expression.{unfolded_leaves};
 ghost use Rattle.mine_model.specs.Numbered.{tree_of};
-ghost use Rattle.fst_compile.specs.Machines.{IsWhole};
+ghost use Rattle.fst_compile.specs.Transducers.{IsWhole};
 ghost use Rattle.fst_compile.specs.Transducer.{IsPositionAutomaton, IsTransducerOf};
 
 use super::copying::copy_of;
@@ -19,10 +19,10 @@ use std::alloc::Global;
 /// the expression.
 pub fn compile(alloc: Global, expr: &Expr) -> Result<Fst, NoMemory>
     requires { unfolded_leaves (tree_of expr.now) ≤ most_leaves }
-    ensures expression { IfOk result (λ machine. tree_of machine.expression ≡ tree_of expr.now) }
-    ensures states { IfOk result (λ machine. length machine.labels ≡ unfolded_leaves (tree_of expr.now)) }
-    ensures automaton { IfOk result (λ machine. IsPositionAutomaton machine (tree_of expr.now)) }
-    ensures paths { IfOk result (λ machine. IsTransducerOf machine (tree_of expr.now)) }
+    ensures expression { IfOk result (λ transducer. tree_of transducer.expression ≡ tree_of expr.now) }
+    ensures states { IfOk result (λ transducer. length transducer.labels ≡ unfolded_leaves (tree_of expr.now)) }
+    ensures automaton { IfOk result (λ transducer. IsPositionAutomaton transducer (tree_of expr.now)) }
+    ensures paths { IfOk result (λ transducer. IsTransducerOf transducer (tree_of expr.now)) }
 {
     let expression = copy_of(alloc, expr)?;
     let mut labels = Vec::new(alloc);

@@ -43,7 +43,7 @@ impl Model for Fst {
 
     ghost use Rattle.std.specs.Prelude.{◌≡◌, ◌+◌, ◌≤◌, length, ℕ, All};
     ghost use Rattle.state_bits.specs.Members.{Has};
-    ghost use Rattle.fst_compile.specs.Machines.{IsRow};
+    ghost use Rattle.fst_compile.specs.Transducers.{IsRow};
 
     ghost view = { λ a. record {
       expression = a.expression;

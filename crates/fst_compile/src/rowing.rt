@@ -1,7 +1,7 @@
 ghost use Rattle.std.specs.Prelude.{◌≡◌, ℕ, ◌<◌, ◌≤◌, ◌↔◌, length, IfOk, OnOk};
 ghost use Rattle.state_bits.specs.Members.{Has};
 ghost use Rattle.fst_compile.specs.Rows.{HasEdge};
-ghost use Rattle.fst_compile.specs.Machines.{IsRow, LeadTo, AreRowsOf};
+ghost use Rattle.fst_compile.specs.Transducers.{IsRow, LeadTo, AreRowsOf};
 
 use super::edge::{Edge, Label, State};
 use super::rows::States;

@@ -16,7 +16,7 @@ use Rattle.fst_compile.specs.Transducer.{Transducer, IsPositionAutomaton, IsTran
 pub record Problem : Type 0 where
   pub hierarchy : Ancestry
   pub sequences : List (Sequence Item)
-  pub machine : Transducer
+  pub transducer : Transducer
   pub ranking : Ranking
   pub threshold : ℕ
 
@@ -25,7 +25,7 @@ abbrev pub data_of : Problem → Data Item
 data_of problem = record {
   links = problem.hierarchy.links;
   sequences = problem.sequences;
-  expression = tree_of problem.machine.expression;
+  expression = tree_of problem.transducer.expression;
   threshold = problem.threshold;
 }
 
@@ -39,9 +39,9 @@ pub record IsWhole (problem : Problem) : Type 0 where
   pub items : AllByRecursion (λ sequence. AllByRecursion (λ t. t.0 < problem.hierarchy.items) sequence.items)
       problem.sequences
   pub named : AllByRecursion (λ w. w.0 < problem.hierarchy.items)
-      (named_in (tree_of problem.machine.expression))
-  pub automaton : IsPositionAutomaton problem.machine (tree_of problem.machine.expression)
-  pub paths : IsTransducerOf problem.machine (tree_of problem.machine.expression)
+      (named_in (tree_of problem.transducer.expression))
+  pub automaton : IsPositionAutomaton problem.transducer (tree_of problem.transducer.expression)
+  pub paths : IsTransducerOf problem.transducer (tree_of problem.transducer.expression)
   pub ranks : AreRanks problem.hierarchy.links problem.sequences problem.threshold problem.ranking
   pub ranked : length problem.ranking.frequencies ≡ problem.hierarchy.items
   pub least : 1 ≤ problem.threshold

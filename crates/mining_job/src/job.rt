@@ -46,7 +46,7 @@ impl Model for Job {
     ghost view = { λ j. record {
       hierarchy = j.hierarchy;
       sequences = j.db;
-      machine = j.fst;
+      transducer = j.fst;
       ranking = j.ranks;
       threshold = j.threshold;
     } };
@@ -54,7 +54,7 @@ impl Model for Job {
     ghost invariant = { λ j. IsWhole (record {
       hierarchy = j.hierarchy;
       sequences = j.db;
-      machine = j.fst;
+      transducer = j.fst;
       ranking = j.ranks;
       threshold = j.threshold;
     }) };
@@ -74,7 +74,7 @@ impl Job {
         ensures { result ≡ record {
           hierarchy = hierarchy;
           sequences = db;
-          machine = fst;
+          transducer = fst;
           ranking = ranks;
           threshold = threshold;
         } }
@@ -106,7 +106,7 @@ impl Job {
 
     /// The transducer of the expression. Takes no memory.
     pub fn fst(&self) -> &Fst
-        ensures machine { result.now ≡ self.now.machine }
+        ensures transducer { result.now ≡ self.now.transducer }
         ensures whole { IsWhole self.now }
     {
         &self.fst

@@ -129,7 +129,7 @@ module _ (problem : Problem) (whole : IsWhole problem) (listed : List Listed) (r
   module _ (frequent : IsFrequent (data_of problem) row.pattern row.support) where
     decided : (place : ℕ) → place < length problem.sequences → Has problem row.pattern place ⊎ (Has problem row.pattern place → ⊥)
     decided place inside =
-        counts-decide (λ items. IsPatternOf problem.hierarchy.links (tree_of problem.machine.expression) items row.pattern) (record { items = []; weight = 0 }) problem.sequences row.support frequent.exact place inside
+        counts-decide (λ items. IsPatternOf problem.hierarchy.links (tree_of problem.transducer.expression) items row.pattern) (record { items = []; weight = 0 }) problem.sequences row.support frequent.exact place inside
 
     pub rest-cited : (at : ℕ) (paths : List Cited) (places : List ℕ) → SoFar at paths places → (more : List Cited) × IsFull problem (entry_of row (paths ++ more))
     rest-cited at paths [] are =

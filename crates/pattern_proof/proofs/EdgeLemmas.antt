@@ -48,19 +48,19 @@ one_label labels one other a b same =
     sym (a.label d) ∙ ap (λ n. slice_index_or labels n d) numbers ∙ b.label d in
     (ap (λ (l : Label). l.leaf) labels_same, ap (λ (l : Label). l.captured) labels_same)
 
-module _ (links : List (Link Item)) (machine : Transducer) (from to : ℕ) (t : Item) (rest : List Item) where
+module _ (links : List (Link Item)) (transducer : Transducer) (from to : ℕ) (t : Item) (rest : List Item) where
   -- what a step of a run needs
   abbrev pub Goes : (List ℕ → List Item → Type 0)
-  Goes states items = IsRun links machine from (to ∷ states) (t ∷ items) rest
+  Goes states items = IsRun links transducer from (to ∷ states) (t ∷ items) rest
 
-  pub no-edge : ((edge : Edge) → Contains (edges_from machine from) edge → edge.to.0 ≡ to → ⊥) → (states : List ℕ) (items : List Item) → Goes states items → ⊥
+  pub no-edge : ((edge : Edge) → Contains (edges_from transducer from) edge → edge.to.0 ≡ to → ⊥) → (states : List ℕ) (items : List Item) → Goes states items → ⊥
   no-edge none states items (edge, here, there, held, is, reads, writes, both, run) = none edge held is
 
-  module _ (labelled : (edge : Edge) → Contains (edges_from machine from) edge → Enters machine.labels edge) (edge : Edge) (held : Contains (edges_from machine from) edge) (is : edge.to.0 ≡ to) where
-    leaf_same : (other : Edge) → Contains (edges_from machine from) other → other.to.0 ≡ to → (other.leaf ≡ edge.leaf) × (other.captured ≡ edge.captured)
-    leaf_same other there to_is = one_label machine.labels other edge (labelled other there) (labelled edge held) (to_is ∙ sym is)
+  module _ (labelled : (edge : Edge) → Contains (edges_from transducer from) edge → Enters transducer.labels edge) (edge : Edge) (held : Contains (edges_from transducer from) edge) (is : edge.to.0 ≡ to) where
+    leaf_same : (other : Edge) → Contains (edges_from transducer from) other → other.to.0 ≡ to → (other.leaf ≡ edge.leaf) × (other.captured ≡ edge.captured)
+    leaf_same other there to_is = one_label transducer.labels other edge (labelled other there) (labelled edge held) (to_is ∙ sym is)
 
-    pub within-labels : to ≤ length machine.labels
+    pub within-labels : to ≤ length transducer.labels
     within-labels = let enters = labelled edge held in let a = enters.to in let b = enters.within in omega (arith, a, b, is)
 
     pub no-match : (Matches links (leaf_of edge.leaf) t → ⊥) → (states : List ℕ) (items : List Item) → Goes states items → ⊥
@@ -68,30 +68,30 @@ module _ (links : List (Link Item)) (machine : Transducer) (from to : ℕ) (t : 
         none (subst (λ l. Matches links (leaf_of l) t) (leaf_same other kept to_is).0 matches)
 
     module _ (matches : Matches links (leaf_of edge.leaf) t) where
-      pub silent : edge.captured ≡ false → (states : List ℕ) (items : List Item) → Goes states items ↔ IsRun links machine to states items rest
+      pub silent : edge.captured ≡ false → (states : List ℕ) (items : List Item) → Goes states items ↔ IsRun links transducer to states items rest
       silent quiet states items = (forth, back)
         where
-          forth : Goes states items → IsRun links machine to states items rest
+          forth : Goes states items → IsRun links transducer to states items rest
           forth (other, here, there, kept, to_is, reads, writes, both, run) =
               let nothing : here ≡ [] = subst (λ b. WritesAt links (leaf_of other.leaf) b t here) ((leaf_same other kept to_is).1 ∙ quiet) writes in
-              subst (λ l. IsRun links machine to states items l) (sym (both ∙ ap (λ l. l ++ there) nothing)) run
+              subst (λ l. IsRun links transducer to states items l) (sym (both ∙ ap (λ l. l ++ there) nothing)) run
 
-          back : IsRun links machine to states items rest → Goes states items
+          back : IsRun links transducer to states items rest → Goes states items
           back run = (edge, [], rest, held, is, matches, subst (λ b. WritesAt links (leaf_of edge.leaf) b t []) (sym quiet) refl, refl, run)
 
       -- a captured edge writes the first of the rest, where it may
       pub written : edge.captured ≡ true → (v : Item) (others : List Item) → rest ≡ v ∷ others → MayWrite links (leaf_of edge.leaf) t v
-          → (states : List ℕ) (items : List Item) → Goes states items ↔ IsRun links machine to states items others
+          → (states : List ℕ) (items : List Item) → Goes states items ↔ IsRun links transducer to states items others
       written captured v others cut may states items = (forth, back)
         where
-          forth : Goes states items → IsRun links machine to states items others
+          forth : Goes states items → IsRun links transducer to states items others
           forth (other, here, there, kept, to_is, reads, writes, both, run) =
               let (w, allowed, one) = subst (λ b. WritesAt links (leaf_of other.leaf) b t here) ((leaf_same other kept to_is).1 ∙ captured) writes in
               let whole : v ∷ others ≡ w ∷ there = sym cut ∙ both ∙ ap (λ l. l ++ there) one in
               let tail : others ≡ there = cc in
-              subst (λ l. IsRun links machine to states items l) (sym tail) run
+              subst (λ l. IsRun links transducer to states items l) (sym tail) run
 
-          back : IsRun links machine to states items others → Goes states items
+          back : IsRun links transducer to states items others → Goes states items
           back run = (edge, v ∷ [], others, held, is, matches, subst (λ b. WritesAt links (leaf_of edge.leaf) b t (v ∷ [])) (sym captured) (v, may, refl), cut, run)
 
       pub not-written : edge.captured ≡ true → ((v : Item) (others : List Item) → rest ≡ v ∷ others → MayWrite links (leaf_of edge.leaf) t v → ⊥)
@@ -101,8 +101,8 @@ module _ (links : List (Link Item)) (machine : Transducer) (from to : ℕ) (t : 
           none w there (both ∙ ap (λ l. l ++ there) one) (subst (λ l. MayWrite links (leaf_of l) t w) (leaf_same other kept to_is).0 allowed)
 
 -- a run has a state for each item
-pub run-length : (links : List (Link Item)) (machine : Transducer) (state : ℕ) (states : List ℕ) (items output : List Item) → IsRun links machine state states items output → length states ≡ length items
-run-length links machine state [] [] output run = refl
-run-length links machine state [] (t ∷ items) output run = absurd run
-run-length links machine state (next ∷ states) [] output run = absurd run
-run-length links machine state (next ∷ states) (t ∷ items) output (edge, here, there, held, is, reads, writes, both, run) = ap suc (run-length links machine next states items there run)
+pub run-length : (links : List (Link Item)) (transducer : Transducer) (state : ℕ) (states : List ℕ) (items output : List Item) → IsRun links transducer state states items output → length states ≡ length items
+run-length links transducer state [] [] output run = refl
+run-length links transducer state [] (t ∷ items) output run = absurd run
+run-length links transducer state (next ∷ states) [] output run = absurd run
+run-length links transducer state (next ∷ states) (t ∷ items) output (edge, here, there, held, is, reads, writes, both, run) = ap suc (run-length links transducer next states items there run)

@@ -17,12 +17,12 @@ use Rattle.pattern_proof.specs.Steps.{IsRun}
 use Rattle.pattern_proof.specs.Finding.{Question, silents_of, IsPlace, CanEnd, LeadsOn, Passes, bit_of, bits_of, IsRightAt, IsOfEnd, EndFrom}
 
 -- a run writes no more than it reads
-pub run-shorter : (links : List (Link Item)) (machine : Transducer) (state : ℕ) (states : List ℕ) (items output : List Item) → IsRun links machine state states items output → length output ≤ length items
-run-shorter links machine state [] [] output run = omega (arith, ap length run.1)
-run-shorter links machine state [] (t ∷ items) output run = absurd run
-run-shorter links machine state (next ∷ states) [] output run = absurd run
-run-shorter links machine state (next ∷ states) (t ∷ items) output (edge, here, there, held, is, reads, writes, both, run) =
-    let rest = run-shorter links machine next states items there run in
+pub run-shorter : (links : List (Link Item)) (transducer : Transducer) (state : ℕ) (states : List ℕ) (items output : List Item) → IsRun links transducer state states items output → length output ≤ length items
+run-shorter links transducer state [] [] output run = omega (arith, ap length run.1)
+run-shorter links transducer state [] (t ∷ items) output run = absurd run
+run-shorter links transducer state (next ∷ states) [] output run = absurd run
+run-shorter links transducer state (next ∷ states) (t ∷ items) output (edge, here, there, held, is, reads, writes, both, run) =
+    let rest = run-shorter links transducer next states items there run in
     let few = at-most-one edge.captured here writes in
     omega (arith, rest, few, ap length both, length-append here there)
   where
@@ -50,7 +50,7 @@ got-drop xs i x rest cut =
 
 module _ (q : Question) where
   abbrev width : ℕ
-  width = length q.machine.labels + 1
+  width = length q.transducer.labels + 1
 
   abbrev row : ℕ
   row = silents_of q + 1
@@ -158,9 +158,9 @@ module _ (q : Question) where
   module _ (fits : length q.pattern ≤ length q.items) (s w : ℕ) (place : IsPlace q s w) where
     -- one more item can be read without an output where a run does
     next-silent : (states : List ℕ) (state : ℕ) → s + w < length q.items
-        → IsRun q.links q.machine state states (drop (s + 1 + w) q.items) (drop w q.pattern) → IsPlace q (s + 1) w
+        → IsRun q.links q.transducer state states (drop (s + 1 + w) q.items) (drop w q.pattern) → IsPlace q (s + 1) w
     next-silent states state more run =
-        let few = run-shorter q.links q.machine state states (drop (s + 1 + w) q.items) (drop w q.pattern) run in
+        let few = run-shorter q.links q.transducer state states (drop (s + 1 + w) q.items) (drop w q.pattern) run in
         let a = place.wrote in
         let items = length-drop (s + 1 + w) q.items in
         let pattern = length-drop w q.pattern in
@@ -171,7 +171,7 @@ module _ (q : Question) where
         let inside = slice_get_within q.pattern w v found in
         record { read = place.read; wrote = omega (arith, inside) }
 
-    module _ (state : ℕ) (edge : Edge) (held : Contains (edges_from q.machine state) edge) (passes : Passes q s w edge) where
+    module _ (state : ℕ) (edge : Edge) (held : Contains (edges_from q.transducer state) edge) (passes : Passes q s w edge) where
       abbrev t : Item
       t = passes.0
 
@@ -179,15 +179,15 @@ module _ (q : Question) where
       items = drop-got q.items (s + w) t passes.1
 
       step : (states : List ℕ) (here there : List Item) → WritesAt q.links (leaf_of edge.leaf) edge.captured t here → drop w q.pattern ≡ here ++ there
-          → IsRun q.links q.machine edge.to.0 states (drop (s + w + 1) q.items) there
-          → IsRun q.links q.machine state (edge.to.0 ∷ states) (drop (s + w) q.items) (drop w q.pattern)
+          → IsRun q.links q.transducer edge.to.0 states (drop (s + w + 1) q.items) there
+          → IsRun q.links q.transducer state (edge.to.0 ∷ states) (drop (s + w) q.items) (drop w q.pattern)
       step states here there writes both run =
-          subst (λ l. IsRun q.links q.machine state (edge.to.0 ∷ states) l (drop w q.pattern)) (sym items) (edge, here, there, held, refl, passes.2, writes, both, run)
+          subst (λ l. IsRun q.links q.transducer state (edge.to.0 ∷ states) l (drop w q.pattern)) (sym items) (edge, here, there, held, refl, passes.2, writes, both, run)
 
       -- behind an edge that writes nothing
       pub goes-silent : edge.captured ≡ false → IsPlace q (s + 1) w × CanEnd q (s + 1) w edge.to.0
-          × ((states : List ℕ) → IsRun q.links q.machine edge.to.0 states (drop (s + 1 + w) q.items) (drop w q.pattern)
-          → IsRun q.links q.machine state (edge.to.0 ∷ states) (drop (s + w) q.items) (drop w q.pattern))
+          × ((states : List ℕ) → IsRun q.links q.transducer edge.to.0 states (drop (s + 1 + w) q.items) (drop w q.pattern)
+          → IsRun q.links q.transducer state (edge.to.0 ∷ states) (drop (s + w) q.items) (drop w q.pattern))
       goes-silent quiet =
           let leads : LeadsOn q s w t false edge = subst (λ b. LeadsOn q s w t b edge) quiet passes.3 in
           let count : s + 1 + w ≡ s + w + 1 = omega arith in (
@@ -195,13 +195,13 @@ module _ (q : Question) where
             leads.1,
             (λ states run.
                 step states [] (drop w q.pattern) (subst (λ b. WritesAt q.links (leaf_of edge.leaf) b t []) (sym quiet) refl) refl
-                (subst (λ n. IsRun q.links q.machine edge.to.0 states (drop n q.items) (drop w q.pattern)) count run)),
+                (subst (λ n. IsRun q.links q.transducer edge.to.0 states (drop n q.items) (drop w q.pattern)) count run)),
           )
 
       -- behind an edge that writes
       pub goes-written : edge.captured ≡ true → IsPlace q s (w + 1) × CanEnd q s (w + 1) edge.to.0
-          × ((states : List ℕ) → IsRun q.links q.machine edge.to.0 states (drop (s + (w + 1)) q.items) (drop (w + 1) q.pattern)
-          → IsRun q.links q.machine state (edge.to.0 ∷ states) (drop (s + w) q.items) (drop w q.pattern))
+          × ((states : List ℕ) → IsRun q.links q.transducer edge.to.0 states (drop (s + (w + 1)) q.items) (drop (w + 1) q.pattern)
+          → IsRun q.links q.transducer state (edge.to.0 ∷ states) (drop (s + w) q.items) (drop w q.pattern))
       goes-written loud =
           let leads : LeadsOn q s w t true edge = subst (λ b. LeadsOn q s w t b edge) loud passes.3 in
           let v : Item = leads.0 in
@@ -211,7 +211,7 @@ module _ (q : Question) where
             (λ states run.
                 step states (v ∷ []) (drop (w + 1) q.pattern) (subst (λ b. WritesAt q.links (leaf_of edge.leaf) b t (v ∷ [])) (sym loud) (v, leads.2, refl))
                 (drop-got q.pattern w v leads.1)
-                (subst (λ n. IsRun q.links q.machine edge.to.0 states (drop n q.items) (drop (w + 1) q.pattern)) count run)),
+                (subst (λ n. IsRun q.links q.transducer edge.to.0 states (drop n q.items) (drop (w + 1) q.pattern)) count run)),
           )
 
       -- an edge that passes leads from a state that ends
@@ -223,8 +223,8 @@ module _ (q : Question) where
           by true loud = (let (place, ends, on) = goes-written loud in (edge.to.0 ∷ ends.0, on ends.0 ends.1))
 
     -- from a state that ends an edge passes, where an item is left
-    pub ends-passes : (state : ℕ) → s + w < length q.items → CanEnd q s w state → (edge : Edge) × Contains (edges_from q.machine state) edge × Passes q s w edge
-    ends-passes state more (states, run) = by states (subst (λ l. IsRun q.links q.machine state states l (drop w q.pattern)) items run)
+    pub ends-passes : (state : ℕ) → s + w < length q.items → CanEnd q s w state → (edge : Edge) × Contains (edges_from q.transducer state) edge × Passes q s w edge
+    ends-passes state more (states, run) = by states (subst (λ l. IsRun q.links q.transducer state states l (drop w q.pattern)) items run)
       where
         t : Item
         t = get_or q.items (s + w) (record { 0 = 0 })
@@ -235,16 +235,16 @@ module _ (q : Question) where
         items : drop (s + w) q.items ≡ t ∷ drop (s + w + 1) q.items
         items = drop-got q.items (s + w) t found
 
-        by : (states : List ℕ) → IsRun q.links q.machine state states (t ∷ drop (s + w + 1) q.items) (drop w q.pattern) → (edge : Edge) × Contains (edges_from q.machine state) edge × Passes q s w edge
+        by : (states : List ℕ) → IsRun q.links q.transducer state states (t ∷ drop (s + w + 1) q.items) (drop w q.pattern) → (edge : Edge) × Contains (edges_from q.transducer state) edge × Passes q s w edge
         by [] run = absurd run
         by (next ∷ states) (edge, here, there, held, is, reads, writes, both, run) =
             (edge, held, (t, found, reads, leads edge.captured here refl writes both))
           where
-            rest : (n : ℕ) (others : List Item) → s + w + 1 ≡ n → there ≡ others → IsRun q.links q.machine edge.to.0 states (drop n q.items) others
+            rest : (n : ℕ) (others : List Item) → s + w + 1 ≡ n → there ≡ others → IsRun q.links q.transducer edge.to.0 states (drop n q.items) others
             rest n others same cut =
-                subst (λ k. IsRun q.links q.machine k states (drop n q.items) others) (sym is)
-                (subst (λ l. IsRun q.links q.machine next states (drop n q.items) l) cut
-                (subst (λ m. IsRun q.links q.machine next states (drop m q.items) there) same run))
+                subst (λ k. IsRun q.links q.transducer k states (drop n q.items) others) (sym is)
+                (subst (λ l. IsRun q.links q.transducer next states (drop n q.items) l) cut
+                (subst (λ m. IsRun q.links q.transducer next states (drop m q.items) there) same run))
 
             leads : (captured : Bool) (here : List Item) → edge.captured ≡ captured → WritesAt q.links (leaf_of edge.leaf) captured t here → drop w q.pattern ≡ here ++ there → LeadsOn q s w t captured edge
             leads false here quiet none both =
@@ -257,24 +257,24 @@ module _ (q : Question) where
                 (v, at, may, (states, rest (s + (w + 1)) (drop (w + 1) q.pattern) (omega arith) (sym tail)))
 
     -- where no item is left, final states end
-    pub last-ends : (state : ℕ) → s + w ≡ length q.items → Has q.machine.finals state ↔ CanEnd q s w state
+    pub last-ends : (state : ℕ) → s + w ≡ length q.items → Has q.transducer.finals state ↔ CanEnd q s w state
     last-ends state last =
         let a = place.read in
         let b = place.wrote in
         let items : drop (s + w) q.items ≡ [] = drop_all (s + w) q.items (omega (arith, last)) in
         let pattern : drop w q.pattern ≡ [] = drop_all w q.pattern (omega (arith, last, a, b, fits)) in (
-          (λ final. ([], subst (λ l. IsRun q.links q.machine state [] l (drop w q.pattern)) (sym items) (subst (λ l. IsRun q.links q.machine state [] [] l) (sym pattern) (final, refl)))),
-          (λ (states, run). by states (subst (λ l. IsRun q.links q.machine state states [] l) pattern (subst (λ l. IsRun q.links q.machine state states l (drop w q.pattern)) items run))),
+          (λ final. ([], subst (λ l. IsRun q.links q.transducer state [] l (drop w q.pattern)) (sym items) (subst (λ l. IsRun q.links q.transducer state [] [] l) (sym pattern) (final, refl)))),
+          (λ (states, run). by states (subst (λ l. IsRun q.links q.transducer state states [] l) pattern (subst (λ l. IsRun q.links q.transducer state states l (drop w q.pattern)) items run))),
         )
       where
-        by : (states : List ℕ) → IsRun q.links q.machine state states [] [] → Has q.machine.finals state
+        by : (states : List ℕ) → IsRun q.links q.transducer state states [] [] → Has q.transducer.finals state
         by [] run = run.0
         by (next ∷ states) run = absurd run
 
     -- whether an edge passes is whether the state ends
     pub some-ends : (state : ℕ) → s + w < length q.items → (found : Option Edge) (answer : Bool) → answer ≡ is_some found
-        → MatchOption found ((edge : Edge) → Contains (edges_from q.machine state) edge → Passes q s w edge → ⊥)
-        (λ edge. Contains (edges_from q.machine state) edge × (edge.to.0 ≤ length q.machine.labels) × Passes q s w edge)
+        → MatchOption found ((edge : Edge) → Contains (edges_from q.transducer state) edge → Passes q s w edge → ⊥)
+        (λ edge. Contains (edges_from q.transducer state) edge × (edge.to.0 ≤ length q.transducer.labels) × Passes q s w edge)
         → (answer ≡ true) ↔ CanEnd q s w state
     some-ends state more None answer is none = (
       (λ yes. absurd (true≢false (sym yes ∙ is))),
@@ -292,7 +292,7 @@ module _ (q : Question) where
         let rows : n / columns < length q.pattern + 1 = (div-lt_iff_lt-mul {k = columns} {x = n} {y = length q.pattern + 1} (omega (arith, same))).1 less in
         record { read = omega (arith, read, same); wrote = omega (arith, rows) }
 
-    pub bit-of-place : (state : ℕ) → bit_of q (n % columns) (n / columns) state ≡ n * (length q.machine.labels + 1) + state
+    pub bit-of-place : (state : ℕ) → bit_of q (n % columns) (n / columns) state ≡ n * (length q.transducer.labels + 1) + state
     bit-of-place state =
         let cut : n / columns * (silents_of q + 1) + n % columns ≡ n = ap (λ c. n / columns * c + n % columns) (sym same) ∙ div-add-mod' n columns in
-        ap (λ c. c * (length q.machine.labels + 1) + state) cut
+        ap (λ c. c * (length q.transducer.labels + 1) + state) cut

@@ -16,10 +16,10 @@ use Rattle.pattern_proof.specs.Standing.{OpenRow, Standing, IsClosed, MayFollow,
 use Rattle.pattern_proof.proofs.TextLemmas.{row-unique, path-unique}
 
 -- a good path has small numbers
-pub good-small : (problem : Problem) → IsWhole problem → length problem.sequences ≤ most_sequences → length problem.machine.labels + 1 ≤ 1025 → (row : Row) (path : Cited) → IsGoodPath problem row path → IsSmall path
+pub good-small : (problem : Problem) → IsWhole problem → length problem.sequences ≤ most_sequences → length problem.transducer.labels + 1 ≤ 1025 → (row : Row) (path : Cited) → IsGoodPath problem row path → IsSmall path
 good-small problem whole few short row path good = (
   (let there = good.there in omega (arith, there, few)),
-  AllByRecursion-weaker (λ n. n ≤ length problem.machine.labels) (λ n. n < 2 ^ 32) (λ n less. omega (arith, less, short)) path.states
+  AllByRecursion-weaker (λ n. n ≤ length problem.transducer.labels) (λ n. n < 2 ^ 32) (λ n less. omega (arith, less, short)) path.states
       (path-states problem whole path.place path.states row.pattern good.run),
 )
 
@@ -51,7 +51,7 @@ behind-open P None holds = tt
 behind-open P (Some above) holds = holds
 
 -- a path that no line says with small numbers is good for no row
-pub path-said : {E : Type 0} (problem : Problem) → IsWhole problem → length problem.sequences ≤ most_sequences → length problem.machine.labels + 1 ≤ 1025 → (text : List ℕ) (P : ℕ → Type 0)
+pub path-said : {E : Type 0} (problem : Problem) → IsWhole problem → length problem.sequences ≤ most_sequences → length problem.transducer.labels + 1 ≤ 1025 → (text : List ℕ) (P : ℕ → Type 0)
     (result : Result (Option ℕ) E) → IfOk result (λ said. MatchOption said ((path : Cited) → SaysPath text path → IsSmall path → ⊥) P)
     → IfOk result (λ said. MatchOption said ((row : Row) (path : Cited) → SaysPath text path → IsGoodPath problem row path → ⊥) P)
 path-said problem whole few short text P (Ok None) none = λ row path says good. none path says (good-small problem whole few short row path good)

@@ -194,7 +194,7 @@ under-lists problem fronts pattern w held lists = record {
   rise = lists.rise;
   within = lists.within;
   all = λ place inside has. lists.all place (omega arith) inside
-      (pattern-above problem.hierarchy.links (tree_of problem.machine.expression) (items_of problem place) pattern has w held);
+      (pattern-above problem.hierarchy.links (tree_of problem.transducer.expression) (items_of problem place) pattern has w held);
 }
 
 -- the items of a frequent pattern are items of the hierarchy
@@ -204,9 +204,9 @@ pub frequent-known : (problem : Problem) → IsWhole problem
 frequent-known problem whole ends pattern support frequent w held =
     let least = whole.least in
     let enough = frequent.enough in
-    let (items, has, known) = Counts-some (λ items. IsPatternOf problem.hierarchy.links (tree_of problem.machine.expression) items pattern)
+    let (items, has, known) = Counts-some (λ items. IsPatternOf problem.hierarchy.links (tree_of problem.transducer.expression) items pattern)
     (λ items. AllByRecursion (λ t. t.0 < problem.hierarchy.items) items) problem.sequences support frequent.exact (omega (arith, least, enough)) whole.items in
-    let (t, inside, above) = pattern-above problem.hierarchy.links (tree_of problem.machine.expression) items pattern has w held in
+    let (t, inside, above) = pattern-above problem.hierarchy.links (tree_of problem.transducer.expression) items pattern has w held in
     IsAncestor-keeps problem.hierarchy.links (λ x. x.0 < problem.hierarchy.items) ends w t (AllByRecursion-contained (λ t. t.0 < problem.hierarchy.items) items t known inside) above
 
 -- one more element at the end, of each of which something holds

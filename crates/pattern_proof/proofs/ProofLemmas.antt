@@ -43,7 +43,7 @@ rise-pairs (path ∷ paths) rise =
     at (o ∷ others) all (suc k) d below = at others all.1 k d (omega (arith, below))
 
 module _ (problem : Problem) (whole : IsWhole problem) (names : List (List ℕ)) (sound : AreFileNames names)
-    (few : length problem.sequences ≤ most_sequences) (light : AllByRecursion (λ s. s.weight ≤ most_weight) problem.sequences) (small : length problem.machine.labels ≤ most_leaves) where
+    (few : length problem.sequences ≤ most_sequences) (light : AllByRecursion (λ s. s.weight ≤ most_weight) problem.sequences) (small : length problem.transducer.labels ≤ most_leaves) where
   part-most : (Has : List Item → Type 0) (paths : List Cited) (n : ℕ)
       → Counts Has (map (λ i. sequence_at problem.sequences i) (map (λ (path : Cited). path.place) paths)) n → n ≤ weight_of problem paths
   part-most Has [] n counted = omega (arith, counted)
@@ -81,7 +81,7 @@ module _ (problem : Problem) (whole : IsWhole problem) (names : List (List ℕ))
             paths = AllByRecursion-weaker (IsGoodPath problem entry.row) (λ (path : Cited). (path.place + 1 < 2 ^ 64) × AllByRecursion (λ n. n < 2 ^ 64) path.states)
                 (λ path good. (
                   (let there = good.there in omega (arith, there, few)),
-                  AllByRecursion-weaker (λ n. n ≤ length problem.machine.labels) (λ n. n < 2 ^ 64) (λ n less. omega (arith, less, small)) path.states
+                  AllByRecursion-weaker (λ n. n ≤ length problem.transducer.labels) (λ n. n < 2 ^ 64) (λ n less. omega (arith, less, small)) path.states
                       (path-states problem whole path.place path.states entry.row.pattern good.run),
                 )) entry.paths full.paths.each;
           },

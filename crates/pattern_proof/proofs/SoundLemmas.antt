@@ -19,7 +19,7 @@ use Rattle.pattern_proof.proofs.WeightLemmas.{summed, weigh-from}
 
 -- the sequence has the pattern of the row
 abbrev pub HasPattern : Problem → Row → List Item → Type 0
-HasPattern problem row items = IsPatternOf problem.hierarchy.links (tree_of problem.machine.expression) items row.pattern
+HasPattern problem row items = IsPatternOf problem.hierarchy.links (tree_of problem.transducer.expression) items row.pattern
 
 module _ (problem : Problem) (whole : IsWhole problem) where
   weight-summed : (row : Row) (paths : List Cited) → summed (HasPattern problem row) (λ i. sequence_at problem.sequences i) paths ≡ weight_of problem paths
@@ -47,7 +47,7 @@ module _ (problem : Problem) (whole : IsWhole problem) where
       WeighAtLeast-less (HasPattern problem entry.row) problem.sequences (weight_of problem entry.paths) entry.row.support enough (paths-weigh entry some good)
 
   pub enough-support : (entry : Entry) (n : ℕ) → entry.row.pattern ≢ [] → AreGoodPaths problem entry → IsEnough problem entry
-      → HasSupport problem.hierarchy.links (tree_of problem.machine.expression) problem.sequences entry.row.pattern n → entry.row.support ≤ n
+      → HasSupport problem.hierarchy.links (tree_of problem.transducer.expression) problem.sequences entry.row.pattern n → entry.row.support ≤ n
   enough-support entry n some good enough support =
       (WeighAtLeast-counted (HasPattern problem entry.row) problem.sequences n entry.row.support support).0 (enough-weigh entry some good enough)
 
@@ -55,7 +55,7 @@ module _ (problem : Problem) (whole : IsWhole problem) where
 pub good-proves : (problem : Problem) → IsWhole problem → (names : List (List ℕ)) (lines : List (List ℕ)) (rows : ℕ) → (good : IsGood problem names lines rows)
     → (entry : Entry) → Contains good.entries entry
     → (entry.row.pattern ≢ []) × WeighAtLeast (HasPattern problem entry.row) problem.sequences entry.row.support
-    × ((n : ℕ) → HasSupport problem.hierarchy.links (tree_of problem.machine.expression) problem.sequences entry.row.pattern n → entry.row.support ≤ n)
+    × ((n : ℕ) → HasSupport problem.hierarchy.links (tree_of problem.transducer.expression) problem.sequences entry.row.pattern n → entry.row.support ≤ n)
 good-proves problem whole names lines rows good entry held =
     let proved : IsProved problem entry = AllByRecursion-contained (IsProved problem) good.entries entry good.proved held in
     let some : entry.row.pattern ≢ [] = AllByRecursion-contained (λ (e : Entry). e.row.pattern ≢ []) good.entries entry (say-some names [] lines good.entries good.said tt) held in

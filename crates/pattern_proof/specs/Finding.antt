@@ -15,14 +15,14 @@ use Rattle.pattern_proof.specs.Steps.{IsRun}
 -- items that a path reads, and a pattern that it is to write
 pub record Question : Type 0 where
   pub links : List (Link Item)
-  pub machine : Transducer
+  pub transducer : Transducer
   pub items : List Item
   pub pattern : List Item
 
 abbrev pub question_of : Search → Question
 question_of search = record {
   links = search.hierarchy.now.links;
-  machine = search.fst.now;
+  transducer = search.fst.now;
   items = search.items.now;
   pattern = search.pattern.now;
 }
@@ -46,7 +46,7 @@ pub record IsPlace (q : Question) (silent written : ℕ) : Type 0 where
 -- from the state on, some path reads the items that are left, and writes what is left of the pattern
 abbrev pub CanEnd : Question → ℕ → ℕ → ℕ → Type 0
 CanEnd q silent written state = (states : List ℕ)
-    × IsRun q.links q.machine state states (drop (silent + written) q.items) (drop written q.pattern)
+    × IsRun q.links q.transducer state states (drop (silent + written) q.items) (drop written q.pattern)
 
 -- what the edge writes is the next item of the pattern, or nothing, and then a path goes on
 abbrev pub LeadsOn : Question → ℕ → ℕ → Item → Bool → Edge → Type 0
@@ -63,16 +63,16 @@ Passes q silent written edge = (t : Item) × (slice_get q.items (silent + writte
 -- the number of the bit of a state
 abbrev pub bit_of : Question → ℕ → ℕ → ℕ → ℕ
 bit_of q silent written state =
-    (written * (silents_of q + 1) + silent) * (length q.machine.labels + 1) + state
+    (written * (silents_of q + 1) + silent) * (length q.transducer.labels + 1) + state
 
 -- how many bits there are
 abbrev pub bits_of : Question → ℕ
-bits_of q = (length q.pattern + 1) * (silents_of q + 1) * (length q.machine.labels + 1)
+bits_of q = (length q.pattern + 1) * (silents_of q + 1) * (length q.transducer.labels + 1)
 
 -- the bits of the states say which of them end there
 abbrev pub IsRightAt : Question → List ℕ → ℕ → ℕ → Type 0
 IsRightAt q words silent written =
-    (state : ℕ) → state ≤ length q.machine.labels
+    (state : ℕ) → state ≤ length q.transducer.labels
     → HasBit words (bit_of q silent written state) ↔ CanEnd q silent written state
 
 -- the bit is that of a state that ends
@@ -81,7 +81,7 @@ pub record IsOfEnd (q : Question) (bit : ℕ) : Type 0 where
   pub written : ℕ
   pub state : ℕ
   pub place : IsPlace q silent written
-  pub within : state ≤ length q.machine.labels
+  pub within : state ≤ length q.transducer.labels
   pub same : bit ≡ bit_of q silent written state
   pub ends : CanEnd q silent written state
 

@@ -63,7 +63,7 @@ pub record IsGood (problem : Problem) (names : List (List ℕ)) (lines : List (L
 pub record IsFull (problem : Problem) (entry : Entry) : Type 0 where
   pub paths : AreGoodPaths problem entry
   pub all : (place : ℕ) → place < length problem.sequences
-      → IsPatternOf problem.hierarchy.links (tree_of problem.machine.expression)
+      → IsPatternOf problem.hierarchy.links (tree_of problem.transducer.expression)
       (items_of problem place) entry.row.pattern
       → Contains (map (λ path. path.place) entry.paths) place
 

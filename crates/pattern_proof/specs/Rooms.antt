@@ -13,5 +13,5 @@ pub record HasRoom (room : PathRoom) (states items pattern : ℕ) : Type 0 where
 abbrev pub HasRoomForAll : PathRoom → Problem → List Row → Type 0
 HasRoomForAll room problem rows =
     All (λ row. (place : ℕ) → place < length problem.sequences
-    → HasRoom room (length problem.machine.labels + 1) (length (items_of problem place))
+    → HasRoom room (length problem.transducer.labels + 1) (length (items_of problem place))
     (length row.pattern)) rows

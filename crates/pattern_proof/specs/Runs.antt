@@ -33,5 +33,5 @@ Passes {A} links shape at (next ∷ states) (t ∷ items) output =
 -- the states are a path over the sequence with this number, counted from 0, which writes the pattern
 abbrev pub Writes : Problem → ℕ → List ℕ → List Item → Type 0
 Writes problem place states pattern =
-    Passes problem.hierarchy.links (unfold_tree (tree_of problem.machine.expression) false) 0 states
+    Passes problem.hierarchy.links (unfold_tree (tree_of problem.transducer.expression) false) 0 states
     (items_of problem place) pattern

@@ -11,11 +11,11 @@ use Rattle.fst_compile.specs.Transducer.{Transducer, edges_from}
 -- From the state on, edges lead to these states, one for each item, and the last of them is final. The edges
 -- read the items and write the output.
 abbrev pub IsRun : List (Link Item) → Transducer → ℕ → List ℕ → List Item → List Item → Type 0
-IsRun links machine state [] [] output = Has machine.finals state × (output ≡ [])
-IsRun links machine state [] (t ∷ items) output = ⊥
-IsRun links machine state (next ∷ states) [] output = ⊥
-IsRun links machine state (next ∷ states) (t ∷ items) output =
+IsRun links transducer state [] [] output = Has transducer.finals state × (output ≡ [])
+IsRun links transducer state [] (t ∷ items) output = ⊥
+IsRun links transducer state (next ∷ states) [] output = ⊥
+IsRun links transducer state (next ∷ states) (t ∷ items) output =
     (edge : Edge) × (here : List Item) × (there : List Item)
-    × Contains (edges_from machine state) edge × (edge.to.0 ≡ next)
+    × Contains (edges_from transducer state) edge × (edge.to.0 ≡ next)
     × Matches links (leaf_of edge.leaf) t × WritesAt links (leaf_of edge.leaf) edge.captured t here
-    × (output ≡ here ++ there) × IsRun links machine next states items there
+    × (output ≡ here ++ there) × IsRun links transducer next states items there

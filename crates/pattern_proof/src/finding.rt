@@ -48,7 +48,7 @@ impl PathRoom {
 /// Looks for a path over the sequence with this number that writes the pattern. The room then has its states.
 pub(crate) fn find_path(room: &mut PathRoom, job: &Job, seq: u32, pattern: &[Item]) -> bool
     requires seq { seq < length job.now.sequences }
-    requires room { HasRoom room.old (length job.now.machine.labels + 1) (length (items_of job.now seq))
+    requires room { HasRoom room.old (length job.now.transducer.labels + 1) (length (items_of job.now seq))
         (length pattern.now) }
     ensures path { MatchBool result (Writes job.now seq (numbers_of room.new.states.items) pattern.now)
         ((states : List ℕ) → Writes job.now seq states pattern.now → ⊥) }

@@ -23,7 +23,7 @@ pub fn the_answer_has_a_good_proof()
     ensures { (problem : Problem) → IsWhole problem → (names : List (List ℕ)) → AreFileNames names
         → length problem.sequences ≤ most_sequences
         → AllByRecursion (λ sequence. sequence.weight ≤ most_weight) problem.sequences
-        → length problem.machine.labels ≤ most_leaves
+        → length problem.transducer.labels ≤ most_leaves
         → (rows : List Row) → AreFrequent (data_of problem) rows
         → AllByRecursion (λ row. AllByRecursion (HasName names) row.pattern) rows
         → Rises (map (named_row names) rows)
@@ -38,8 +38,8 @@ pub fn a_good_proof_proves()
         → (good : IsGood problem names lines rows) → (entry : Entry) → Contains good.entries entry
         → (entry.row.pattern ≢ [])
         × WeighAtLeast (λ items. IsPatternOf problem.hierarchy.links
-        (tree_of problem.machine.expression) items entry.row.pattern) problem.sequences entry.row.support
-        × ((n : ℕ) → HasSupport problem.hierarchy.links (tree_of problem.machine.expression) problem.sequences
+        (tree_of problem.transducer.expression) items entry.row.pattern) problem.sequences entry.row.support
+        × ((n : ℕ) → HasSupport problem.hierarchy.links (tree_of problem.transducer.expression) problem.sequences
         entry.row.pattern n → entry.row.support ≤ n) }
 {}
 

@@ -187,7 +187,7 @@ fn put_entry<O: Sink>(
     requires named { All (HasName source.now.names.now) row.now.pattern }
     requires listed { ListsAll source.now.job.now source.now.lists.now.listed.items first row.now.pattern }
     requires room { (place : ℕ) → place < length source.now.job.now.sequences
-        → HasRoom room.old (length source.now.job.now.machine.labels + 1)
+        → HasRoom room.old (length source.now.job.now.transducer.labels + 1)
         (length (items_of source.now.job.now place)) (length row.now.pattern) }
     ensures fits { IfOk result (λ n. n ≤ length text.new) }
     ensures held { IfOk result (λ n. HoldsEntry source.now.job.now source.now.names.now row.now

@@ -47,7 +47,7 @@ pub(crate) fn put_paths<O: Sink>(
     requires listed { ListsAll asked.now.job.now asked.now.listed.now asked.now.first
         asked.now.row.now.pattern }
     requires room { (place : ℕ) → place < length asked.now.job.now.sequences
-        → HasRoom room.old (length asked.now.job.now.machine.labels + 1)
+        → HasRoom room.old (length asked.now.job.now.transducer.labels + 1)
         (length (items_of asked.now.job.now place)) (length asked.now.row.now.pattern) }
     ensures fits { IfOk result (λ n. n ≤ length text.new) }
     ensures held { IfOk result (λ n. HoldsPaths asked.now.job.now asked.now.row.now

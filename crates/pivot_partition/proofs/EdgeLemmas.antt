@@ -74,18 +74,18 @@ lowered-all before after top edges i over are = subst (λ (l : List Edge). AreLo
 
 -- each state has the least number of those below the count that lead to it
 abbrev pub AreSpreadSoFar : Transducer → List ℕ → ℕ → List ℕ → Type 0
-AreSpreadSoFar machine front count entered = (state p : ℕ) → state ≤ length machine.labels → p < no_rank
-    → slice_index entered state ≤ p ↔ ((from : ℕ) × (from < count) × (slice_index front from ≤ p) × Leads machine from state)
+AreSpreadSoFar transducer front count entered = (state p : ℕ) → state ≤ length transducer.labels → p < no_rank
+    → slice_index entered state ≤ p ↔ ((from : ℕ) × (from < count) × (slice_index front from ≤ p) × Leads transducer from state)
 
-module _ (machine : Transducer) (front : List ℕ) where
-  pub spread-none : (entered : List ℕ) → ((k : ℕ) → k < length entered → slice_index entered k ≡ no_rank) → length entered ≡ length machine.labels + 1 → AreSpreadSoFar machine front 0 entered
+module _ (transducer : Transducer) (front : List ℕ) where
+  pub spread-none : (entered : List ℕ) → ((k : ℕ) → k < length entered → slice_index entered k ≡ no_rank) → length entered ≡ length transducer.labels + 1 → AreSpreadSoFar transducer front 0 entered
   spread-none entered none long = λ state p inside below. (
     (λ low. let is = none state (omega (arith, inside, long)) in absurd (omega (arith, low, is, below))),
     (λ (from, less, low, leads). absurd (omega (arith, less))),
   )
 
-  module _ (count : ℕ) (entered : List ℕ) (before : AreSpreadSoFar machine front count entered) where
-    pub spread-pass : slice_index front count ≡ no_rank → AreSpreadSoFar machine front (count + 1) entered
+  module _ (count : ℕ) (entered : List ℕ) (before : AreSpreadSoFar transducer front count entered) where
+    pub spread-pass : slice_index front count ≡ no_rank → AreSpreadSoFar transducer front (count + 1) entered
     spread-pass none = λ state p inside below.
         let old = before state p inside below in (
           (λ low. let (from, less, under, leads) = old.0 low in (from, omega (arith, less), under, leads)),
@@ -95,8 +95,8 @@ module _ (machine : Transducer) (front : List ℕ) where
           ]),
         )
 
-    pub spread-more : (after : List ℕ) (edges : List Edge) (top : ℕ) → top ≡ slice_index front count → edges ≡ edges_from machine count → AreLowered entered top edges after
-        → AreSpreadSoFar machine front (count + 1) after
+    pub spread-more : (after : List ℕ) (edges : List Edge) (top : ℕ) → top ≡ slice_index front count → edges ≡ edges_from transducer count → AreLowered entered top edges after
+        → AreSpreadSoFar transducer front (count + 1) after
     spread-more after edges top is are lowered = λ state p inside below.
         let old = before state p inside below in
         let new' = lowered state p in (
@@ -106,16 +106,16 @@ module _ (machine : Transducer) (front : List ℕ) where
           ]),
           (λ (from, less, under, leads). elim (cases_eq from count) [
             | inl same ↦
-                let (edge, held, to) = subst (λ f. Leads machine f state) same leads in
+                let (edge, held, to) = subst (λ f. Leads transducer f state) same leads in
                 let high : top ≤ p = let at : slice_index front from ≡ slice_index front count = ap (slice_index front) same in omega (arith, at, under, is) in
                 new'.1 (inr (high, (edge, subst (λ (l : List Edge). Contains l edge) (sym are) held, to)))
             | inr other ↦ new'.1 (inl (old.1 (from, omega (arith, less, other), under, leads)))
           ]),
         )
 
-  pub spread-all : (count : ℕ) (entered : List ℕ) → count ≡ length machine.labels + 1 → AreSpreadSoFar machine front count entered
-      → (state p : ℕ) → state ≤ length machine.labels → p < no_rank
-      → slice_index entered state ≤ p ↔ ((from : ℕ) × (from ≤ length machine.labels) × (slice_index front from ≤ p) × Leads machine from state)
+  pub spread-all : (count : ℕ) (entered : List ℕ) → count ≡ length transducer.labels + 1 → AreSpreadSoFar transducer front count entered
+      → (state p : ℕ) → state ≤ length transducer.labels → p < no_rank
+      → slice_index entered state ≤ p ↔ ((from : ℕ) × (from ≤ length transducer.labels) × (slice_index front from ≤ p) × Leads transducer from state)
   spread-all count entered all is state p inside below =
       let old = is state p inside below in (
         (λ low. let (from, less, under, leads) = old.0 low in (from, omega (arith, less, all), under, leads)),
@@ -123,10 +123,10 @@ module _ (machine : Transducer) (front : List ℕ) where
       )
 
 -- the least number behind the edges of a state is that of the states that it leads to
-pub least-leads : (machine : Transducer) (entered : List ℕ) (state : ℕ) (edges : List Edge) → edges ≡ edges_from machine state → (least : ℕ)
+pub least-leads : (transducer : Transducer) (entered : List ℕ) (state : ℕ) (edges : List Edge) → edges ≡ edges_from transducer state → (least : ℕ)
     → ((p : ℕ) → p < no_rank → least ≤ p ↔ ((edge : Edge) × Contains edges edge × (slice_index entered edge.to.0 ≤ p)))
-    → (p : ℕ) → p < no_rank → least ≤ p ↔ ((to : ℕ) × Leads machine state to × (slice_index entered to ≤ p))
-least-leads machine entered state edges are least each p below =
+    → (p : ℕ) → p < no_rank → least ≤ p ↔ ((to : ℕ) × Leads transducer state to × (slice_index entered to ≤ p))
+least-leads transducer entered state edges are least each p below =
     let is = each p below in (
       (λ low. let (edge, held, under) = is.0 low in (edge.to.0, (edge, subst (λ (l : List Edge). Contains l edge) are held, refl), under)),
       (λ (to, (edge, held, same), under). is.1 (edge, subst (λ (l : List Edge). Contains l edge) (sym are) held, subst (λ s. slice_index entered s ≤ p) (sym same) under)),

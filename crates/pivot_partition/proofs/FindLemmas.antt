@@ -36,10 +36,10 @@ module _ (problem : Problem) (whole : IsWhole problem) (grids : GridList) (same 
   the-reading =
       subst (λ p. IsReading p grids.bound (item_at grids position) (rest_at grids 0 (position + 1)) reading) same (told (item_at grids position) (item-there grids position inside))
 
-  pub outputs-kept : (state : ℕ) → 1 ≤ state → state < length problem.machine.labels + 1 → HasOutputs reading state
+  pub outputs-kept : (state : ℕ) → 1 ≤ state → state < length problem.transducer.labels + 1 → HasOutputs reading state
   outputs-kept state least less = (the-reading state least (omega (arith, less))).kept
 
-  pub outputs-within : (size : ℕ) → length problem.ranking.order < size → (state : ℕ) → 1 ≤ state → state < length problem.machine.labels + 1
+  pub outputs-within : (size : ℕ) → length problem.ranking.order < size → (state : ℕ) → 1 ≤ state → state < length problem.transducer.labels + 1
       → All (λ rank. rank < size) (outputs_at reading state)
   outputs-within size room state least less = λ k d below.
       let ranks = reading-ranks problem whole (item_at grids position) (rest_at grids 0 (position + 1)) grids.bound top reading the-reading state (get_or (outputs_at reading state) k d)
@@ -48,11 +48,11 @@ module _ (problem : Problem) (whole : IsWhole problem) (grids : GridList) (same 
 
   -- the table with the row of the position
   pub table-step : (table below entered row : List ℕ) → IsTableFrom problem (items_at grids 0) (position + 1) table
-      → below ≡ drop (row_at problem (items_at grids 0) (position + 1)) table → length row ≡ length problem.machine.labels + 1
-      → ((state p : ℕ) → 1 ≤ state → state ≤ length problem.machine.labels → p < no_rank
+      → below ≡ drop (row_at problem (items_at grids 0) (position + 1)) table → length row ≡ length problem.transducer.labels + 1
+      → ((state p : ℕ) → 1 ≤ state → state ≤ length problem.transducer.labels → p < no_rank
       → slice_index entered state ≤ p ↔ (GoesUpTo reading state p × (slice_index below state ≤ p)))
-      → ((state p : ℕ) → state ≤ length problem.machine.labels → p < no_rank
-      → slice_index row state ≤ p ↔ ((to : ℕ) × Leads problem.machine state to × (slice_index entered to ≤ p)))
+      → ((state p : ℕ) → state ≤ length problem.transducer.labels → p < no_rank
+      → slice_index row state ≤ p ↔ ((to : ℕ) × Leads problem.transducer state to × (slice_index entered to ≤ p)))
       → IsTableFrom problem (items_at grids 0) position (table ++ row)
   table-step table below entered row before is long enters rows =
       let under : IsRowOf problem (rest_at grids 0 (position + 1)) below = subst (IsRowOf problem (rest_at grids 0 (position + 1))) (sym is) (before.rows (position + 1) (omega arith) before.inside) in
@@ -63,10 +63,10 @@ module _ (problem : Problem) (whole : IsWhole problem) (grids : GridList) (same 
       (subst (λ rest. IsRowOf problem rest row) (sym (item-rest grids position inside)) row_is)
 
   -- the front behind the item, and what is found with it
-  pub find-step : (front entered below after found more : List ℕ) (states : ℕ) → states ≡ length problem.machine.labels + 1
+  pub find-step : (front entered below after found more : List ℕ) (states : ℕ) → states ≡ length problem.transducer.labels + 1
       → IsRowOf problem (rest_at grids 0 (position + 1)) below
-      → ((state p : ℕ) → state ≤ length problem.machine.labels → p < no_rank
-      → slice_index entered state ≤ p ↔ ((from : ℕ) × (from ≤ length problem.machine.labels) × (slice_index front from ≤ p) × Leads problem.machine from state))
+      → ((state p : ℕ) → state ≤ length problem.transducer.labels → p < no_rank
+      → slice_index entered state ≤ p ↔ ((from : ℕ) × (from ≤ length problem.transducer.labels) × (slice_index front from ≤ p) × Leads problem.transducer from state))
       → ((rank : ℕ) → rank < no_rank → Contains more rank ↔ (Contains found rank ⊎ ((state : ℕ) × (1 ≤ state) × (state < states)
       × (slice_index entered state ≤ rank) × (slice_index below state ≤ rank) × Contains (outputs_at reading state) rank)))
       → slice_index after 0 ≡ no_rank

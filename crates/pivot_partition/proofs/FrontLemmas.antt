@@ -17,7 +17,7 @@ pub record AreFoundSoFar (problem : Problem) (items : List Item) (front found : 
 
 module _ (problem : Problem) (whole : IsWhole problem) (items : List Item) where
   pub found-begin : (front found : List ℕ) → length problem.ranking.order < no_rank → slice_index front 0 ≡ 0
-      → ((state : ℕ) → 1 ≤ state → state ≤ length problem.machine.labels → slice_index front state ≡ no_rank)
+      → ((state : ℕ) → 1 ≤ state → state ≤ length problem.transducer.labels → slice_index front state ≡ no_rank)
       → ((rank : ℕ) → Contains found rank → ⊥) → AreFoundSoFar problem items front found 0
   found-begin front found few first others none = record {
     ranks = λ rank held. absurd (none rank held);
@@ -30,7 +30,7 @@ module _ (problem : Problem) (whole : IsWhole problem) (items : List Item) where
     );
   }
     where
-      start : (p : ℕ) → p ≤ length problem.ranking.order → (state : ℕ) → state ≤ length problem.machine.labels → slice_index front state ≤ p
+      start : (p : ℕ) → p ≤ length problem.ranking.order → (state : ℕ) → state ≤ length problem.transducer.labels → slice_index front state ≤ p
           → Completes problem (bound_by p) items state false → Completes problem (bound_by p) items 0 false
       start p most zero inside low writes = writes
       start p most (suc k) inside low writes =

@@ -11,8 +11,8 @@ rows_more n k s less =
 
 -- the row of a position stands behind that of the next one
 pub row-next : (problem : Problem) (items : List Item) (position : ℕ) → position < length items
-    → row_at problem items position ≡ row_at problem items (position + 1) + (length problem.machine.labels + 1)
-row-next problem items position less = rows_more (length items) position (length problem.machine.labels + 1) less
+    → row_at problem items position ≡ row_at problem items (position + 1) + (length problem.transducer.labels + 1)
+row-next problem items position less = rows_more (length items) position (length problem.transducer.labels + 1) less
 
 pub row-end : (problem : Problem) (items : List Item) (position : ℕ) → length items ≤ position → row_at problem items position ≡ 0
 row-end problem items position past = let none : length items - position ≡ 0 = omega arith in rw none (grind arith)
@@ -25,4 +25,4 @@ rows_rise n k j s less =
 
 -- the rows of later positions stand before it
 pub row-later : (problem : Problem) (items : List Item) (position place : ℕ) → position ≤ place → row_at problem items place ≤ row_at problem items position
-row-later problem items position place less = rows_rise (length items) position place (length problem.machine.labels + 1) less
+row-later problem items position place less = rows_rise (length items) position place (length problem.transducer.labels + 1) less

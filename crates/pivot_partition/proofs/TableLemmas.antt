@@ -9,13 +9,13 @@ use Rattle.pivot_partition.proofs.NumberLemmas.{row-next, row-end, row-later}
 
 module _ (problem : Problem) where
   -- a row with others behind it
-  row-front : (rest : List Item) (row more : List ℕ) → length problem.machine.labels + 1 ≤ length row → IsRowOf problem rest row → IsRowOf problem rest (row ++ more)
+  row-front : (rest : List Item) (row more : List ℕ) → length problem.transducer.labels + 1 ≤ length row → IsRowOf problem rest row → IsRowOf problem rest (row ++ more)
   row-front rest row more long is = λ state inside.
       subst (IsLeastTop problem (GoesOn problem rest state)) (sym (get_or_append_left row more 0 state (omega (arith, long, inside)))) (is state inside)
 
   module _ (items : List Item) where
     -- the row of the end alone
-    pub table-end : (position : ℕ) (table : List ℕ) → position ≡ length items → length table ≡ length problem.machine.labels + 1 → IsRowOf problem [] table → IsTableFrom problem items position table
+    pub table-end : (position : ℕ) (table : List ℕ) → position ≡ length items → length table ≡ length problem.transducer.labels + 1 → IsRowOf problem [] table → IsTableFrom problem items position table
     table-end position table at long is = record {
       inside = omega (arith, at);
       long = let none = row-end problem items position (omega (arith, at)) in omega (arith, long, none);
@@ -26,7 +26,7 @@ module _ (problem : Problem) where
     }
 
     -- the row of one position more
-    pub table-more : (position after : ℕ) (table row : List ℕ) → after ≡ position + 1 → IsTableFrom problem items after table → length row ≡ length problem.machine.labels + 1
+    pub table-more : (position after : ℕ) (table row : List ℕ) → after ≡ position + 1 → IsTableFrom problem items after table → length row ≡ length problem.transducer.labels + 1
         → IsRowOf problem (drop position items) row → IsTableFrom problem items position (table ++ row)
     table-more position after table row next before long is =
         let inside : position < length items = let h = before.inside in omega (arith, h, next) in

@@ -57,7 +57,7 @@ module _ (problem : Problem) (whole : IsWhole problem) where
   ]
 
   -- at the end nothing is written
-  pub end-goes : (state p : ℕ) → GoesOn problem [] state p ↔ Has problem.machine.finals state
+  pub end-goes : (state p : ℕ) → GoesOn problem [] state p ↔ Has problem.transducer.finals state
   end-goes state p = (
     (λ (output, path, allowed, seen). path.0),
     (λ final. ([], (final, refl), tt, inl refl)),
@@ -70,7 +70,7 @@ module _ (problem : Problem) (whole : IsWhole problem) where
   ]
 
   pub end-row : (row : List ℕ) → length problem.ranking.order < no_rank
-      → ((state p : ℕ) → state ≤ length problem.machine.labels → p < no_rank → slice_index row state ≤ p ↔ Has problem.machine.finals state)
+      → ((state p : ℕ) → state ≤ length problem.transducer.labels → p < no_rank → slice_index row state ≤ p ↔ Has problem.transducer.finals state)
       → IsRowOf problem [] row
   end-row row few each = λ state inside p most.
       let is = each state p inside (omega (arith, few, most)) in
@@ -114,7 +114,7 @@ module _ (problem : Problem) (whole : IsWhole problem) where
 
       -- the row of what is entered, from the row below
       pub entered-row : (below entered : List ℕ) → length problem.ranking.order < no_rank → IsRowOf problem rest below
-          → ((state p : ℕ) → 1 ≤ state → state ≤ length problem.machine.labels → p < no_rank
+          → ((state p : ℕ) → 1 ≤ state → state ≤ length problem.transducer.labels → p < no_rank
           → slice_index entered state ≤ p ↔ (GoesUpTo reading state p × (slice_index below state ≤ p)))
           → IsEnteredRow problem t rest entered
       entered-row below entered few row each = λ state target p most.
@@ -127,8 +127,8 @@ module _ (problem : Problem) (whole : IsWhole problem) where
 
     -- the row before an item, from what is entered over it
     pub before-row : (entered row : List ℕ) → length problem.ranking.order < no_rank → IsEnteredRow problem t rest entered
-        → ((state p : ℕ) → state ≤ length problem.machine.labels → p < no_rank
-        → slice_index row state ≤ p ↔ ((to : ℕ) × Leads problem.machine state to × (slice_index entered to ≤ p)))
+        → ((state p : ℕ) → state ≤ length problem.transducer.labels → p < no_rank
+        → slice_index row state ≤ p ↔ ((to : ℕ) × Leads problem.transducer state to × (slice_index entered to ≤ p)))
         → IsRowOf problem (t ∷ rest) row
     before-row entered row few in_row each = λ state inside p most.
         let is = each state p inside (omega (arith, few, most)) in
@@ -144,8 +144,8 @@ module _ (problem : Problem) (whole : IsWhole problem) where
 
     -- what is written from a front over an item and the rest: at the item, or from the front behind it
     pub front-step : (front entered below after : List ℕ) (p : ℕ) → p ≤ length problem.ranking.order → length problem.ranking.order < no_rank → IsRowOf problem rest below
-        → ((state : ℕ) → state ≤ length problem.machine.labels
-        → slice_index entered state ≤ p ↔ ((from : ℕ) × (from ≤ length problem.machine.labels) × (slice_index front from ≤ p) × Leads problem.machine from state))
+        → ((state : ℕ) → state ≤ length problem.transducer.labels
+        → slice_index entered state ≤ p ↔ ((from : ℕ) × (from ≤ length problem.transducer.labels) × (slice_index front from ≤ p) × Leads problem.transducer from state))
         → ((state : ℕ) → IsTarget problem state → slice_index after state ≤ p ↔ (Goes problem (bound_by p) t state × (slice_index entered state ≤ p)))
         → (slice_index after 0 ≡ no_rank)
         → WritesFrom problem front (t ∷ rest) p ↔ (WritesAt problem t entered below p ⊎ WritesFrom problem after rest p)
@@ -166,7 +166,7 @@ module _ (problem : Problem) (whole : IsWhole problem) where
       ]),
     )
       where
-        step : (state : ℕ) → state ≤ length problem.machine.labels → slice_index after state ≤ p → Completes problem (bound_by p) rest state false → WritesFrom problem front (t ∷ rest) p
+        step : (state : ℕ) → state ≤ length problem.transducer.labels → slice_index after state ≤ p → Completes problem (bound_by p) rest state false → WritesFrom problem front (t ∷ rest) p
         step zero inside low writes = absurd (omega (arith, low, start, most, few))
         step (suc k) inside low writes =
             let target : IsTarget problem (suc k) = (omega arith, inside) in

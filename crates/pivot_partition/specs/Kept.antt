@@ -13,8 +13,8 @@ pub record AreKept (problem : Problem) (grids : GridList) (front entered : List 
     bound = record { top = length problem.ranking.order; need = None };
     sequences = [];
   }
-  pub front_long : length front ≡ length problem.machine.labels + 1
-  pub entered_long : length entered ≡ length problem.machine.labels + 1
+  pub front_long : length front ≡ length problem.transducer.labels + 1
+  pub entered_long : length entered ≡ length problem.transducer.labels + 1
   pub marks_long : length marks ≡ length problem.ranking.order + 1
   pub few : length problem.ranking.order < no_rank
   pub unmarked : AreMarked marks []

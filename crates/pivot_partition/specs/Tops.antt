@@ -33,7 +33,7 @@ GoesOn problem rest state p = Completes problem (bound_by p) rest state true
 
 -- the row has for each state up to which rank a path from it over the rest has to write
 abbrev pub IsRowOf : Problem → List Item → List ℕ → Type 0
-IsRowOf problem rest row = (state : ℕ) → state ≤ length problem.machine.labels
+IsRowOf problem rest row = (state : ℕ) → state ≤ length problem.transducer.labels
     → IsLeastTop problem (GoesOn problem rest state) (slice_index row state)
 
 -- the row has for each state that edges lead into up to which rank reading t into it and a path from there
@@ -45,12 +45,12 @@ IsEnteredRow problem t rest row = (state : ℕ) → IsTarget problem state
 
 -- the number of the first place of the row of a position, in a table that begins with the row of the end
 abbrev pub row_at : Problem → List Item → ℕ → ℕ
-row_at problem items position = (length items - position) * (length problem.machine.labels + 1)
+row_at problem items position = (length items - position) * (length problem.transducer.labels + 1)
 
 -- the table has the rows of all positions from this one on
 pub record IsTableFrom (problem : Problem) (items : List Item) (position : ℕ) (table : List ℕ) : Type 0 where
   pub inside : position ≤ length items
-  pub long : length table ≡ row_at problem items position + (length problem.machine.labels + 1)
+  pub long : length table ≡ row_at problem items position + (length problem.transducer.labels + 1)
   pub rows : (place : ℕ) → position ≤ place → place ≤ length items
       → IsRowOf problem (drop place items) (drop (row_at problem items place) table)
 
@@ -61,7 +61,7 @@ GoesUpTo reading state p =
 
 -- a path over the rest from a state that the front has up to p writes p, and no greater rank
 abbrev pub WritesFrom : Problem → List ℕ → List Item → ℕ → Type 0
-WritesFrom problem front rest p = (state : ℕ) × (state ≤ length problem.machine.labels)
+WritesFrom problem front rest p = (state : ℕ) × (state ≤ length problem.transducer.labels)
     × (slice_index front state ≤ p) × Completes problem (bound_by p) rest state false
 
 -- at a state that edges lead into p is written, where the rows before and behind have it up to p

@@ -33,8 +33,8 @@ pub(crate) fn find_in(
     requires few { length job.now.ranking.order < no_rank }
     requires grid { 0 < length grids.now.sequences }
     requires count { count ≡ length (items_at grids.now 0) }
-    requires front { length front.old ≡ length job.now.machine.labels + 1 }
-    requires entered { length entered.old ≡ length job.now.machine.labels + 1 }
+    requires front { length front.old ≡ length job.now.transducer.labels + 1 }
+    requires entered { length entered.old ≡ length job.now.transducer.labels + 1 }
     requires marks { length marks.old ≡ length job.now.ranking.order + 1 }
     requires marked { AreMarked marks.old found.old.items }
     requires empty { found.old.items ≡ [] }
@@ -77,8 +77,8 @@ fn find(
     requires grid { 0 < length grids.now.sequences }
     requires count { count ≡ length (items_at grids.now 0) }
     requires table { IsTableFrom job.now (items_at grids.now 0) 0 table.now }
-    requires front { length front.old ≡ length job.now.machine.labels + 1 }
-    requires entered { length entered.old ≡ length job.now.machine.labels + 1 }
+    requires front { length front.old ≡ length job.now.transducer.labels + 1 }
+    requires entered { length entered.old ≡ length job.now.transducer.labels + 1 }
     requires marks { length marks.old ≡ length job.now.ranking.order + 1 }
     requires marked { AreMarked marks.old found.old.items }
     requires empty { found.old.items ≡ [] }

@@ -28,7 +28,7 @@ pub(crate) fn fill_table(
     requires few { length job.now.ranking.order < no_rank }
     requires grid { 0 < length grids.now.sequences }
     requires count { count ≡ length (items_at grids.now 0) }
-    requires entered { length entered.old ≡ length job.now.machine.labels + 1 }
+    requires entered { length entered.old ≡ length job.now.transducer.labels + 1 }
     ensures long { length entered.new ≡ length entered.old }
     ensures table { OnOk result (IsTableFrom job.now (items_at grids.now 0) 0 table.new.items) }
 {

@@ -191,7 +191,7 @@ dead_is = record {
   ends = λ k has. Has-none k has;
 }
 
-module _ (part : GridList) (twins : List TwinSets) (kinds : Kinds) (places : List Record) (early late : List MoveSets) (columns : AreColumns part.problem.machine.labels kinds.columns.numbers.items kinds.columns.heads.items)
+module _ (part : GridList) (twins : List TwinSets) (kinds : Kinds) (places : List Record) (early late : List MoveSets) (columns : AreColumns part.problem.transducer.labels kinds.columns.numbers.items kinds.columns.heads.items)
     (filled : AreFilledTo part twins kinds places (length part.sequences))
     (early_are : early ≡ map (move_in false) twins) (late_are : late ≡ map (move_in true) twins) (keeps : Bool) where
   abbrev pub table : RanksValue

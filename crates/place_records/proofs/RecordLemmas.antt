@@ -45,7 +45,7 @@ move_at problem bound t rest class triple needed goes move k of_class of_triple 
 
 -- the record of t before the rest
 pub record_by : (problem : Problem) (bound : Bound) (table : TableValue) (twins : TwinsValue) (kinds : Kinds) (t : Item) (rest : List Item) (kind : Kind) (number of behind : ℕ)
-    → twins.table ≡ table → twins.needed ≡ goes_with bound.need → length table.predecessors ≡ length problem.machine.labels + 1
+    → twins.table ≡ table → twins.needed ≡ goes_with bound.need → length table.predecessors ≡ length problem.transducer.labels + 1
     → HasKind problem bound table.classes kinds t number → slice_get kinds.kinds.items number ≡ Some kind → HasTriple problem bound table.triples rest behind → HasTwin twins kind.class behind of
     → IsRecordBy problem bound twins.twins kinds t rest (record { kind = number; of = of })
 record_by problem bound table twins kinds t rest kind number of behind same_table same states (that, found_that, is_kind) found (triple, found_triple, is_triple) (c, b, twin, at_c, at_b, at_twin, is) =
@@ -56,7 +56,7 @@ record_by problem bound table twins kinds t rest kind number of behind same_tabl
     let same_class : c ≡ class = same_Some c class (sym at_c ∙ class_there) in
     let triple_there : slice_get twins.table.triples behind ≡ Some triple = ap (λ (v : TableValue). slice_get v.triples behind) same_table ∙ found_triple in
     let same_triple : b ≡ triple = same_Some b triple (sym at_b ∙ triple_there) in
-    let all_states : length twins.table.predecessors ≡ length problem.machine.labels + 1 = ap (λ (v : TableValue). length v.predecessors) same_table ∙ states in
+    let all_states : length twins.table.predecessors ≡ length problem.transducer.labels + 1 = ap (λ (v : TableValue). length v.predecessors) same_table ∙ states in
     let twin_is : IsTwinOf (length twins.table.predecessors) twins.needed class triple twin =
     subst (λ (x : TripleSets). IsTwinOf (length twins.table.predecessors) twins.needed class x twin) same_triple
     (subst (λ (x : ClassSets). IsTwinOf (length twins.table.predecessors) twins.needed x b twin) same_class is) in
@@ -114,7 +114,7 @@ module _ (problem : Problem) (bound : Bound) (table : TableValue) (kinds : Kinds
 
   -- the record of the item there
   pub record_is : (twins : TwinsValue) (place behind : Place) (kind : Kind) (of : ℕ) → slice_get kept (end - 1 - position) ≡ Some place → slice_get kept (end - 2 - position) ≡ Some behind
-      → slice_get kinds.kinds.items place.kind ≡ Some kind → length table.predecessors ≡ length problem.machine.labels + 1 → twins.table ≡ table → twins.needed ≡ goes_with bound.need
+      → slice_get kinds.kinds.items place.kind ≡ Some kind → length table.predecessors ≡ length problem.transducer.labels + 1 → twins.table ≡ table → twins.needed ≡ goes_with bound.need
       → HasTwin twins kind.class behind.triple of → (t : Item) → slice_get items position ≡ Some t
       → IsRecordBy problem bound twins.twins kinds t (drop (position + 1) items) (record { kind = place.kind; of = of })
   record_is twins place behind kind of found found_behind there states same needed twin t at_t =

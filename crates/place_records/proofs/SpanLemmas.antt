@@ -25,7 +25,7 @@ pub AreSpans-more : (from mid : ℕ) (spans : List Span) (to : ℕ) → AreSpans
 AreSpans-more from mid [] to are order = (sym are, omega (arith, are, order), refl)
 AreSpans-more from mid (span ∷ spans) to (same, forward, rest) order = (same, forward, AreSpans-more span.to mid spans to rest order)
 
-module _ (width : ℕ) (problem : Problem) (bound : Bound) (alphabet : Alphabet) (width_is : width ≤ 17) (room : length problem.machine.labels < 64 * width)
+module _ (width : ℕ) (problem : Problem) (bound : Bound) (alphabet : Alphabet) (width_is : width ≤ 17) (room : length problem.transducer.labels < 64 * width)
     (alphabet_is : IsAlphabet problem bound alphabet.tables alphabet.kinds) where
   each_ready : (from : ℕ) (spans : List Span) (to : ℕ) → AreSpans from spans to → to ≤ length problem.sequences → AllByRecursion (IsReady width problem bound alphabet) spans
   each_ready from [] to are most = tt

@@ -53,7 +53,7 @@ pub record AreKept (problem : Problem) (bound : Bound) (table : TableValue) (kin
     (places : List Place) (ends sequences : List ℕ)
     : Type 0 where
   pub table_is : IsTableOf problem table
-  pub columns_are : AreColumns problem.machine.labels kinds.columns.numbers.items kinds.columns.heads.items
+  pub columns_are : AreColumns problem.transducer.labels kinds.columns.numbers.items kinds.columns.heads.items
   pub long : length ends ≡ length sequences
   pub grids : (index : ℕ) → index < length sequences
       → ArePlaces problem bound table kinds places (slice_index ends index)

@@ -28,7 +28,7 @@ AreBlocks {W} problem bound kinds from (block ∷ blocks) to =
 pub record IsReady (width : ℕ) (problem : Problem) (bound : Bound) (alphabet : Alphabet) (span : Span)
     : Type 0 where
   pub width_is : width ≤ 17
-  pub room : length problem.machine.labels < 64 * width
+  pub room : length problem.transducer.labels < 64 * width
   pub alphabet_is : IsAlphabet problem bound alphabet.tables alphabet.kinds
   pub order : span.from ≤ span.to
   pub most : span.to ≤ length problem.sequences

@@ -36,7 +36,7 @@ pub(crate) fn block_of<const W: usize>(
     to: u32,
 ) -> Result<Block<W>, NoMemory>
     requires width { W ≤ 17 }
-    requires room { length job.now.machine.labels < 64 * W }
+    requires room { length job.now.transducer.labels < 64 * W }
     requires alphabet { IsAlphabet job.now bound tables kinds.now }
     requires range { (from ≤ to) × (to ≤ length job.now.sequences) }
     ensures { IfOk result (λ block. IsBlock job.now bound kinds.now from to block.twins.twins
@@ -56,7 +56,7 @@ fn no_sequences<const W: usize>(
     kinds: &Kinds,
 ) -> Result<Block<W>, NoMemory>
     requires width { W ≤ 17 }
-    requires room { length job.now.machine.labels < 64 * W }
+    requires room { length job.now.transducer.labels < 64 * W }
     requires alphabet { IsAlphabet job.now bound tables kinds.now }
     ensures over { IfOk result (λ block. IsOver job.now bound kinds.now block.twins) }
     ensures none { IfOk result (λ block. (from : ℕ) → IsBlock job.now bound kinds.now from from

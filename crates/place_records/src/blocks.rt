@@ -48,7 +48,7 @@ pub(crate) fn join_all<R: Threads + Sync, const W: usize>(
     joined: &mut Joined<W>,
 ) -> Result<(), NoMemory>
     requires width { W ≤ 17 }
-    requires room { length job.now.machine.labels < 64 * W }
+    requires room { length job.now.transducer.labels < 64 * W }
     requires some { 1 ≤ workers }
     requires alphabet { IsAlphabet job.now bound alphabet.now.tables alphabet.now.kinds }
     requires none { IsBlock job.now bound alphabet.now.kinds 0 0 (map twin_sets joined.old.twins.keys)
@@ -124,7 +124,7 @@ fn join_wave<R: Threads + Sync, const W: usize>(
     joined: &mut Joined<W>,
 ) -> Result<(), NoMemory>
     requires width { W ≤ 17 }
-    requires room { length job.now.machine.labels < 64 * W }
+    requires room { length job.now.transducer.labels < 64 * W }
     requires alphabet { IsAlphabet job.now bound alphabet.now.tables alphabet.now.kinds }
     requires spans { AreSpans at wave.now.spans.items wave.now.to }
     requires most { wave.now.to ≤ length job.now.sequences }

@@ -28,7 +28,7 @@ use walk_places::Places;
 /// places, or its places do more than 2^32 - 1 different things.
 pub fn records<const W: usize>(alloc: Global, grids: Grids<'_>) -> Result<Records<W>, NoMemory>
     requires width { W ≤ 17 }
-    requires room { length grids.problem.machine.labels < 64 * W }
+    requires room { length grids.problem.transducer.labels < 64 * W }
     requires within { AllByRecursion (λ i. i < length grids.problem.sequences) grids.sequences }
     ensures { IfOk result (λ found. AreRecords grids.entry found.places found.early found.late
         (ranks_of found.table) (CanAskOf found.table)) }
@@ -68,7 +68,7 @@ fn make<const W: usize>(
     sequences: &[u32],
 ) -> Result<Made<W>, NoMemory>
     requires width { W ≤ 17 }
-    requires room { length job.now.machine.labels < 64 * W }
+    requires room { length job.now.transducer.labels < 64 * W }
     requires within { AllByRecursion (λ i. i < length job.now.sequences) sequences.now }
     requires kept { AreKept job.now bound tables kinds.now kept.now ends.now sequences.now }
     ensures { IfOk result (λ made. AreMade job.now bound kinds.now sequences.now
@@ -113,7 +113,7 @@ pub(crate) fn with_table<const W: usize>(
     ensures { (problem : Problem) (bound : Bounded) (sequences : List ℕ)
         → IfOk made.entry (λ made. AreMade problem bound kinds sequences
         made.places (map move_sets made.early.items) (map move_sets made.late.items))
-        → AreColumns problem.machine.labels kinds.columns.numbers.items kinds.columns.heads.items
+        → AreColumns problem.transducer.labels kinds.columns.numbers.items kinds.columns.heads.items
         → IfOk result (λ found. AreRecords
         (record { problem = problem; bound = bound; sequences = sequences })
         found.places found.early found.late (ranks_of found.table) (CanAskOf found.table)) }

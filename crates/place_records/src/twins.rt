@@ -188,8 +188,8 @@ pub(crate) fn twins_over<const W: usize>(
     tables: Tables,
 ) -> Result<Twins<W>, NoMemory>
     requires width { W ≤ 17 }
-    requires room { length job.now.machine.labels < 64 * W }
-    requires table { length tables.predecessors ≡ length job.now.machine.labels + 1 }
+    requires room { length job.now.transducer.labels < 64 * W }
+    requires table { length tables.predecessors ≡ length job.now.transducer.labels + 1 }
     ensures { IfOk result (λ twins. twins
         ≡ record { table = tables; needed = goes_by bound.need; twins = dead_twin ∷ [] }) }
 {

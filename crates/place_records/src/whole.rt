@@ -31,7 +31,7 @@ pub fn records_of_all<R: Threads + Sync, const W: usize>(
     bound: Bound,
 ) -> Result<(Vec<u32>, Records<W>), NoMemory>
     requires width { W ≤ 17 }
-    requires room { length job.now.machine.labels < 64 * W }
+    requires room { length job.now.transducer.labels < 64 * W }
     requires some { 1 ≤ workers }
     ensures rising { IfOk result (λ all. AllPairs (λ low high. low < high) all.0.items) }
     ensures exact { IfOk result (λ all. (i : ℕ) → Contains all.0.items i ↔ ((i < length job.now.sequences)
@@ -58,7 +58,7 @@ pub fn records_of_all_alone<const W: usize>(
     bound: Bound,
 ) -> Result<(Vec<u32>, Records<W>), NoMemory>
     requires width { W ≤ 17 }
-    requires room { length job.now.machine.labels < 64 * W }
+    requires room { length job.now.transducer.labels < 64 * W }
     ensures rising { IfOk result (λ all. AllPairs (λ low high. low < high) all.0.items) }
     ensures exact { IfOk result (λ all. (i : ℕ) → Contains all.0.items i ↔ ((i < length job.now.sequences)
         × Completes job.now bound (items_of job.now i) 0 false)) }
@@ -84,7 +84,7 @@ fn made_alone<const W: usize>(
     sequences: &mut Vec<u32>,
 ) -> Result<Made<W>, NoMemory>
     requires width { W ≤ 17 }
-    requires room { length job.now.machine.labels < 64 * W }
+    requires room { length job.now.transducer.labels < 64 * W }
     requires alphabet { IsAlphabet job.now bound tables kinds.now }
     ensures rising { OnOk result (AllPairs (λ low high. low < high) sequences.new.items) }
     ensures exact { OnOk result ((i : ℕ) → Contains sequences.new.items i
@@ -114,7 +114,7 @@ fn made_by_threads<R: Threads + Sync, const W: usize>(
     sequences: &mut Vec<u32>,
 ) -> Result<Made<W>, NoMemory>
     requires width { W ≤ 17 }
-    requires room { length job.now.machine.labels < 64 * W }
+    requires room { length job.now.transducer.labels < 64 * W }
     requires some { 1 ≤ workers }
     requires alphabet { IsAlphabet job.now bound alphabet.now.tables alphabet.now.kinds }
     ensures rising { OnOk result (AllPairs (λ low high. low < high) sequences.new.items) }

@@ -43,7 +43,7 @@ module _ (names : List (List ℕ)) (others : List (Link (List ℕ))) (problem : 
   D = named_data names others (data_of problem)
 
   abbrev HasOwn : List Item → List Item → Type 0
-  HasOwn pattern items = IsPatternOf problem.hierarchy.links (tree_of problem.machine.expression) items pattern
+  HasOwn pattern items = IsPatternOf problem.hierarchy.links (tree_of problem.transducer.expression) items pattern
 
   -- Proofs that are full
 
@@ -53,7 +53,7 @@ module _ (names : List (List ℕ)) (others : List (Link (List ℕ))) (problem : 
     rise = full.paths.rise;
     all = λ place sequence at is.
         let (s, found, same) = mapped-from (sequence_by (name_of names)) problem.sequences place sequence at in
-        let own = pattern-same problem.hierarchy.links others (HasName names) (name_of names) renames (tree_of problem.machine.expression) named.expression
+        let own = pattern-same problem.hierarchy.links others (HasName names) (name_of names) renames (tree_of problem.transducer.expression) named.expression
         s.items entry.row.pattern (items-named names others problem renames named place s found) have
         (subst (λ (t : Sequence (List ℕ)). IsPatternOf others D.expression t.items (map (name_of names) entry.row.pattern)) (sym same) is) in
         full.all place (slice_get_within problem.sequences place s found)
@@ -66,7 +66,7 @@ module _ (names : List (List ℕ)) (others : List (Link (List ℕ))) (problem : 
     all = λ place less is.
         let (s, found) = get-some problem.sequences place less in
         full.all place (sequence_by (name_of names) s) (slice_get-mapped_by (sequence_by (name_of names)) problem.sequences place s found)
-        (pattern-forth problem.hierarchy.links others (HasName names) (name_of names) renames (tree_of problem.machine.expression) named.expression
+        (pattern-forth problem.hierarchy.links others (HasName names) (name_of names) renames (tree_of problem.transducer.expression) named.expression
         s.items entry.row.pattern (items-named names others problem renames named place s found)
         (subst (λ (t : Sequence Item). HasOwn entry.row.pattern t.items) (sequence-found problem.sequences place s found) is));
   }

@@ -52,14 +52,14 @@ module _ (names : List (List ℕ)) (others : List (Link (List ℕ))) (problem : 
   pub shows-forth : (row : Row) (path : Cited) → IsGoodPath problem row path → Shows D (map (name_of names) row.pattern) path
   shows-forth row path good =
       let (s, found) = get-some problem.sequences path.place good.there in
-      let passes = subst (λ (t : Sequence Item). Passes problem.hierarchy.links (unfold_tree (tree_of problem.machine.expression) false) 0 path.states t.items row.pattern)
+      let passes = subst (λ (t : Sequence Item). Passes problem.hierarchy.links (unfold_tree (tree_of problem.transducer.expression) false) 0 path.states t.items row.pattern)
       (sequence-found problem.sequences path.place s found) good.run in (
         sequence_by (name_of names) s,
         slice_get-mapped_by (sequence_by (name_of names)) problem.sequences path.place s found,
         subst (λ shape. Passes others shape 0 path.states (map (name_of names) s.items) (map (name_of names) row.pattern))
-            (sym (unfold-by (name_of names) (tree_of problem.machine.expression) false))
-            (passes-forth problem.hierarchy.links others (HasName names) (name_of names) renames (unfold_tree (tree_of problem.machine.expression) false)
-            (unfold-named (HasName names) (tree_of problem.machine.expression) false named.expression)
+            (sym (unfold-by (name_of names) (tree_of problem.transducer.expression) false))
+            (passes-forth problem.hierarchy.links others (HasName names) (name_of names) renames (unfold_tree (tree_of problem.transducer.expression) false)
+            (unfold-named (HasName names) (tree_of problem.transducer.expression) false named.expression)
             0 path.states s.items row.pattern (items-named path.place s found) passes),
       )
 
@@ -70,17 +70,17 @@ module _ (names : List (List ℕ)) (others : List (Link (List ℕ))) (problem : 
   shows-back pattern path (sequence, at, passes) =
       let (s, found, is) = mapped-from (sequence_by (name_of names)) problem.sequences path.place sequence at in
       let over = subst (λ (t : Sequence (List ℕ)). Passes others (unfold_tree D.expression false) 0 path.states t.items pattern) (sym is) passes in
-      let (own, same, run, inside) = passes-back problem.hierarchy.links others (HasName names) (name_of names) renames (unfold_tree (tree_of problem.machine.expression) false)
-      (unfold-named (HasName names) (tree_of problem.machine.expression) false named.expression) 0 path.states s.items pattern (items-named path.place s found)
+      let (own, same, run, inside) = passes-back problem.hierarchy.links others (HasName names) (name_of names) renames (unfold_tree (tree_of problem.transducer.expression) false)
+      (unfold-named (HasName names) (tree_of problem.transducer.expression) false named.expression) 0 path.states s.items pattern (items-named path.place s found)
       (subst (λ shape. Passes others shape 0 path.states (map (name_of names) s.items) pattern)
-      (unfold-by (name_of names) (tree_of problem.machine.expression) false) over) in (
+      (unfold-by (name_of names) (tree_of problem.transducer.expression) false) over) in (
         own,
         same,
         inside,
         (λ row is_own. record {
           there = slice_get_within problem.sequences path.place s found;
           run = subst (λ l. Writes problem path.place path.states l) (sym is_own)
-              (subst (λ (t : Sequence Item). Passes problem.hierarchy.links (unfold_tree (tree_of problem.machine.expression) false) 0 path.states t.items own)
+              (subst (λ (t : Sequence Item). Passes problem.hierarchy.links (unfold_tree (tree_of problem.transducer.expression) false) 0 path.states t.items own)
               (sym (sequence-found problem.sequences path.place s found)) run);
         }),
       )

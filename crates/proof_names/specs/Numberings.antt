@@ -21,7 +21,7 @@ pub record IsNumbering (d : Data (List ℕ)) (known names : List (List ℕ)) (pr
   pub held : (name : List ℕ) → (Contains known name ↔ Contains names name)
   pub named : AreNamed names (data_of problem)
   pub sequences : map (sequence_by (name_of names)) problem.sequences ≡ d.sequences
-  pub expression : tree_by (name_of names) (tree_of problem.machine.expression) ≡ d.expression
+  pub expression : tree_by (name_of names) (tree_of problem.transducer.expression) ≡ d.expression
   pub threshold : problem.threshold ≡ d.threshold
   pub above : (w t : Item) → HasName names w → HasName names t
       → (IsAncestor problem.hierarchy.links w t ↔ IsAncestor d.links (name_of names w) (name_of names t))

@@ -97,7 +97,7 @@ module _ (problem : Problem) (whole : IsWhole problem)
       (λ v frequent. HasFrequency-within problem.hierarchy.links problem.hierarchy.items ends problem.sequences v frequent.frequency whole.items frequent.exact
       (omega (arith, whole.least, frequent.enough)))
       row.pattern
-      (frequent-items problem.hierarchy.links problem.sequences items-known problem.threshold (expression_of problem.machine.expression) row.pattern row.support is.exact is.enough)
+      (frequent-items problem.hierarchy.links problem.sequences items-known problem.threshold (expression_of problem.transducer.expression) row.pattern row.support is.exact is.enough)
 
 -- a search of the problem, split by pivots or not
 module _ (problem : Problem) (whole : IsWhole problem) (search : Search) (same : search.problem ≡ problem) where

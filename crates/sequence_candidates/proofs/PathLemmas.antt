@@ -52,7 +52,7 @@ pub marks-say : (A : Bool → Type 0) (need : Option ℕ) (action : Action) → 
 marks-say A need action more unseen true = subst (λ (b : Bool). IsTrue action.more ↔ A b) (sym (goes-on_seen need)) more
 marks-say A need action more unseen false = subst (λ (b : Bool). IsTrue action.unseen ↔ A b) (sym (goes-unseen need)) unseen
 
-module _ (part : GridList) (is : IsPart part) (width : ℕ) (rows : List ℕ) (rows_are : AreSuccessors width part.problem.machine rows) (value : RecordsValue)
+module _ (part : GridList) (is : IsPart part) (width : ℕ) (rows : List ℕ) (rows_are : AreSuccessors width part.problem.transducer rows) (value : RecordsValue)
     (records : AreRecords part value.places value.early value.late (ranks_of value.table) (CanAskOf value.table)) where
   abbrev need : Option ℕ
   need = part.bound.need
@@ -108,7 +108,7 @@ module _ (part : GridList) (is : IsPart part) (width : ℕ) (rows : List ℕ) (r
         let met = met-at part value.places value.early value.late ranks (CanAskOf value.table) records rows grid known on position t here in
         let there : Holds course (start_of part grid + position) entry move = subst (λ (p : ℕ). Holds course p entry move) before_is holds in
         let move_is : move ≡ met.move = one-move course (start_of part grid + position) met.entry entry met.move move met.holds there in
-        let leads_to : Leads part.problem.machine from state =
+        let leads_to : Leads part.problem.transducer from state =
         row-leads part is width rows rows_are value.places value.early value.late ranks (CanAskOf value.table) records from state leads in
         let target : IsTarget part.problem state = target-of part.problem is.whole from state leads_to in
         let (reads, completes) = (met.does state target).silent.0 (subst (λ (m : MoveSets). Has m.silent state) move_is silent) in
@@ -210,7 +210,7 @@ module _ (part : GridList) (is : IsPart part) (width : ℕ) (rows : List ℕ) (r
       later : WritesRanks part.problem part.bound left next (sees_with at.seen need rank) rest
 
     first-step : (t : Item) (left : List Item) (position : ℕ) → slice_get items position ≡ Some t → drop (position + 1) items ≡ left → (at : Standpoint) (state : ℕ)
-        → state ≤ length part.problem.machine.labels → IsAt (course_in courses at.seen) at.stands (start_of part grid + position) state
+        → state ≤ length part.problem.transducer.labels → IsAt (course_in courses at.seen) at.stands (start_of part grid + position) state
         → (rank : ℕ) (rest : List ℕ) → WritesRanks part.problem part.bound (t ∷ left) state at.seen (rank ∷ rest)
         → (next : ℕ) × IsTarget part.problem next × (Steps at position left next rank rest ⊎ Visits at position left next rank rest)
     first-step t left position here cut at state state_in is_at rank rest behind =
@@ -267,7 +267,7 @@ module _ (part : GridList) (is : IsPart part) (width : ℕ) (rows : List ℕ) (r
 
     -- so a path of the transducer is one over the places
     pub written-can : (left : List Item) (position : ℕ) → drop position items ≡ left → position ≤ length items → (at : Standpoint) (state : ℕ)
-        → state ≤ length part.problem.machine.labels → IsAt (course_in courses at.seen) at.stands (start_of part grid + position) state
+        → state ≤ length part.problem.transducer.labels → IsAt (course_in courses at.seen) at.stands (start_of part grid + position) state
         → (rank : ℕ) (rest : List ℕ) → WritesRanks part.problem part.bound left state at.seen (rank ∷ rest) → CanWrite courses ranks need at (rank ∷ rest)
     written-can [] position cut within at state state_in is_at rank rest behind =
         absurd (none-writes part.problem is.whole part.bound state at.seen rank rest behind)

@@ -65,7 +65,7 @@ pub marked-one : (stand : Stand) → stand.first ≡ true → (k : ℕ) (other :
 marked-one stand first zero other at = ((λ yes'. refl), (λ zero'. ap (λ (s : Stand). s.first) (sym (same_Some stand other at)) ∙ first))
 marked-one stand first (suc k) other at = absurd (cc)
 
-module _ (part : GridList) (is : IsPart part) (width : ℕ) (rows : List ℕ) (rows_are : AreSuccessors width part.problem.machine rows)
+module _ (part : GridList) (is : IsPart part) (width : ℕ) (rows : List ℕ) (rows_are : AreSuccessors width part.problem.transducer rows)
     (places : List Record) (early late : List MoveSets) (ranks : ℕ → ℕ → List ℕ) (CanAsk : ℕ → ℕ → Type 0)
     (records : AreRecords part places early late ranks CanAsk) where
   -- the place before a sequence is the one behind another, where nothing is done
@@ -85,10 +85,10 @@ module _ (part : GridList) (is : IsPart part) (width : ℕ) (rows : List ℕ) (r
       subst IsDead (sym move_is) dead
 
   -- edges between states
-  pub row-leads : (from state : ℕ) → Has (slice_index rows from) state → Leads part.problem.machine from state
+  pub row-leads : (from state : ℕ) → Has (slice_index rows from) state → Leads part.problem.transducer from state
   row-leads from state has = elim (cases_lt from (length rows)) [
     | inl inside ↦
-        let all : length rows ≡ length part.problem.machine.labels + 1 = rows_are.all in
+        let all : length rows ≡ length part.problem.transducer.labels + 1 = rows_are.all in
         (rows_are.leads from state (omega (arith, all, inside))).0 has
     | inr past ↦ absurd (Has-none state (subst (λ (set : ℕ). Has set state) (past-rows from past) has))
   ]
@@ -106,7 +106,7 @@ module _ (part : GridList) (is : IsPart part) (width : ℕ) (rows : List ℕ) (r
     pub known : grid < length part.sequences
     pub here : slice_get (items_at part grid) position ≡ Some t
     pub before_is : before ≡ start_of part grid + position
-    pub leads : Leads part.problem.machine from action.state
+    pub leads : Leads part.problem.transducer from action.state
     pub asked : CanAsk kind action.state
     pub ranks_are : AreRanksAt part.problem part.bound t ranks kind action.state
     pub more : IsTrue action.more ↔ Continues part.problem part.bound (drop (position + 1) (items_at part grid)) action.state (goes_with part.bound.need)
@@ -195,7 +195,7 @@ module _ (part : GridList) (is : IsPart part) (width : ℕ) (rows : List ℕ) (r
       → AreStandsOn (course_for rows places early late on) (record { place = start_of part index; state = 0; first = true } ∷ [])
   root-on on index known =
       let root : Stand = record { place = start_of part index; state = 0; first = true } in
-      let all : length rows ≡ length part.problem.machine.labels + 1 = rows_are.all in
+      let all : length rows ≡ length part.problem.transducer.labels + 1 = rows_are.all in
       let long : length places ≡ start_of part (length part.sequences) = records.long in
       let low : start_of part index + length (items_at part index) < start_of part (length part.sequences) = start-whole part index known in
       record {

@@ -64,7 +64,7 @@ module _ (problem : Problem) (whole : IsWhole problem) (bound : Bound) where
   -- ---- one edge, and then the rest
 
   -- an edge that writes nothing
-  pub silent-writes : (t : Item) (rest : List Item) (from state : ℕ) (seen : Bool) (list : List ℕ) → Leads problem.machine from state → Reads problem t state []
+  pub silent-writes : (t : Item) (rest : List Item) (from state : ℕ) (seen : Bool) (list : List ℕ) → Leads problem.transducer from state → Reads problem t state []
       → WritesRanks problem bound rest state seen list → WritesRanks problem bound (t ∷ rest) from seen list
   silent-writes t rest from state seen list leads reads behind = record {
     output = behind.output;
@@ -75,7 +75,7 @@ module _ (problem : Problem) (whole : IsWhole problem) (bound : Bound) where
   }
 
   -- one that writes a rank
-  pub rank-writes : (t : Item) (rest : List Item) (from state : ℕ) (seen : Bool) (rank : ℕ) (list : List ℕ) → Leads problem.machine from state
+  pub rank-writes : (t : Item) (rest : List Item) (from state : ℕ) (seen : Bool) (rank : ℕ) (list : List ℕ) → Leads problem.transducer from state
       → WritesRank problem bound t state rank → WritesRanks problem bound rest state (sees_with seen bound.need rank) list
       → WritesRanks problem bound (t ∷ rest) from seen (rank ∷ list)
   rank-writes t rest from state seen rank list leads (v, has, few, reads) behind = record {
@@ -94,7 +94,7 @@ module _ (problem : Problem) (whole : IsWhole problem) (bound : Bound) where
   pub writes-ends : (rest : List Item) (state : ℕ) (seen : Bool) → WritesRanks problem bound rest state seen [] → IsTrue seen × Ends problem rest state
   writes-ends rest state seen writes = by writes.output writes.ranked writes.path writes.needed
     where
-      by : (output : List Item) → AreRanked problem.ranking.order output [] → IsPath problem.hierarchy.links problem.machine state rest output
+      by : (output : List Item) → AreRanked problem.ranking.order output [] → IsPath problem.hierarchy.links problem.transducer state rest output
           → IsTrue seen ⊎ HoldsNeeded problem.ranking bound.need output → IsTrue seen × Ends problem rest state
       by [] ranked path (inl yes') = (yes', path)
       by [] ranked path (inr holds) = absurd (needed-none problem.ranking bound.need holds)
@@ -105,7 +105,7 @@ module _ (problem : Problem) (whole : IsWhole problem) (bound : Bound) where
       → Continues problem bound rest state (goes seen bound.need)
   writes-continues rest state seen rank list writes = by writes.output writes.ranked writes.path writes.allowed writes.needed
     where
-      by : (output : List Item) → AreRanked problem.ranking.order output (rank ∷ list) → IsPath problem.hierarchy.links problem.machine state rest output
+      by : (output : List Item) → AreRanked problem.ranking.order output (rank ∷ list) → IsPath problem.hierarchy.links problem.transducer state rest output
           → AllByRecursion (IsAllowed problem.ranking bound) output → IsTrue seen ⊎ HoldsNeeded problem.ranking bound.need output
           → Continues problem bound rest state (goes seen bound.need)
       by [] ranked path allowed needed = absurd ranked
@@ -137,7 +137,7 @@ module _ (problem : Problem) (whole : IsWhole problem) (bound : Bound) where
 
   -- an edge at t, which writes nothing, and then the same is written; or which writes the first rank
   pub record IsFirst (t : Item) (rest : List Item) (from : ℕ) (seen : Bool) (rank : ℕ) (list : List ℕ) (next : ℕ) : Type 0 where
-    pub leads : Leads problem.machine from next
+    pub leads : Leads problem.transducer from next
     pub does : (Reads problem t next [] × WritesRanks problem bound rest next seen (rank ∷ list))
         ⊎ (WritesRank problem bound t next rank × WritesRanks problem bound rest next (sees_with seen bound.need rank) list)
 
@@ -145,7 +145,7 @@ module _ (problem : Problem) (whole : IsWhole problem) (bound : Bound) where
   pub none-writes : (state : ℕ) (seen : Bool) (rank : ℕ) (list : List ℕ) → WritesRanks problem bound [] state seen (rank ∷ list) → ⊥
   none-writes state seen rank list writes = by writes.output writes.ranked writes.path
     where
-      by : (output : List Item) → AreRanked problem.ranking.order output (rank ∷ list) → IsPath problem.hierarchy.links problem.machine state [] output → ⊥
+      by : (output : List Item) → AreRanked problem.ranking.order output (rank ∷ list) → IsPath problem.hierarchy.links problem.transducer state [] output → ⊥
       by [] ranked path = ranked
       by (v ∷ output) ranked path = nil-not-cons v output (sym path.1)
 
@@ -153,12 +153,12 @@ module _ (problem : Problem) (whole : IsWhole problem) (bound : Bound) where
       → (next : ℕ) × IsFirst t rest from seen rank list next
   writes-first t rest from seen rank list writes = by writes.output writes.ranked writes.path writes.allowed writes.needed
     where
-      by : (output : List Item) → AreRanked problem.ranking.order output (rank ∷ list) → IsPath problem.hierarchy.links problem.machine from (t ∷ rest) output
+      by : (output : List Item) → AreRanked problem.ranking.order output (rank ∷ list) → IsPath problem.hierarchy.links problem.transducer from (t ∷ rest) output
           → AllByRecursion (IsAllowed problem.ranking bound) output → IsTrue seen ⊎ HoldsNeeded problem.ranking bound.need output
           → (next : ℕ) × IsFirst t rest from seen rank list next
       by [] ranked path allowed needed = absurd ranked
       by (v ∷ output) ranked path allowed needed =
-          let (next, either) = runs-first problem (Has problem.machine.finals) from t rest (v ∷ output) (path-runs problem from (t ∷ rest) (v ∷ output) path) in
+          let (next, either) = runs-first problem (Has problem.transducer.finals) from t rest (v ∷ output) (path-runs problem from (t ∷ rest) (v ∷ output) path) in
           elim either [
             | inl (step, run) ↦
                 let (leads, reads) = (step-reads problem whole from t [] next).0 step in (
@@ -191,7 +191,7 @@ module _ (problem : Problem) (whole : IsWhole problem) (bound : Bound) where
                       record {
                         output = output;
                         ranked = behind_ranked;
-                        path = subst (λ (o : List Item). IsPath problem.hierarchy.links problem.machine next rest o) (sym behind) (runs-path problem next rest others run);
+                        path = subst (λ (o : List Item). IsPath problem.hierarchy.links problem.transducer next rest o) (sym behind) (runs-path problem next rest others run);
                         allowed = behind_allowed;
                         needed = needed-behind problem whole bound.need seen v rank output has needed;
                       },
@@ -217,7 +217,7 @@ module _ (part : GridList) (whole : IsWhole part.problem) (items : List Item) wh
       → GeneratesWithin part (rank ∷ list) items
   writes-generates rank list writes = by writes.output writes.ranked writes.path writes.allowed writes.needed
     where
-      by : (output : List Item) → AreRanked part.problem.ranking.order output (rank ∷ list) → IsPath part.problem.hierarchy.links part.problem.machine 0 items output
+      by : (output : List Item) → AreRanked part.problem.ranking.order output (rank ∷ list) → IsPath part.problem.hierarchy.links part.problem.transducer 0 items output
           → AllByRecursion (IsAllowed part.problem.ranking part.bound) output
           → IsTrue (seen_first part.bound.need) ⊎ HoldsNeeded part.problem.ranking part.bound.need output → GeneratesWithin part (rank ∷ list) items
       by [] ranked path allowed needed = absurd ranked

@@ -16,7 +16,7 @@ pub record WritesRanks (problem : Problem) (bound : Bound) (rest : List Item) (s
     (list : List ℕ) : Type 0 where
   pub output : List Item
   pub ranked : AreRanked problem.ranking.order output list
-  pub path : IsPath problem.hierarchy.links problem.machine state rest output
+  pub path : IsPath problem.hierarchy.links problem.transducer state rest output
   pub allowed : AllByRecursion (IsAllowed problem.ranking bound) output
   pub needed : IsTrue seen ⊎ HoldsNeeded problem.ranking bound.need output
 

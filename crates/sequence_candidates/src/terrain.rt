@@ -74,7 +74,7 @@ pub(crate) fn terrain_of(
 fn terrain_by(alloc: Global, grids: Grids, successors: Successors) -> Result<AnyTerrain, NoMemory>
     requires whole { IsWhole grids.problem }
     requires within { AllByRecursion (λ i. i < length grids.problem.sequences) grids.sequences }
-    requires successors { AreSuccessorsOf grids.problem.machine successors }
+    requires successors { AreSuccessorsOf grids.problem.transducer successors }
     ensures { IfOk result (IsTerrainOf grids.entry) }
 {
     match successors {
@@ -111,7 +111,7 @@ fn terrain_over<const W: usize>(
     requires width { W ≤ 17 }
     requires whole { IsWhole grids.problem }
     requires within { AllByRecursion (λ i. i < length grids.problem.sequences) grids.sequences }
-    requires rows { AreSuccessors W grids.problem.machine rows.items }
+    requires rows { AreSuccessors W grids.problem.transducer rows.items }
     ensures { IfOk result (IsTerrain grids.entry) }
 {
     let records = records(alloc, grids)?;

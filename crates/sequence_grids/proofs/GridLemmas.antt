@@ -97,17 +97,17 @@ module _ (value : GridList) (problem : Problem) (bound : Bound) (table : TableVa
       subst (λ (v : GridList). IsPlaceAt v.problem v.bound table kinds (items_at v grid) pos place) view
       (subst (IsPlaceAt problem bound table kinds (items_of problem (slice_index sequences grid)) pos) same is)
 
-  pub states_are : length table.predecessors ≡ length value.problem.machine.labels + 1
-  states_are = subst (λ (v : GridList). length table.predecessors ≡ length v.problem.machine.labels + 1) view are.table_is.states
+  pub states_are : length table.predecessors ≡ length value.problem.transducer.labels + 1
+  states_are = subst (λ (v : GridList). length table.predecessors ≡ length v.problem.transducer.labels + 1) view are.table_is.states
 
-  pub columns_of : AreColumns value.problem.machine.labels kinds.columns.numbers.items kinds.columns.heads.items
-  columns_of = subst (λ (v : GridList). AreColumns v.problem.machine.labels kinds.columns.numbers.items kinds.columns.heads.items) view are.kinds_are.columns_are
+  pub columns_of : AreColumns value.problem.transducer.labels kinds.columns.numbers.items kinds.columns.heads.items
+  columns_of = subst (λ (v : GridList). AreColumns v.problem.transducer.labels kinds.columns.numbers.items kinds.columns.heads.items) view are.kinds_are.columns_are
 
 pub both_ways : {A B C : Type 0} → A ↔ B → B ↔ C → A ↔ C
 both_ways first second = ((λ a. second.0 (first.0 a)), (λ c. first.1 (second.1 c)))
 
 -- the states of a triple that complete
-pub completes_by : (problem : Problem) (bound : Bound) (rest : List Item) (triple : TripleSets) → IsTripleOf problem bound rest triple → (seen : Bool) (q : ℕ) → q ≤ length problem.machine.labels
+pub completes_by : (problem : Problem) (bound : Bound) (rest : List Item) (triple : TripleSets) → IsTripleOf problem bound rest triple → (seen : Bool) (q : ℕ) → q ≤ length problem.transducer.labels
     → Has (completing triple seen) q ↔ Completes problem bound rest q seen
 completes_by problem bound rest triple is true q state = is.seen q state
 completes_by problem bound rest triple is false q state = is.unseen q state
@@ -122,19 +122,19 @@ continues-unseen problem bound rest q = (
   (λ (v, more, path, allowed, met). (v ∷ more, path, allowed, met)),
 )
   where
-    by : (output : List Item) → IsPath problem.hierarchy.links problem.machine q rest output → AllByRecursion (IsAllowed problem.ranking bound) output
+    by : (output : List Item) → IsPath problem.hierarchy.links problem.transducer q rest output → AllByRecursion (IsAllowed problem.ranking bound) output
         → HoldsNeeded problem.ranking bound.need output → Continues problem bound rest q false
     by [] path allowed (v, held, is) = absurd (Contains-none v held)
     by (v ∷ more) path allowed holds = (v, more, path, allowed, inr holds)
 
 -- the states of a triple from which something can be written
-pub continues_by : (problem : Problem) (bound : Bound) (rest : List Item) (triple : TripleSets) → IsTripleOf problem bound rest triple → (seen : Bool) (q : ℕ) → q ≤ length problem.machine.labels
+pub continues_by : (problem : Problem) (bound : Bound) (rest : List Item) (triple : TripleSets) → IsTripleOf problem bound rest triple → (seen : Bool) (q : ℕ) → q ≤ length problem.transducer.labels
     → Has (continuing triple seen) q ↔ Continues problem bound rest q seen
 continues_by problem bound rest triple is true q state = is.more q state
 continues_by problem bound rest triple is false q state = both_ways (is.unseen q state) (continues-unseen problem bound rest q)
 
 -- the outputs of a kind at a state
-pub HasCell-of : (problem : Problem) (bound : Bound) (table : TableValue) (kinds : Kinds) (t : Item) (number k : ℕ) → AreColumns problem.machine.labels kinds.columns.numbers.items kinds.columns.heads.items
+pub HasCell-of : (problem : Problem) (bound : Bound) (table : TableValue) (kinds : Kinds) (t : Item) (number k : ℕ) → AreColumns problem.transducer.labels kinds.columns.numbers.items kinds.columns.heads.items
     → HasKind problem bound table.classes kinds t number → IsTarget problem k → HasCell kinds number k
 HasCell-of problem bound table kinds t number k columns (kind, found, is) target =
     let all = columns.all in

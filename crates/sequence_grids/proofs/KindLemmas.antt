@@ -209,15 +209,15 @@ module _ (P : Item → Type 0) where
   named_entries (cap inner) captured all entry held = named_entries inner true all entry held
 
 -- the leaf of a label names items of the hierarchy
-pub named_label : (problem : Problem) → IsWhole problem → (k : ℕ) (label : Label) → slice_get problem.machine.labels k ≡ Some label
+pub named_label : (problem : Problem) → IsWhole problem → (k : ℕ) (label : Label) → slice_get problem.transducer.labels k ≡ Some label
     → All (λ w. w.0 < problem.hierarchy.items) (named_by (leaf_of label.leaf))
 named_label problem whole k label found =
-    let held : Contains (map entry_of problem.machine.labels) (entry_of label) =
-    Contains-by entry_of problem.machine.labels label (k, slice_get_within problem.machine.labels k label found, get_or_from_slice_get problem.machine.labels k label label found) in
-    let there : Contains (labels_of (unfold_tree (tree_of problem.machine.expression) false)) (entry_of label) =
+    let held : Contains (map entry_of problem.transducer.labels) (entry_of label) =
+    Contains-by entry_of problem.transducer.labels label (k, slice_get_within problem.transducer.labels k label found, get_or_from_slice_get problem.transducer.labels k label label found) in
+    let there : Contains (labels_of (unfold_tree (tree_of problem.transducer.expression) false)) (entry_of label) =
     subst (λ (es : List Entry). Contains es (entry_of label)) whole.automaton.labels held in
     All-from_recursion (λ w. w.0 < problem.hierarchy.items) (named_by (leaf_of label.leaf))
-    (named_entries (λ w. w.0 < problem.hierarchy.items) (tree_of problem.machine.expression) false whole.named (entry_of label) there)
+    (named_entries (λ w. w.0 < problem.hierarchy.items) (tree_of problem.transducer.expression) false whole.named (entry_of label) there)
 
 -- ---- what edges into one state read and write
 
@@ -236,7 +236,7 @@ nil-not-cons v xs e = let h : 0 ≡ suc (length xs) = ap length e in omega arith
 
 module _ (problem : Problem) (bound : Bound) (t : Item) (k : ℕ) (read : ItemLeaf) where
   abbrev WithLabel : Bool → Type 0
-  WithLabel captured = slice_get problem.machine.labels (k - 1) ≡ Some (record { leaf = read; captured = captured })
+  WithLabel captured = slice_get problem.transducer.labels (k - 1) ≡ Some (record { leaf = read; captured = captured })
 
   -- every reading is by the label
   by_label : (captured : Bool) (output : List Item) → WithLabel captured → Reads problem t k output
@@ -367,11 +367,11 @@ AreActs-more problem bound t heads acts column k act head so_far is =
     }
 
 -- states that carry the same label read and write the same
-pub Reads-alike : (problem : Problem) (t : Item) (one other : ℕ) (output : List Item) → slice_get problem.machine.labels (one - 1) ≡ slice_get problem.machine.labels (other - 1)
+pub Reads-alike : (problem : Problem) (t : Item) (one other : ℕ) (output : List Item) → slice_get problem.transducer.labels (one - 1) ≡ slice_get problem.transducer.labels (other - 1)
     → Reads problem t one output → Reads problem t other output
 Reads-alike problem t one other output same (label, found, matches, writes) = (label, sym same ∙ found, matches, writes)
 
-module _ (problem : Problem) (bound : Bound) (t : Item) (one other : ℕ) (same : slice_get problem.machine.labels (one - 1) ≡ slice_get problem.machine.labels (other - 1)) where
+module _ (problem : Problem) (bound : Bound) (t : Item) (one other : ℕ) (same : slice_get problem.transducer.labels (one - 1) ≡ slice_get problem.transducer.labels (other - 1)) where
   pub Reads-both : (output : List Item) → Reads problem t one output ↔ Reads problem t other output
   Reads-both output = (Reads-alike problem t one other output same, Reads-alike problem t other one output (sym same))
 
@@ -467,13 +467,13 @@ AreKinds-grow problem bound classes classes' kinds kinds' are grown grow same = 
 }
 
 pub AreKinds-none : (problem : Problem) (bound : Bound) (classes : List ClassSets) (kinds : Kinds)
-    → AreColumns problem.machine.labels kinds.columns.numbers.items kinds.columns.heads.items → length kinds.numbers.items ≡ problem.hierarchy.items
+    → AreColumns problem.transducer.labels kinds.columns.numbers.items kinds.columns.heads.items → length kinds.numbers.items ≡ problem.hierarchy.items
     → ((k : ℕ) → k < length kinds.numbers.items → slice_index kinds.numbers.items k ≡ unknown) → AreKinds problem bound classes kinds
 AreKinds-none problem bound classes kinds columns all none = record { columns_are = columns; all = all; right = λ t inside some. absurd (some (none t.0 inside)) }
 
 -- the class of an item whose states were found
 pub IsClassFor-of : (problem : Problem) (bound : Bound) (t : Item) (class : ClassSets) (silent writes needs : List ℕ) → IsClassOf class silent writes needs
-    → AreEntered problem bound t (length problem.machine.labels + 1) silent writes needs → IsClassFor problem bound t class
+    → AreEntered problem bound t (length problem.transducer.labels + 1) silent writes needs → IsClassFor problem bound t class
 IsClassFor-of problem bound t class silent writes needs are entered = record {
   silent = λ k target. (
     (λ has. let (_, _, is) = (entered.silent_are k).0 ((are.silent_is k).0 has) in is),
@@ -500,7 +500,7 @@ pub entered_below : (P : ℕ → Type 0) (list : List ℕ) (count states : ℕ) 
 entered_below P list count states are same = All-from_contains list states (λ k held. let (_, below, _) = (are k).0 held in omega arith)
 
 pub IsKind-of : (problem : Problem) (bound : Bound) (classes : List ClassSets) (columns : Columns) (ends ranks : List ℕ) (t : Item) (kind : Kind) (base : ℕ) → kind.base ≡ base
-    → AreColumns problem.machine.labels columns.numbers.items columns.heads.items
+    → AreColumns problem.transducer.labels columns.numbers.items columns.heads.items
     → IsRow problem bound t columns.heads.items base ends ranks (length columns.heads.items)
     → (c : ClassSets) → slice_get classes kind.class ≡ Some c → IsClassFor problem bound t c → IsKind problem bound classes columns ends ranks t kind
 IsKind-of problem bound classes columns ends ranks t kind base same are row c found right = record {
@@ -548,7 +548,7 @@ KindsGrow-twice a b c first second = record {
 
 -- a kind of the same class with the same outputs serves as well
 pub IsKind-alike : (problem : Problem) (bound : Bound) (classes : List ClassSets) (columns : Columns) (ends ranks : List ℕ) (t u : Item) (kind met : Kind)
-    → AreColumns problem.machine.labels columns.numbers.items columns.heads.items
+    → AreColumns problem.transducer.labels columns.numbers.items columns.heads.items
     → IsKind problem bound classes columns ends ranks t kind → IsKind problem bound classes columns ends ranks u met → met.class ≡ kind.class
     → ((column : ℕ) → column < length columns.heads.items → row_at ends ranks kind.base column ≡ row_at ends ranks met.base column) → IsKind problem bound classes columns ends ranks t met
 IsKind-alike problem bound classes columns ends ranks t u kind met are is other class same = record {

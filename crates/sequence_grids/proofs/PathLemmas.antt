@@ -26,11 +26,11 @@ label_at_edge labels edge enters =
     rw place (slice_get-get_or labels enters.number d enters.within ∙ ap Some (enters.label d))
 
 -- an edge reads what its target reads
-pub reads-edge : (problem : Problem) (edge : Edge) (t : Item) (output : List Item) → Enters problem.machine.labels edge
+pub reads-edge : (problem : Problem) (edge : Edge) (t : Item) (output : List Item) → Enters problem.transducer.labels edge
     → Reads problem t edge.to.0 output
     ↔ (Matches problem.hierarchy.links (leaf_of edge.leaf) t × WritesAt problem.hierarchy.links (leaf_of edge.leaf) edge.captured t output)
 reads-edge problem edge t output enters =
-    let there = label_at_edge problem.machine.labels edge enters in (
+    let there = label_at_edge problem.transducer.labels edge enters in (
       (λ (label, found, matches, writes).
           let same : label ≡ record { leaf = edge.leaf; captured = edge.captured } = same_Some label (record { leaf = edge.leaf; captured = edge.captured }) (sym found ∙ there) in
           subst (λ (l : Label). Matches problem.hierarchy.links (leaf_of l.leaf) t × WritesAt problem.hierarchy.links (leaf_of l.leaf) l.captured t output) same (matches, writes)),
@@ -39,15 +39,15 @@ reads-edge problem edge t output enters =
 
 -- a path over one item and more begins with an edge
 pub path-step : (problem : Problem) → IsWhole problem → (state : ℕ) (t : Item) (rest output : List Item)
-    → IsPath problem.hierarchy.links problem.machine state (t ∷ rest) output
-    ↔ ((next : ℕ) × (here : List Item) × (there : List Item) × Leads problem.machine state next × Reads problem t next here
-    × (output ≡ here ++ there) × IsPath problem.hierarchy.links problem.machine next rest there)
+    → IsPath problem.hierarchy.links problem.transducer state (t ∷ rest) output
+    ↔ ((next : ℕ) × (here : List Item) × (there : List Item) × Leads problem.transducer state next × Reads problem t next here
+    × (output ≡ here ++ there) × IsPath problem.hierarchy.links problem.transducer next rest there)
 path-step problem whole state t rest output = (
   (λ (edge, here, there, held, matches, writes, joined, path).
       (edge.to.0, here, there, (edge, held, refl), (reads-edge problem edge t here (whole.automaton.labelled state edge held)).1 (matches, writes), joined, path)),
   (λ (next, here, there, (edge, held, to), reads, joined, path).
       let (matches, writes) = (reads-edge problem edge t here (whole.automaton.labelled state edge held)).0 (subst (λ (k : ℕ). Reads problem t k here) (sym to) reads) in
-      (edge, here, there, held, matches, writes, joined, subst (λ (k : ℕ). IsPath problem.hierarchy.links problem.machine k rest there) (sym to) path)),
+      (edge, here, there, held, matches, writes, joined, subst (λ (k : ℕ). IsPath problem.hierarchy.links problem.transducer k rest there) (sym to) path)),
 )
 
 -- a leaf that is not captured writes nothing, and a captured one writes one item
@@ -65,17 +65,17 @@ reads-cases problem t k here (label, found, matches, writes) =
     ]
 
 -- edges lead into states
-pub target-of : (problem : Problem) → IsWhole problem → (from to : ℕ) → Leads problem.machine from to → IsTarget problem to
+pub target-of : (problem : Problem) → IsWhole problem → (from to : ℕ) → Leads problem.transducer from to → IsTarget problem to
 target-of problem whole from to (edge, held, is) =
     let enters = whole.automaton.labelled from edge held in
     (omega (arith, is, enters.to), omega (arith, is, enters.to, enters.within))
 
 module _ (problem : Problem) (whole : IsWhole problem) where
   -- a path begins with an edge that writes nothing, or one that writes an item
-  path-first : (state : ℕ) (t : Item) (rest output : List Item) → IsPath problem.hierarchy.links problem.machine state (t ∷ rest) output
-      → (next : ℕ) × Leads problem.machine state next
-      × ((Reads problem t next [] × IsPath problem.hierarchy.links problem.machine next rest output)
-      ⊎ ((v : Item) × (there : List Item) × Reads problem t next (v ∷ []) × (output ≡ v ∷ there) × IsPath problem.hierarchy.links problem.machine next rest there))
+  path-first : (state : ℕ) (t : Item) (rest output : List Item) → IsPath problem.hierarchy.links problem.transducer state (t ∷ rest) output
+      → (next : ℕ) × Leads problem.transducer state next
+      × ((Reads problem t next [] × IsPath problem.hierarchy.links problem.transducer next rest output)
+      ⊎ ((v : Item) × (there : List Item) × Reads problem t next (v ∷ []) × (output ≡ v ∷ there) × IsPath problem.hierarchy.links problem.transducer next rest there))
   path-first state t rest output path =
       let (next, here, there, leads, reads, joined, after) = (path-step problem whole state t rest output).0 path in (
         next,
@@ -83,14 +83,14 @@ module _ (problem : Problem) (whole : IsWhole problem) where
         elim (reads-cases problem t next here reads) [
           | inl silent ↦ inl (
             subst (Reads problem t next) silent reads,
-            subst (IsPath problem.hierarchy.links problem.machine next rest) (sym (joined ∙ ap (λ h. h ++ there) silent)) after,
+            subst (IsPath problem.hierarchy.links problem.transducer next rest) (sym (joined ∙ ap (λ h. h ++ there) silent)) after,
           )
           | inr (v, one) ↦ inr (v, there, subst (Reads problem t next) one reads, joined ∙ ap (λ h. h ++ there) one, after)
         ],
       )
 
   pub ends-step : (t : Item) (rest : List Item) (state : ℕ)
-      → Ends problem (t ∷ rest) state ↔ ((next : ℕ) × Leads problem.machine state next × Reads problem t next [] × Ends problem rest next)
+      → Ends problem (t ∷ rest) state ↔ ((next : ℕ) × Leads problem.transducer state next × Reads problem t next [] × Ends problem rest next)
   ends-step t rest state = (
     (λ path.
         let (next, leads, either) = path-first state t rest [] path in
@@ -108,7 +108,7 @@ module _ (problem : Problem) (whole : IsWhole problem) where
 
     pub seen-step : (t : Item) (rest : List Item) (state : ℕ)
         → Completes problem bound (t ∷ rest) state true
-        ↔ ((next : ℕ) × Leads problem.machine state next × Goes problem bound t next × Completes problem bound rest next true)
+        ↔ ((next : ℕ) × Leads problem.transducer state next × Goes problem bound t next × Completes problem bound rest next true)
     seen-step t rest state = (
       (λ (output, path, allowed, met).
           let (next, leads, either) = path-first state t rest output path in
@@ -132,7 +132,7 @@ module _ (problem : Problem) (whole : IsWhole problem) where
 
     pub more-step : (t : Item) (rest : List Item) (state : ℕ)
         → Continues problem bound (t ∷ rest) state true
-        ↔ ((next : ℕ) × Leads problem.machine state next
+        ↔ ((next : ℕ) × Leads problem.transducer state next
         × ((Reads problem t next [] × Continues problem bound rest next true) ⊎ (Writes problem bound t next × Completes problem bound rest next true)))
     more-step t rest state = (
       (λ (w, more, path, allowed, met).
@@ -175,7 +175,7 @@ module _ (problem : Problem) (whole : IsWhole problem) where
 
     pub unseen-step : (t : Item) (rest : List Item) (state : ℕ)
         → Completes problem bound (t ∷ rest) state false
-        ↔ ((next : ℕ) × Leads problem.machine state next
+        ↔ ((next : ℕ) × Leads problem.transducer state next
         × ((Goes problem bound t next × Completes problem bound rest next false) ⊎ (Needs problem bound t next × Completes problem bound rest next true)))
     unseen-step t rest state = (
       (λ (output, path, allowed, met).

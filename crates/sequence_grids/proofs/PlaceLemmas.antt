@@ -20,7 +20,7 @@ use Rattle.sequence_grids.proofs.KindLemmas.{HasKind-grow, LeadsInto-of, nil-not
 use Rattle.sequence_grids.proofs.PathLemmas.{target-of, ends-step, seen-step, more-step, unseen-step}
 
 -- the triple of the end
-pub IsTripleOf-last : (problem : Problem) (bound : Bound) (triple : TripleSets) → IsLast problem.machine.finals triple → IsTripleOf problem bound [] triple
+pub IsTripleOf-last : (problem : Problem) (bound : Bound) (triple : TripleSets) → IsLast problem.transducer.finals triple → IsTripleOf problem bound [] triple
 IsTripleOf-last problem bound triple last = record {
   seen = λ q state. (
     (λ has. ([], ((last.seen q).0 has, refl), tt, inl refl)),

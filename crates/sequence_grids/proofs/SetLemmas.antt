@@ -113,42 +113,42 @@ IsTakenSoFar-take before after all index so_far here step = record {
 
 -- ---- the states before each state, from the edges of the first so many states
 
-pub record ArePredecessorsSoFar (machine : Transducer) (predecessors : List ℕ) (index : ℕ) : Type 0 where
-  pub long : length predecessors ≡ length machine.labels + 1
-  pub exact : (r k : ℕ) → Precedes predecessors r k ↔ ((r < index) × Leads machine r k)
+pub record ArePredecessorsSoFar (transducer : Transducer) (predecessors : List ℕ) (index : ℕ) : Type 0 where
+  pub long : length predecessors ≡ length transducer.labels + 1
+  pub exact : (r k : ℕ) → Precedes predecessors r k ↔ ((r < index) × Leads transducer r k)
 
-pub ArePredecessorsSoFar-none : (machine : Transducer) (predecessors : List ℕ) → length predecessors ≡ length machine.labels + 1 → ((q k : ℕ) → Precedes predecessors q k → ⊥)
-    → ArePredecessorsSoFar machine predecessors 0
-ArePredecessorsSoFar-none machine predecessors long none = record {
+pub ArePredecessorsSoFar-none : (transducer : Transducer) (predecessors : List ℕ) → length predecessors ≡ length transducer.labels + 1 → ((q k : ℕ) → Precedes predecessors q k → ⊥)
+    → ArePredecessorsSoFar transducer predecessors 0
+ArePredecessorsSoFar-none transducer predecessors long none = record {
   long = long;
   exact = λ r k. ((λ has. absurd (none r k has)), (λ h. absurd (omega (arith, h.0))));
 }
 
-pub ArePredecessorsSoFar-more : (machine : Transducer) (before after : List ℕ) (edges : List Edge) (index : ℕ) → ArePredecessorsSoFar machine before index
-    → edges ≡ edges_from machine index → Adds before after (λ k r. (r ≡ index) × LeadTo edges k) → ArePredecessorsSoFar machine after (index + 1)
-ArePredecessorsSoFar-more machine before after edges index so_far are adds = record {
+pub ArePredecessorsSoFar-more : (transducer : Transducer) (before after : List ℕ) (edges : List Edge) (index : ℕ) → ArePredecessorsSoFar transducer before index
+    → edges ≡ edges_from transducer index → Adds before after (λ k r. (r ≡ index) × LeadTo edges k) → ArePredecessorsSoFar transducer after (index + 1)
+ArePredecessorsSoFar-more transducer before after edges index so_far are adds = record {
   long = adds.long ∙ so_far.long;
   exact = λ r k. (
     (λ has. elim ((adds.edges k r).0 has) [
       | inl had ↦ let (below, leads) = (so_far.exact r k).0 had in (omega arith, leads)
       | inr (same, to) ↦ (
         omega arith,
-        subst (λ (x : ℕ). Leads machine x k) (sym same) (subst (λ (es : List Edge). LeadTo es k) are to),
+        subst (λ (x : ℕ). Leads transducer x k) (sym same) (subst (λ (es : List Edge). LeadTo es k) are to),
       )
     ]),
     (λ h. let (below, leads) = h in elim (cases_eq r index) [
       | inl same ↦ (adds.edges k r).1 (inr (
         same,
-        subst (λ (es : List Edge). LeadTo es k) (sym are) (subst (λ (x : ℕ). Leads machine x k) same leads),
+        subst (λ (es : List Edge). LeadTo es k) (sym are) (subst (λ (x : ℕ). Leads transducer x k) same leads),
       ))
       | inr other ↦ (adds.edges k r).1 (inl ((so_far.exact r k).1 (omega arith, leads)))
     ]),
   );
 }
 
-pub ArePredecessorsSoFar-all : (machine : Transducer) (predecessors : List ℕ) (index : ℕ) → ArePredecessorsSoFar machine predecessors index → length machine.labels < index
-    → (q k : ℕ) → q ≤ length machine.labels → Precedes predecessors q k ↔ Leads machine q k
-ArePredecessorsSoFar-all machine predecessors index so_far over q k state = (
+pub ArePredecessorsSoFar-all : (transducer : Transducer) (predecessors : List ℕ) (index : ℕ) → ArePredecessorsSoFar transducer predecessors index → length transducer.labels < index
+    → (q k : ℕ) → q ≤ length transducer.labels → Precedes predecessors q k ↔ Leads transducer q k
+ArePredecessorsSoFar-all transducer predecessors index so_far over q k state = (
   (λ has. ((so_far.exact q k).0 has).1),
   (λ leads. (so_far.exact q k).1 (omega arith, leads)),
 )

@@ -58,33 +58,33 @@ module _ (edges : List Edge) (before : ℕ) where
   added-all after index so_far over = subst (λ (l : List Edge). (to : ℕ) → Has after to ↔ (Has before to ⊎ ((edge : Edge) × Contains l edge × (edge.to.0 ≡ to)))) (take_all index edges over) so_far
 
 -- an edge that is labelled leads to a state of the transducer other than the start
-pub leads-within : (machine : Transducer) → ((state : ℕ) (edge : Edge) → Contains (edges_from machine state) edge → Enters machine.labels edge)
-    → (states to : ℕ) → LeadsFrom machine states to → (0 < to) × (to ≤ length machine.labels)
-leads-within machine labelled states to (from, has, (edge, inside, same)) =
-    let enters : Enters machine.labels edge = labelled from edge inside in
+pub leads-within : (transducer : Transducer) → ((state : ℕ) (edge : Edge) → Contains (edges_from transducer state) edge → Enters transducer.labels edge)
+    → (states to : ℕ) → LeadsFrom transducer states to → (0 < to) × (to ≤ length transducer.labels)
+leads-within transducer labelled states to (from, has, (edge, inside, same)) =
+    let enters : Enters transducer.labels edge = labelled from edge inside in
     let number : edge.to.0 ≡ suc enters.number = enters.to in
-    let within : enters.number < length machine.labels = enters.within in
+    let within : enters.number < length transducer.labels = enters.within in
     (omega (arith, number, within, same), omega (arith, number, within, same))
 
 -- the successors of the first so many states
-pub record AreFirst (machine : Transducer) (sets : List ℕ) (count : ℕ) : Type 0 where
+pub record AreFirst (transducer : Transducer) (sets : List ℕ) (count : ℕ) : Type 0 where
   pub all : length sets ≡ count
-  pub leads : (from to : ℕ) → from < count → Has (get_or sets from 0) to ↔ Leads machine from to
+  pub leads : (from to : ℕ) → from < count → Has (get_or sets from 0) to ↔ Leads transducer from to
 
-pub first-none : (machine : Transducer) → AreFirst machine [] 0
-first-none machine = record { all = refl; leads = λ from to none. absurd (omega arith) }
+pub first-none : (transducer : Transducer) → AreFirst transducer [] 0
+first-none transducer = record { all = refl; leads = λ from to none. absurd (omega arith) }
 
-pub first-more : (machine : Transducer) (sets : List ℕ) (count empty set : ℕ) → AreFirst machine sets count → empty ≡ 0
-    → ((to : ℕ) → Has set to ↔ (Has empty to ⊎ Leads machine count to)) → AreFirst machine (sets ++ set ∷ []) (count + 1)
-first-more machine sets count empty set so_far none adds = record {
+pub first-more : (transducer : Transducer) (sets : List ℕ) (count empty set : ℕ) → AreFirst transducer sets count → empty ≡ 0
+    → ((to : ℕ) → Has set to ↔ (Has empty to ⊎ Leads transducer count to)) → AreFirst transducer (sets ++ set ∷ []) (count + 1)
+first-more transducer sets count empty set so_far none adds = record {
   all = let all = so_far.all in omega (arith, length-append sets (set ∷ []));
   leads = λ from to inside. elim (cases_eq from count) [
     | inl last ↦
         let all = so_far.all in
         let at : from ≡ length sets = omega arith in
         let own : get_or (sets ++ set ∷ []) from 0 ≡ set = ap (λ k. get_or (sets ++ set ∷ []) k 0) at ∙ get_or-append_seam sets set [] 0 in
-        subst (λ (s : ℕ). Has s to ↔ Leads machine from to) (sym own)
-        (subst (λ (k : ℕ). Has set to ↔ Leads machine k to) (sym last) (
+        subst (λ (s : ℕ). Has s to ↔ Leads transducer from to) (sym own)
+        (subst (λ (k : ℕ). Has set to ↔ Leads transducer k to) (sym last) (
           (λ has. elim ((adds to).0 has) [ inl had ↦ absurd (Has-none to (subst (λ (s : ℕ). Has s to) none had)) | inr leads ↦ leads ]),
           (λ leads. (adds to).1 (inr leads)),
         ))
@@ -92,24 +92,24 @@ first-more machine sets count empty set so_far none adds = record {
         let all = so_far.all in
         let below : from < count = omega arith in
         let own : get_or (sets ++ set ∷ []) from 0 ≡ get_or sets from 0 = get_or_append_left sets (set ∷ []) 0 from (omega arith) in
-        subst (λ (s : ℕ). Has s to ↔ Leads machine from to) (sym own) (so_far.leads from to below)
+        subst (λ (s : ℕ). Has s to ↔ Leads transducer from to) (sym own) (so_far.leads from to below)
   ];
 }
 
-pub first-all : (width : ℕ) (machine : Transducer) (sets : List ℕ) (count : ℕ) → AreFirst machine sets count → count ≡ length machine.labels + 1 → length machine.labels < 64 * width
-    → AreSuccessors width machine sets
-first-all width machine sets count so_far whole room = record {
+pub first-all : (width : ℕ) (transducer : Transducer) (sets : List ℕ) (count : ℕ) → AreFirst transducer sets count → count ≡ length transducer.labels + 1 → length transducer.labels < 64 * width
+    → AreSuccessors width transducer sets
+first-all width transducer sets count so_far whole room = record {
   all = so_far.all ∙ whole;
   room = room;
   leads = λ from to inside. so_far.leads from to (omega (arith, whole, inside));
 }
 
 -- the states that the successors of live states have are those to which edges lead from them
-pub leads-from : (width : ℕ) (machine : Transducer) (sets : List ℕ) (live targets : ℕ) → AreSuccessors width machine sets
-    → ((from : ℕ) → Has live from → from ≤ length machine.labels)
+pub leads-from : (width : ℕ) (transducer : Transducer) (sets : List ℕ) (live targets : ℕ) → AreSuccessors width transducer sets
+    → ((from : ℕ) → Has live from → from ≤ length transducer.labels)
     → AreNeighbours sets live targets
-    → (to : ℕ) → Has targets to ↔ LeadsFrom machine live to
-leads-from width machine sets live targets are within exact to = (
+    → (to : ℕ) → Has targets to ↔ LeadsFrom transducer live to
+leads-from width transducer sets live targets are within exact to = (
   (λ has. let (from, held, alive) = (exact to).0 has in (from, alive, (are.leads from to (within from alive)).0 held)),
   (λ h. let (from, alive, leads) = h in (exact to).1 (from, (are.leads from to (within from alive)).1 leads, alive)),
 )

@@ -28,25 +28,25 @@ HoldsNeeded ranking need output = (v : Item) × Contains output v × IsNeeded ra
 -- and what is needed was seen or is among them.
 abbrev pub Completes : Problem → Bound → List Item → ℕ → Bool → Type 0
 Completes problem bound rest state seen =
-    (output : List Item) × IsPath problem.hierarchy.links problem.machine state rest output
+    (output : List Item) × IsPath problem.hierarchy.links problem.transducer state rest output
     × AllByRecursion (IsAllowed problem.ranking bound) output
     × (IsTrue seen ⊎ HoldsNeeded problem.ranking bound.need output)
 
 -- the same of a path that writes something
 abbrev pub Continues : Problem → Bound → List Item → ℕ → Bool → Type 0
 Continues problem bound rest state seen =
-    (v : Item) × (more : List Item) × IsPath problem.hierarchy.links problem.machine state rest (v ∷ more)
+    (v : Item) × (more : List Item) × IsPath problem.hierarchy.links problem.transducer state rest (v ∷ more)
     × AllByRecursion (IsAllowed problem.ranking bound) (v ∷ more)
     × (IsTrue seen ⊎ HoldsNeeded problem.ranking bound.need (v ∷ more))
 
 -- some path from the state over the rest of a sequence ends in a final state and writes nothing
 abbrev pub Ends : Problem → List Item → ℕ → Type 0
-Ends problem rest state = IsPath problem.hierarchy.links problem.machine state rest []
+Ends problem rest state = IsPath problem.hierarchy.links problem.transducer state rest []
 
 -- an edge into the state reads t and writes the output
 abbrev pub Reads : Problem → Item → ℕ → List Item → Type 0
 Reads problem t state output =
-    (label : Label) × (slice_get problem.machine.labels (state - 1) ≡ Some label)
+    (label : Label) × (slice_get problem.transducer.labels (state - 1) ≡ Some label)
     × Matches problem.hierarchy.links (leaf_of label.leaf) t
     × WritesAt problem.hierarchy.links (leaf_of label.leaf) label.captured t output
 

@@ -31,7 +31,7 @@ Needs problem bound t k = (rank : ℕ) × WritesRank problem bound t k rank × I
 
 -- a state that edges lead into
 abbrev pub IsTarget : Problem → ℕ → Type 0
-IsTarget problem k = (1 ≤ k) × (k ≤ length problem.machine.labels)
+IsTarget problem k = (1 ≤ k) × (k ≤ length problem.transducer.labels)
 
 -- the class of the item
 pub record IsClassFor (problem : Problem) (bound : Bound) (t : Item) (class : ClassSets) : Type 0 where
@@ -111,7 +111,7 @@ HasKind problem bound classes kinds t number =
 -- the columns are those of the transducer, and the kinds of the items that have one are right
 pub record AreKinds (problem : Problem) (bound : Bound) (classes : List ClassSets) (kinds : Kinds)
     : Type 0 where
-  pub columns_are : AreColumns problem.machine.labels kinds.columns.numbers.items kinds.columns.heads.items
+  pub columns_are : AreColumns problem.transducer.labels kinds.columns.numbers.items kinds.columns.heads.items
   pub all : length kinds.numbers.items ≡ problem.hierarchy.items
   pub right : (t : Item) → t.0 < length kinds.numbers.items → slice_index kinds.numbers.items t.0 ≢ unknown
       → HasKind problem bound classes kinds t (slice_index kinds.numbers.items t.0)

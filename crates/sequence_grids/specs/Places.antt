@@ -14,13 +14,13 @@ use Rattle.sequence_grids.specs.Kinds.{HasKind, AreMet, AreKinds}
 -- the triple of what may come before the rest
 pub record IsTripleOf (problem : Problem) (bound : Bound) (rest : List Item) (triple : TripleSets)
     : Type 0 where
-  pub seen : (q : ℕ) → q ≤ length problem.machine.labels
+  pub seen : (q : ℕ) → q ≤ length problem.transducer.labels
       → Has triple.seen q ↔ Completes problem bound rest q true
-  pub more : (q : ℕ) → q ≤ length problem.machine.labels
+  pub more : (q : ℕ) → q ≤ length problem.transducer.labels
       → Has triple.more q ↔ Continues problem bound rest q true
-  pub unseen : (q : ℕ) → q ≤ length problem.machine.labels
+  pub unseen : (q : ℕ) → q ≤ length problem.transducer.labels
       → Has triple.unseen q ↔ Completes problem bound rest q false
-  pub ends : (q : ℕ) → q ≤ length problem.machine.labels → Has triple.ends q ↔ Ends problem rest q
+  pub ends : (q : ℕ) → q ≤ length problem.transducer.labels → Has triple.ends q ↔ Ends problem rest q
 
 -- the triple with the number
 abbrev pub HasTriple : Problem → Bound → List TripleSets → List Item → ℕ → Type 0
@@ -29,11 +29,11 @@ HasTriple problem bound triples rest number =
 
 -- the table is one of the problem's transducer, and has the triple of the end
 pub record IsTableOf (problem : Problem) (table : TableValue) : Type 0 where
-  pub states : length table.predecessors ≡ length problem.machine.labels + 1
-  pub edges : (q k : ℕ) → q ≤ length problem.machine.labels
-      → Precedes table.predecessors q k ↔ Leads problem.machine q k
+  pub states : length table.predecessors ≡ length problem.transducer.labels + 1
+  pub edges : (q k : ℕ) → q ≤ length problem.transducer.labels
+      → Precedes table.predecessors q k ↔ Leads problem.transducer q k
   pub last : (triple : TripleSets) × (slice_get table.triples 0 ≡ Some triple)
-      × IsLast problem.machine.finals triple
+      × IsLast problem.transducer.finals triple
 
 -- the place stands for a position in the items
 pub record IsPlaceAt (problem : Problem) (bound : Bound) (table : TableValue) (kinds : Kinds)

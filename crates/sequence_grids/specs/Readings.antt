@@ -45,4 +45,4 @@ pub record IsReadAt (problem : Problem) (bound : Bound) (t : Item) (rest : List 
 -- the same for each state that edges lead into
 abbrev pub IsReading : Problem → Bound → Item → List Item → Reading → Type 0
 IsReading problem bound t rest reading =
-    (k : ℕ) → 1 ≤ k → k ≤ length problem.machine.labels → IsReadAt problem bound t rest reading k
+    (k : ℕ) → 1 ≤ k → k ≤ length problem.transducer.labels → IsReadAt problem bound t rest reading k

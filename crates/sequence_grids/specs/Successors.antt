@@ -6,18 +6,18 @@ use Rattle.sequence_grids.specs.declared.successors.Successors.{Successors}
 use Rattle.sequence_grids.specs.declared.successors.Successors.TheVariants.{One, Four, Wide}
 
 -- by the number of a state, the states to which edges lead from it; sets of so many words have room for all
-pub record AreSuccessors (width : ℕ) (machine : Transducer) (sets : List ℕ) : Type 0 where
-  pub all : length sets ≡ length machine.labels + 1
-  pub room : length machine.labels < 64 * width
-  pub leads : (from to : ℕ) → from ≤ length machine.labels
-      → Has (slice_index sets from) to ↔ Leads machine from to
+pub record AreSuccessors (width : ℕ) (transducer : Transducer) (sets : List ℕ) : Type 0 where
+  pub all : length sets ≡ length transducer.labels + 1
+  pub room : length transducer.labels < 64 * width
+  pub leads : (from to : ℕ) → from ≤ length transducer.labels
+      → Has (slice_index sets from) to ↔ Leads transducer from to
 
 -- the successors are those of the transducer's states
 abbrev pub AreSuccessorsOf : Transducer → Successors → Type 0
-AreSuccessorsOf machine (One sets) = AreSuccessors 1 machine sets.items
-AreSuccessorsOf machine (Four sets) = AreSuccessors 4 machine sets.items
-AreSuccessorsOf machine (Wide sets) = AreSuccessors 17 machine sets.items
+AreSuccessorsOf transducer (One sets) = AreSuccessors 1 transducer sets.items
+AreSuccessorsOf transducer (Four sets) = AreSuccessors 4 transducer sets.items
+AreSuccessorsOf transducer (Wide sets) = AreSuccessors 17 transducer sets.items
 
 -- an edge leads from one of the states to this one
 abbrev pub LeadsFrom : Transducer → ℕ → ℕ → Type 0
-LeadsFrom machine states to = (from : ℕ) × Has states from × Leads machine from to
+LeadsFrom transducer states to = (from : ℕ) × Has states from × Leads transducer from to

@@ -25,7 +25,7 @@ pub(crate) fn meet(
     t: Item,
 ) -> Result<(), NoMemory>
     requires item { t.0 < job.now.hierarchy.items }
-    requires states { length tables.old.predecessors ≡ length job.now.machine.labels + 1 }
+    requires states { length tables.old.predecessors ≡ length job.now.transducer.labels + 1 }
     requires kinds { AreKinds job.now bound tables.old.classes kinds.old }
     requires alphabet { IfSome alphabet (λ all. IsWholeAlphabet job.now all.now) }
     ensures tables { Grows tables.old tables.new }

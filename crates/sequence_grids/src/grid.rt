@@ -45,7 +45,7 @@ impl<'a> Grid<'a> {
     /// Whether state q completes at a position, where what is needed was seen or was not. Takes no memory.
     pub fn completes(&self, pos: u32, q: State, seen: bool) -> bool
         requires pos { pos ≤ length (items_at self.now 0) }
-        requires state { q.0 ≤ length self.now.problem.machine.labels }
+        requires state { q.0 ≤ length self.now.problem.transducer.labels }
         ensures { IsTrue result
             ↔ Completes self.now.problem self.now.bound (rest_at self.now 0 pos) q.0 seen }
     {
@@ -55,7 +55,7 @@ impl<'a> Grid<'a> {
     /// Whether state q ends at a position. Takes no memory.
     pub fn ends(&self, pos: u32, q: State) -> bool
         requires pos { pos ≤ length (items_at self.now 0) }
-        requires state { q.0 ≤ length self.now.problem.machine.labels }
+        requires state { q.0 ≤ length self.now.problem.transducer.labels }
         ensures { IsTrue result ↔ Ends self.now.problem (rest_at self.now 0 pos) q.0 }
     {
         self.grids.ends(0, pos, q)

@@ -178,7 +178,7 @@ impl<'a> Grids<'a> {
     pub fn completes(&self, grid: u32, pos: u32, q: State, seen: bool) -> bool
         requires grid { grid < length self.now.sequences }
         requires pos { pos ≤ length (items_at self.now grid) }
-        requires state { q.0 ≤ length self.now.problem.machine.labels }
+        requires state { q.0 ≤ length self.now.problem.transducer.labels }
         ensures { IsTrue result
             ↔ Completes self.now.problem self.now.bound (rest_at self.now grid pos) q.0 seen }
     {
@@ -190,7 +190,7 @@ impl<'a> Grids<'a> {
     pub fn ends(&self, grid: u32, pos: u32, q: State) -> bool
         requires grid { grid < length self.now.sequences }
         requires pos { pos ≤ length (items_at self.now grid) }
-        requires state { q.0 ≤ length self.now.problem.machine.labels }
+        requires state { q.0 ≤ length self.now.problem.transducer.labels }
         ensures { IsTrue result ↔ Ends self.now.problem (rest_at self.now grid pos) q.0 }
     {
         let place = place_of(self.places.as_slice(), self.ends.as_slice(), grid, pos);
@@ -201,8 +201,8 @@ impl<'a> Grids<'a> {
     pub fn completing(&self, grid: u32, pos: u32, seen: bool) -> &[u64]
         requires grid { grid < length self.now.sequences }
         requires pos { pos ≤ length (items_at self.now grid) }
-        ensures room { length self.now.problem.machine.labels < 64 * length result.now }
-        ensures states { (state : ℕ) → state ≤ length self.now.problem.machine.labels
+        ensures room { length self.now.problem.transducer.labels < 64 * length result.now }
+        ensures states { (state : ℕ) → state ≤ length self.now.problem.transducer.labels
             → (HasBit result.now state
             ↔ Completes self.now.problem self.now.bound (rest_at self.now grid pos) state seen) }
     {
@@ -216,7 +216,7 @@ impl<'a> Grids<'a> {
         requires grid { grid < length self.now.sequences }
         requires pos { pos < length (items_at self.now grid) }
         requires start { 0 < k.0 }
-        requires state { k.0 ≤ length self.now.problem.machine.labels }
+        requires state { k.0 ≤ length self.now.problem.transducer.labels }
         ensures { (t : Item) → slice_get (items_at self.now grid) pos ≡ Some t
             → (IsTrue result ↔ Reads self.now.problem t k.0 []) }
     {
@@ -230,7 +230,7 @@ impl<'a> Grids<'a> {
         requires grid { grid < length self.now.sequences }
         requires pos { pos < length (items_at self.now grid) }
         requires start { 0 < k.0 }
-        requires state { k.0 ≤ length self.now.problem.machine.labels }
+        requires state { k.0 ≤ length self.now.problem.transducer.labels }
         ensures ranks { (t : Item) (rank : ℕ) → slice_get (items_at self.now grid) pos ≡ Some t
             → (Contains result.now rank ↔ WritesRank self.now.problem self.now.bound t k.0 rank) }
         ensures once { AllPairs (λ one other. one ≢ other) result.now }

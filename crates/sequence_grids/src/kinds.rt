@@ -184,7 +184,7 @@ pub(crate) fn kind_of(
     t: Item,
 ) -> Result<u32, NoMemory>
     requires item { t.0 < job.now.hierarchy.items }
-    requires states { length tables.old.predecessors ≡ length job.now.machine.labels + 1 }
+    requires states { length tables.old.predecessors ≡ length job.now.transducer.labels + 1 }
     requires kinds { AreKinds job.now bound tables.old.classes kinds.old }
     requires alphabet { IfSome alphabet (λ all. IsWholeAlphabet job.now all.now) }
     ensures tables { Grows tables.old tables.new }
@@ -350,7 +350,7 @@ fn push_outputs(
     alphabet: Option<&Alphabet>,
 ) -> Result<(), NoMemory>
     requires item { t.0 < job.now.hierarchy.items }
-    requires heads { AreHeads job.now.machine.labels columns.now.heads.items }
+    requires heads { AreHeads job.now.transducer.labels columns.now.heads.items }
     requires alphabet { IfSome alphabet (λ all. IsWholeAlphabet job.now all.now) }
     ensures ends { Extends ends.old.items ends.new.items }
     ensures ranks { Extends ranks.old.items ranks.new.items }
@@ -423,10 +423,10 @@ fn enter(
     t: Item,
     scratch: &mut Scratch,
 ) -> Result<(), NoMemory>
-    requires columns { AreColumns job.now.machine.labels columns.now.numbers.items columns.now.heads.items }
+    requires columns { AreColumns job.now.transducer.labels columns.now.numbers.items columns.now.heads.items }
     requires acts { AreActs job.now bound t columns.now.heads.items
         scratch.old.acts.items (length columns.now.heads.items) }
-    ensures { OnOk result (AreEntered job.now bound t (length job.now.machine.labels + 1)
+    ensures { OnOk result (AreEntered job.now bound t (length job.now.transducer.labels + 1)
         scratch.new.silent.items scratch.new.writes.items scratch.new.needs.items) }
 {
     let _bound = bound;

@@ -121,7 +121,7 @@ module _ (course : Course) (ranks : Ranks) (lack : Option ℕ) (rank other : ℕ
 
 -- ---- one sequence
 
-module _ (part : GridList) (is : IsPart part) (width : ℕ) (rows : List ℕ) (rows_are : AreSuccessors width part.problem.machine rows)
+module _ (part : GridList) (is : IsPart part) (width : ℕ) (rows : List ℕ) (rows_are : AreSuccessors width part.problem.transducer rows)
     (places : List Record) (early late : List MoveSets) (ranks : Ranks) (CanAsk : ℕ → ℕ → Type 0) (records : AreRecords part places early late ranks CanAsk)
     (prefixes : List ℕ) (list : SnapshotList) (are : AreSnapshots part prefixes list) where
   abbrev pub course : Course

@@ -57,7 +57,7 @@ counts-alike weights One Other (here ∷ sequences) alike n (inr (lacks, counts)
       counts-alike weights One Other sequences (λ other held. alike other (Contains-other here sequences other held)) n counts,
     )
 
-module _ (part : GridList) (is : IsPart part) (width : ℕ) (rows : List ℕ) (rows_are : AreSuccessors width part.problem.machine rows)
+module _ (part : GridList) (is : IsPart part) (width : ℕ) (rows : List ℕ) (rows_are : AreSuccessors width part.problem.transducer rows)
     (places : List Record) (early late : List MoveSets) (ranks : Ranks) (CanAsk : ℕ → ℕ → Type 0) (records : AreRecords part places early late ranks CanAsk)
     (prefixes : List ℕ) (list : SnapshotList) (are : AreSnapshots part prefixes list)
     (grids : List ℕ) (rising : AllPairs (λ low high. low < high) grids) (all_grids : AreAllGrids part list.snapshots grids)

@@ -49,7 +49,7 @@ module _ (part : GridList) (whole : IsWhole part.problem) where
         first,
         (
           back ++ rest,
-          subst (IsPatternOf part.problem.hierarchy.links (tree_of part.problem.machine.expression) items) e pattern,
+          subst (IsPatternOf part.problem.hierarchy.links (tree_of part.problem.transducer.expression) items) e pattern,
           subst (IsWithin part.problem.ranking.order part.bound.top part.bound.need) e within,
         ),
       )
@@ -77,7 +77,7 @@ module _ (part : GridList) (whole : IsWhole part.problem) where
         let law = snapshot-ends part.problem part.bound whole items prefix allowed in (
           (λ (other, others, pattern, within).
               let same : other ≡ prefix = ranked-same part.problem.ranking.order other prefix ranks others ranked in law.1 (
-                subst (IsPatternOf part.problem.hierarchy.links (tree_of part.problem.machine.expression) items) same pattern,
+                subst (IsPatternOf part.problem.hierarchy.links (tree_of part.problem.transducer.expression) items) same pattern,
                 subst (IsWithin part.problem.ranking.order part.bound.top part.bound.need) same within,
               )),
           (λ snapshots. let (pattern, within) = law.0 snapshots in (prefix, ranked, pattern, within)),
@@ -113,8 +113,8 @@ module _ (part : GridList) (whole : IsWhole part.problem) where
           let all : AllByRecursion (IsAllowed part.problem.ranking part.bound) (prefix ++ w ∷ []) =
           front_of_both (IsAllowed part.problem.ranking part.bound) (prefix ++ w ∷ []) more inside.ranked in
           let few : rank ≤ part.bound.top = rank-few w rank has (back_of_both (IsAllowed part.problem.ranking part.bound) prefix (w ∷ []) all).0 in
-          let generated : IsPatternOf part.problem.hierarchy.links (tree_of part.problem.machine.expression) items ((prefix ++ w ∷ []) ++ more) =
-          subst (λ (l : List Item). IsPatternOf part.problem.hierarchy.links (tree_of part.problem.machine.expression) items (l ++ more)) same pattern in
+          let generated : IsPatternOf part.problem.hierarchy.links (tree_of part.problem.transducer.expression) items ((prefix ++ w ∷ []) ++ more) =
+          subst (λ (l : List Item). IsPatternOf part.problem.hierarchy.links (tree_of part.problem.transducer.expression) items (l ++ more)) same pattern in
           let (position, state, snapshot) = (snapshot-law part.problem part.bound whole items (prefix ++ w ∷ []) all).1 (more, generated, inside) in
           next-by w has few position state snapshot
 
@@ -160,8 +160,8 @@ module _ (part : GridList) (whole : IsWhole part.problem) where
           let inside : IsWithin part.problem.ranking.order part.bound.top part.bound.need (prefix ++ w ∷ []) =
           subst (IsWithin part.problem.ranking.order part.bound.top part.bound.need) same within in
           let few : rank ≤ part.bound.top = rank-few w rank has (back_of_both (IsAllowed part.problem.ranking part.bound) prefix (w ∷ []) inside.ranked).0 in
-          let is : IsPatternOf part.problem.hierarchy.links (tree_of part.problem.machine.expression) items (prefix ++ w ∷ []) =
-          subst (IsPatternOf part.problem.hierarchy.links (tree_of part.problem.machine.expression) items) same generates in
+          let is : IsPatternOf part.problem.hierarchy.links (tree_of part.problem.transducer.expression) items (prefix ++ w ∷ []) =
+          subst (IsPatternOf part.problem.hierarchy.links (tree_of part.problem.transducer.expression) items) same generates in
           let (position, state, snapshot, holds, ends) = (snapshot-ends part.problem part.bound whole items (prefix ++ w ∷ []) inside.ranked).1 (is, inside) in
           ends-by w has few position state snapshot holds ends
 

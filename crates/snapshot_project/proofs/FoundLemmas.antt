@@ -43,21 +43,21 @@ use Rattle.snapshot_project.proofs.WalkedLemmas.{groups-none, ready-readable}
 -- ---- the rows of a memo
 
 -- edges lead to states that have rows
-pub rows-closed : (width : ℕ) (problem : Problem) → IsWhole problem → (rows : List ℕ) → AreSuccessors width problem.machine rows
+pub rows-closed : (width : ℕ) (problem : Problem) → IsWhole problem → (rows : List ℕ) → AreSuccessors width problem.transducer rows
     → (from q : ℕ) → Has (get_or rows from 0) q → q < length rows
 rows-closed width problem whole rows are from q has = elim (cases_lt from (length rows)) [
   | inl inside ↦
-      let all : length rows ≡ length problem.machine.labels + 1 = are.all in
+      let all : length rows ≡ length problem.transducer.labels + 1 = are.all in
       let (some, few) = target-of problem whole from q ((are.leads from q (omega arith)).0 has) in
       omega arith
   | inr past ↦ absurd (Has-none q (subst (λ (set : ℕ). Has set q) (get_or_past rows from 0 past) has))
 ]
 
 -- sets of so many words have room for them
-pub rows-fit : (width : ℕ) (problem : Problem) (rows : List ℕ) → AreSuccessors width problem.machine rows → length rows ≤ 64 * width
+pub rows-fit : (width : ℕ) (problem : Problem) (rows : List ℕ) → AreSuccessors width problem.transducer rows → length rows ≤ 64 * width
 rows-fit width problem rows are =
-    let all : length rows ≡ length problem.machine.labels + 1 = are.all in
-    let room : length problem.machine.labels < 64 * width = are.room in
+    let all : length rows ≡ length problem.transducer.labels + 1 = are.all in
+    let room : length problem.transducer.labels < 64 * width = are.room in
     omega arith
 
 -- ---- nothing was walked yet, or all was

@@ -55,7 +55,7 @@ zip-at {A} {B} R (first ∷ xs) (other ∷ ys) zip zero x y at beside =
     subst (λ (a : A). R a y) (same_Some first x at) (subst (R first) (same_Some other y beside) zip.0)
 zip-at R (first ∷ xs) (other ∷ ys) zip (suc i) x y at beside = zip-at R xs ys zip.1 i x y at beside
 
-module _ (part : GridList) (is : IsPart part) (width : ℕ) (rows : List ℕ) (rows_are : AreSuccessors width part.problem.machine rows)
+module _ (part : GridList) (is : IsPart part) (width : ℕ) (rows : List ℕ) (rows_are : AreSuccessors width part.problem.transducer rows)
     (places : List Record) (early late : List MoveSets) (ranks : Ranks) (CanAsk : ℕ → ℕ → Type 0) (records : AreRecords part places early late ranks CanAsk)
     (prefixes : List ℕ) (list : SnapshotList) (are : AreSnapshots part prefixes list)
     (grids : List ℕ) (rising : AllPairs (λ low high. low < high) grids) (all_grids : AreAllGrids part list.snapshots grids)

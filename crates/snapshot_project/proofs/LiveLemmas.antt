@@ -28,7 +28,7 @@ module _ (problem : Problem) (bound : Bound) (prefix : List Item) where
     (
       output,
       runs-path problem from (quiet ++ rest) output
-          (runs-join problem (Has problem.machine.finals) to from quiet [] rest output run (path-runs problem to rest output path)),
+          (runs-join problem (Has problem.transducer.finals) to from quiet [] rest output run (path-runs problem to rest output path)),
       allowed,
       met,
     ),
@@ -47,7 +47,7 @@ module _ (problem : Problem) (bound : Bound) (prefix : List Item) where
         (
           w ∷ output,
           runs-path problem from (t ∷ rest) (w ∷ output)
-              (writing-first problem (Has problem.machine.finals) from t w to rest output step (path-runs problem to rest output path)),
+              (writing-first problem (Has problem.transducer.finals) from t w to rest output step (path-runs problem to rest output path)),
           (may, allowed),
           elim met [
             | inl holds ↦ elim ((needed-append problem.ranking bound.need prefix (w ∷ [])).0 (tells.0 holds)) [
@@ -195,10 +195,10 @@ module _ (problem : Problem) (whole : IsWhole problem) (bound : Bound) (items pr
       )
 
   -- the state is one of the transducer
-  pub live-state : (position state : ℕ) → IsLive problem bound items prefix position state → state ≤ length problem.machine.labels
+  pub live-state : (position state : ℕ) → IsLive problem bound items prefix position state → state ≤ length problem.transducer.labels
   live-state position state live =
       let (inside, (early, quiet, start, cut, snapshot, run, completes)) = live in
-      let from : start ≤ length problem.machine.labels =
+      let from : start ≤ length problem.transducer.labels =
       snapshot-state problem bound whole (early ++ (quiet ++ drop position items)) prefix (length early) start
       (snapshot-placed problem bound early (quiet ++ drop position items) prefix start snapshot) in
       run-state problem whole start quiet [] state from run

@@ -54,14 +54,14 @@ module _ (problem : Problem) (bound : Bound) (prefix : List Item) where
     v,
     more,
     runs-path problem from (quiet ++ rest) (v ∷ more)
-        (runs-join problem (Has problem.machine.finals) to from quiet [] rest (v ∷ more) run (path-runs problem to rest (v ∷ more) path)),
+        (runs-join problem (Has problem.transducer.finals) to from quiet [] rest (v ∷ more) run (path-runs problem to rest (v ∷ more) path)),
     allowed,
     holds,
   )
 
 module _ (problem : Problem) (whole : IsWhole problem) (bound : Bound) (items prefix : List Item) where
   -- before a silent edge
-  pub open-before : (position from state : ℕ) (t : Item) → slice_get items position ≡ Some t → Leads problem.machine from state → Reads problem t state []
+  pub open-before : (position from state : ℕ) (t : Item) → slice_get items position ≡ Some t → Leads problem.transducer from state → Reads problem t state []
       → WritesOn problem bound prefix (drop (position + 1) items) state → WritesOn problem bound prefix (drop position items) from
   open-before position from state t here leads reads on =
       subst (λ (r : List Item). WritesOn problem bound prefix r from) (sym (cut-rest items position t here))
@@ -78,7 +78,7 @@ module _ (problem : Problem) (whole : IsWhole problem) (bound : Bound) (items pr
       ]))
 
   -- from where an edge writes something, it can be written
-  pub open-writes : (rank position from state : ℕ) (t : Item) → slice_get items position ≡ Some t → Leads problem.machine from state
+  pub open-writes : (rank position from state : ℕ) (t : Item) → slice_get items position ≡ Some t → Leads problem.transducer from state
       → WritesRank problem bound t state rank → CompletesWith problem bound prefix rank (drop (position + 1) items) state
       → WritesOn problem bound prefix (drop position items) from
   open-writes rank position from state t here leads (w, has, few, reads) (seen, says, (output, path, allowed, met)) =
@@ -86,7 +86,7 @@ module _ (problem : Problem) (whole : IsWhole problem) (bound : Bound) (items pr
         w,
         output,
         runs-path problem from (t ∷ drop (position + 1) items) (w ∷ output)
-            (writing-first problem (Has problem.machine.finals) from t w state (drop (position + 1) items) output
+            (writing-first problem (Has problem.transducer.finals) from t w state (drop (position + 1) items) output
             ((step-reads problem whole from t (w ∷ []) state).1 (leads, reads)) (path-runs problem state (drop (position + 1) items) output path)),
         ((rank, has, few), allowed),
         writes-holds rank w output has (elim met [ inl before ↦ inl (says.0 before) | inr behind ↦ inr behind ]),

@@ -22,7 +22,7 @@ module _ (problem : Problem) where
 
   -- an edge does what its state's label says
   pub step-reads : IsWhole problem → (from : ℕ) (t : Item) (here : List Item) (to : ℕ)
-      → IsStep problem from t here to ↔ (Leads problem.machine from to × Reads problem t to here)
+      → IsStep problem from t here to ↔ (Leads problem.transducer from to × Reads problem t to here)
   step-reads whole from t here to = (
     (λ (edge, held, is, matches, writes). (
       (edge, held, is),
@@ -34,18 +34,18 @@ module _ (problem : Problem) where
   )
 
   -- it leads to a state of the transducer
-  pub step-state : IsWhole problem → (from : ℕ) (t : Item) (here : List Item) (to : ℕ) → IsStep problem from t here to → to ≤ length problem.machine.labels
+  pub step-state : IsWhole problem → (from : ℕ) (t : Item) (here : List Item) (to : ℕ) → IsStep problem from t here to → to ≤ length problem.transducer.labels
   step-state whole from t here to (edge, held, is, matches, writes) = (target-of problem whole from to (edge, held, is)).1
 
   -- paths are runs to final states
-  pub path-runs : (state : ℕ) (input output : List Item) → IsPath problem.hierarchy.links problem.machine state input output
-      → Runs problem (Has problem.machine.finals) state input output
+  pub path-runs : (state : ℕ) (input output : List Item) → IsPath problem.hierarchy.links problem.transducer state input output
+      → Runs problem (Has problem.transducer.finals) state input output
   path-runs state [] output path = path
   path-runs state (t ∷ rest) output (edge, here, there, held, matches, writes, joined, path) =
       (edge.to.0, here, there, (edge, held, refl, matches, writes), joined, path-runs edge.to.0 rest there path)
 
-  pub runs-path : (state : ℕ) (input output : List Item) → Runs problem (Has problem.machine.finals) state input output
-      → IsPath problem.hierarchy.links problem.machine state input output
+  pub runs-path : (state : ℕ) (input output : List Item) → Runs problem (Has problem.transducer.finals) state input output
+      → IsPath problem.hierarchy.links problem.transducer state input output
   runs-path state [] output run = run
   runs-path state (t ∷ rest) output (next, here, there, (edge, held, is, matches, writes), joined, run) = (
     edge,
@@ -55,7 +55,7 @@ module _ (problem : Problem) where
     matches,
     writes,
     joined,
-    subst (λ (k : ℕ). IsPath problem.hierarchy.links problem.machine k rest there) (sym is) (runs-path next rest there run),
+    subst (λ (k : ℕ). IsPath problem.hierarchy.links problem.transducer k rest there) (sym is) (runs-path next rest there run),
   )
 
   -- one edge
@@ -63,9 +63,9 @@ module _ (problem : Problem) where
   step-run from t here to step = (to, here, [], step, sym (append-nil here), (refl, refl))
 
   -- a run to one state that is not empty ends in a state of the transducer
-  pub run-state : IsWhole problem → (from : ℕ) (input output : List Item) (to : ℕ) → from ≤ length problem.machine.labels
-      → IsRun problem from input output to → to ≤ length problem.machine.labels
-  run-state whole from [] output to inside run = subst (λ (k : ℕ). k ≤ length problem.machine.labels) run.0 inside
+  pub run-state : IsWhole problem → (from : ℕ) (input output : List Item) (to : ℕ) → from ≤ length problem.transducer.labels
+      → IsRun problem from input output to → to ≤ length problem.transducer.labels
+  run-state whole from [] output to inside run = subst (λ (k : ℕ). k ≤ length problem.transducer.labels) run.0 inside
   run-state whole from (t ∷ rest) output to inside (next, here, there, step, joined, run) =
       run-state whole next rest there to (step-state whole from t here next step) run
 

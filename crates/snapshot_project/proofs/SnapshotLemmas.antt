@@ -56,16 +56,16 @@ module _ (problem : Problem) where
 
   -- the paths from a place
   pub place-path : (done prefix : List Item) (state : ℕ) (rest more : List Item) → IsReached problem done prefix state
-      → IsPath problem.hierarchy.links problem.machine state rest more → IsPath problem.hierarchy.links problem.machine 0 (done ++ rest) (prefix ++ more)
+      → IsPath problem.hierarchy.links problem.transducer state rest more → IsPath problem.hierarchy.links problem.transducer 0 (done ++ rest) (prefix ++ more)
   place-path done prefix state rest more reached path =
       runs-path problem 0 (done ++ rest) (prefix ++ more)
-      (reached-join (Has problem.machine.finals) done prefix state rest more reached (path-runs problem state rest more path))
+      (reached-join (Has problem.transducer.finals) done prefix state rest more reached (path-runs problem state rest more path))
 
-  pub path-place : (input prefix more : List Item) → IsPath problem.hierarchy.links problem.machine 0 input (prefix ++ more)
+  pub path-place : (input prefix more : List Item) → IsPath problem.hierarchy.links problem.transducer 0 input (prefix ++ more)
       → (done : List Item) × (rest : List Item) × (state : ℕ) × (input ≡ done ++ rest)
-      × IsReached problem done prefix state × IsPath problem.hierarchy.links problem.machine state rest more
+      × IsReached problem done prefix state × IsPath problem.hierarchy.links problem.transducer state rest more
   path-place input prefix more path =
-      let (done, rest, state, cut, reached, run) = reached-cut (Has problem.machine.finals) input prefix more (path-runs problem 0 input (prefix ++ more) path) in
+      let (done, rest, state, cut, reached, run) = reached-cut (Has problem.transducer.finals) input prefix more (path-runs problem 0 input (prefix ++ more) path) in
       (done, rest, state, cut, reached, runs-path problem state rest more run)
 
   module _ (bound : Bound) where
@@ -106,7 +106,7 @@ module _ (problem : Problem) where
 
     module _ (whole : IsWhole problem) (items prefix : List Item) where
       -- the state is one of the transducer
-      pub snapshot-state : (position state : ℕ) → HasSnapshot problem bound items prefix position state → state ≤ length problem.machine.labels
+      pub snapshot-state : (position state : ℕ) → HasSnapshot problem bound items prefix position state → state ≤ length problem.transducer.labels
       snapshot-state position state (inside, (reached, completes)) = elim reached [
         | inl (none, nothing, start) ↦ omega arith
         | inr (early, t, before, w, previous, cut, same, run, step) ↦ step-state problem whole previous t (w ∷ []) state step
@@ -118,9 +118,9 @@ module _ (problem : Problem) where
           → HoldsNeeded problem.ranking bound.need (v ∷ output) → IsWithin problem.ranking.order bound.top bound.need (v ∷ output)
       within-from v output all holds = record { ranked = all; needed = (needed-within problem.ranking bound.need v output).0 holds }
 
-      pattern-from : (output : List Item) → IsPath problem.hierarchy.links problem.machine 0 items output
+      pattern-from : (output : List Item) → IsPath problem.hierarchy.links problem.transducer 0 items output
           → AllByRecursion (IsAllowed problem.ranking bound) output → HoldsNeeded problem.ranking bound.need output
-          → IsPatternOf problem.hierarchy.links (tree_of problem.machine.expression) items output × IsWithin problem.ranking.order bound.top bound.need output
+          → IsPatternOf problem.hierarchy.links (tree_of problem.transducer.expression) items output × IsWithin problem.ranking.order bound.top bound.need output
       pattern-from [] path all holds = absurd (needed-none problem.ranking bound.need holds)
       pattern-from (v ∷ output) path all holds = (
         ((λ none. nil-not-cons v output (sym none)), (whole.paths problem.hierarchy.links items (v ∷ output)).0 path),
@@ -131,9 +131,9 @@ module _ (problem : Problem) where
       pattern-holds [] some within = absurd (some refl)
       pattern-holds (v ∷ output) some within = (needed-within problem.ranking bound.need v output).1 within.needed
 
-      at-items : (position : ℕ) (more : List Item) → IsPath problem.hierarchy.links problem.machine 0 (take position items ++ drop position items) more
-          → IsPath problem.hierarchy.links problem.machine 0 items more
-      at-items position more = subst (λ (s : List Item). IsPath problem.hierarchy.links problem.machine 0 s more) (take-append-drop position items)
+      at-items : (position : ℕ) (more : List Item) → IsPath problem.hierarchy.links problem.transducer 0 (take position items ++ drop position items) more
+          → IsPath problem.hierarchy.links problem.transducer 0 items more
+      at-items position more = subst (λ (s : List Item). IsPath problem.hierarchy.links problem.transducer 0 s more) (take-append-drop position items)
 
       module _ (allowed : AllByRecursion (IsAllowed problem.ranking bound) prefix) where
         continued : (position state : ℕ) → HasSnapshot problem bound items prefix position state
@@ -161,7 +161,7 @@ module _ (problem : Problem) where
               more_allowed.0,
               (
                 more,
-                subst (IsPatternOf problem.hierarchy.links (tree_of problem.machine.expression) items) e pattern,
+                subst (IsPatternOf problem.hierarchy.links (tree_of problem.transducer.expression) items) e pattern,
                 subst (IsWithin problem.ranking.order bound.top bound.need) e within,
               ),
             )
@@ -187,21 +187,21 @@ module _ (problem : Problem) where
 
         ended : (position state : ℕ) → HasSnapshot problem bound items prefix position state
             → HoldsNeeded problem.ranking bound.need prefix → Ends problem (drop position items) state
-            → IsPatternOf problem.hierarchy.links (tree_of problem.machine.expression) items prefix × IsWithin problem.ranking.order bound.top bound.need prefix
+            → IsPatternOf problem.hierarchy.links (tree_of problem.transducer.expression) items prefix × IsWithin problem.ranking.order bound.top bound.need prefix
         ended position state (inside, (reached, completes)) holds ends =
             pattern-from prefix
-            (subst (IsPath problem.hierarchy.links problem.machine 0 items) (append-nil prefix)
+            (subst (IsPath problem.hierarchy.links problem.transducer 0 items) (append-nil prefix)
             (at-items position (prefix ++ []) (place-path (take position items) prefix state (drop position items) [] reached ends)))
             allowed holds
 
-        from-ended : IsPatternOf problem.hierarchy.links (tree_of problem.machine.expression) items prefix
+        from-ended : IsPatternOf problem.hierarchy.links (tree_of problem.transducer.expression) items prefix
             → IsWithin problem.ranking.order bound.top bound.need prefix
             → (position : ℕ) × (state : ℕ) × HasSnapshot problem bound items prefix position state
             × HoldsNeeded problem.ranking bound.need prefix × Ends problem (drop position items) state
         from-ended (some, generates) within =
             let path = (whole.paths problem.hierarchy.links items prefix).1 generates in
             let (done, rest, state, cut, reached, ends) =
-            path-place items prefix [] (subst (IsPath problem.hierarchy.links problem.machine 0 items) (sym (append-nil prefix)) path) in
+            path-place items prefix [] (subst (IsPath problem.hierarchy.links problem.transducer 0 items) (sym (append-nil prefix)) path) in
             let holds : HoldsNeeded problem.ranking bound.need prefix = pattern-holds prefix some within in
             let (seen, says) = needed-decided problem.ranking bound.need prefix in (
               length done,
@@ -216,7 +216,7 @@ module _ (problem : Problem) where
         -- the prefix itself is such a pattern exactly where it holds what is needed and a snapshot ends
         pub snapshot-ends : ((position : ℕ) × (state : ℕ) × HasSnapshot problem bound items prefix position state
             × HoldsNeeded problem.ranking bound.need prefix × Ends problem (drop position items) state)
-            ↔ (IsPatternOf problem.hierarchy.links (tree_of problem.machine.expression) items prefix
+            ↔ (IsPatternOf problem.hierarchy.links (tree_of problem.transducer.expression) items prefix
             × IsWithin problem.ranking.order bound.top bound.need prefix)
         snapshot-ends = (
           (λ (position, state, snapshot, holds, ends). ended position state snapshot holds ends),

@@ -113,15 +113,15 @@ module _ (part : GridList) (is : IsPart part) (prefixes : List ℕ) (list : Snap
       omega arith
 
   -- in states of the transducer
-  pub stands-in-states : (width : ℕ) (rows : List ℕ) → AreSuccessors width part.problem.machine rows → All (λ stand. stand.state < length rows) stands
+  pub stands-in-states : (width : ℕ) (rows : List ℕ) → AreSuccessors width part.problem.transducer rows → All (λ stand. stand.state < length rows) stands
   stands-in-states width rows rows_are k d within =
       let stand : Stand = get_or stands k d in
       let (grid, known, (snapshot, held, is_of)) = stand-snapshot part stands_are.grids list.snapshots stands stands_are.are stand (Contains-get_or stands k d within) in
       let right = are.right snapshot held in
       let state_is : stand.state ≡ snapshot.state = is_of.state in
-      let few : snapshot.state ≤ length part.problem.machine.labels =
+      let few : snapshot.state ≤ length part.problem.transducer.labels =
       snapshot-state part.problem part.bound is.whole (items_of part.problem snapshot.sequence) are.prefix snapshot.position snapshot.state right.1 in
-      let all : length rows ≡ length part.problem.machine.labels + 1 = rows_are.all in
+      let all : length rows ≡ length part.problem.transducer.labels + 1 = rows_are.all in
       omega arith
 
   -- one behind another

@@ -66,7 +66,7 @@ module _ (part : GridList) (prefix : List Item) (grid : ℕ) (ranks : Ranks) (Ca
     pub here : slice_get (items_at part grid) at ≡ Some t
     pub from : ℕ
     pub live : IsLive part.problem part.bound (items_at part grid) prefix at from
-    pub leads : Leads part.problem.machine from visit.action.state
+    pub leads : Leads part.problem.transducer from visit.action.state
     pub asked : CanAsk visit.kind visit.action.state
     pub ranks_are : AreRanksAt part.problem part.bound t ranks visit.kind visit.action.state
     pub completes : Completes part.problem part.bound (drop (at + 1) (items_at part grid)) visit.action.state true

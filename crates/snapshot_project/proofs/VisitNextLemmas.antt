@@ -47,7 +47,7 @@ AreHeld course stands Held =
 abbrev pub HasHeld : (Visit → Bool) → (Visit → Type 0) → Type 0
 HasHeld test Held = (visit : Visit) × Held visit × IsTrue (test visit)
 
-module _ (part : GridList) (is : IsPart part) (width : ℕ) (rows : List ℕ) (rows_are : AreSuccessors width part.problem.machine rows)
+module _ (part : GridList) (is : IsPart part) (width : ℕ) (rows : List ℕ) (rows_are : AreSuccessors width part.problem.transducer rows)
     (places : List Record) (early late : List MoveSets) (ranks : Ranks) (CanAsk : ℕ → ℕ → Type 0)
     (records : AreRecords part places early late ranks CanAsk) where
   module _ (prefix : List Item) (seen : Bool) (grid : ℕ) (group : List Stand) (group_in : IsGroupIn part prefix seen grid group) (Held : Visit → Type 0)
@@ -93,7 +93,7 @@ module _ (part : GridList) (is : IsPart part) (width : ℕ) (rows : List ℕ) (r
         is-at-live part places early late ranks CanAsk records rows grid known width rows_are is.whole prefix seen
         group_in.0 group group_in.1.are group_in.2 at visited.from
         (omega arith) (subst (λ (p : ℕ). IsAt course group p visited.from) there visited.is_at) in
-        let leads : Leads part.problem.machine visited.from state =
+        let leads : Leads part.problem.transducer visited.from state =
         (rows_are.leads visited.from state (live-state part.problem is.whole part.bound (items_at part grid) prefix at visited.from live)).0 visited.leads in
         let target : IsTarget part.problem state = target-of part.problem is.whole visited.from state leads in
         let does : IsMoveAt part.problem part.bound on t (drop (at + 1) (items_at part grid)) met.move state = met.does state target in

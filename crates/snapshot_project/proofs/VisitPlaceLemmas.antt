@@ -37,7 +37,7 @@ use Rattle.snapshot_project.proofs.WalkLemmas.{arrives-completes, useful-live, l
 
 -- from a state from which a silent edge leads to one that writes on behind the item a path writes on before it
 pub continues-earlier : (problem : Problem) → IsWhole problem → (bound : Bound) (items : List Item) (position : ℕ) (t : Item) → slice_get items position ≡ Some t
-    → (from state : ℕ) → Leads problem.machine from state → Reads problem t state [] → (on : Bool) → Continues problem bound (drop (position + 1) items) state on
+    → (from state : ℕ) → Leads problem.transducer from state → Reads problem t state [] → (on : Bool) → Continues problem bound (drop (position + 1) items) state on
     → Continues problem bound (drop position items) from on
 continues-earlier problem whole bound items position t here from state leads reads on (v, more, path, allowed, met) =
     subst (λ (rest : List Item). Continues problem bound rest from on) (sym (cut-rest items position t here)) (
@@ -95,7 +95,7 @@ module _ (part : GridList) (places : List Record) (early late : List MoveSets) (
 
   -- ---- where the stands are
 
-  module _ (width : ℕ) (rows_are : AreSuccessors width part.problem.machine rows) (whole : IsWhole part.problem) (prefix : List Item) (seen : Bool)
+  module _ (width : ℕ) (rows_are : AreSuccessors width part.problem.transducer rows) (whole : IsWhole part.problem) (prefix : List Item) (seen : Bool)
       (snapshots : List Snapshot) (group : List Stand) (stands_are : AllZip (IsStandOf part grid) snapshots group)
       (are : AreGroupOf part.problem part.bound (items_at part grid) prefix seen snapshots) where
     abbrev pub on : Bool
@@ -146,19 +146,19 @@ module _ (part : GridList) (places : List Record) (early late : List MoveSets) (
 
     -- ---- the silent steps
 
-    pub row-leads : (from state : ℕ) → from ≤ length part.problem.machine.labels → Has (slice_index rows from) state ↔ Leads part.problem.machine from state
+    pub row-leads : (from state : ℕ) → from ≤ length part.problem.transducer.labels → Has (slice_index rows from) state ↔ Leads part.problem.transducer from state
     row-leads from state inside = rows_are.leads from state inside
 
-    snapshot-within : (position state : ℕ) → StandsIn snapshots position state → state ≤ length part.problem.machine.labels
+    snapshot-within : (position state : ℕ) → StandsIn snapshots position state → state ≤ length part.problem.transducer.labels
     snapshot-within position state stands =
         snapshot-state part.problem part.bound whole (items_at part grid) prefix position state (are.right position state stands)
 
-    arrived-within : (position state : ℕ) → Arrives part.problem part.bound (items_at part grid) snapshots on position state → state ≤ length part.problem.machine.labels
+    arrived-within : (position state : ℕ) → Arrives part.problem part.bound (items_at part grid) snapshots on position state → state ≤ length part.problem.transducer.labels
     arrived-within zero state arrives = absurd arrives
     arrived-within (suc before) state (t, from, here, earlier, leads, reads, completes) = (target-of part.problem whole from state leads).1
 
     either-within : (position state : ℕ) → Arrives part.problem part.bound (items_at part grid) snapshots on position state ⊎ StandsIn snapshots position state
-        → state ≤ length part.problem.machine.labels
+        → state ≤ length part.problem.transducer.labels
     either-within position state either = elim either [ inl arrives ↦ arrived-within position state arrives | inr stands ↦ snapshot-within position state stands ]
 
     arrives-down : (position state : ℕ) → position ≤ length (items_at part grid) → Walks course group (start_of part grid + position) state
@@ -175,7 +175,7 @@ module _ (part : GridList) (places : List Record) (early late : List MoveSets) (
           | inl early_walks ↦ inl (arrives-down before from (omega arith) early_walks)
           | inr stands ↦ inr ((stands-there before from).0 stands)
         ] in
-        let leads_to : Leads part.problem.machine from state = (row-leads from state (either-within before from earlier)).0 leads in
+        let leads_to : Leads part.problem.transducer from state = (row-leads from state (either-within before from earlier)).0 leads in
         let move_is : move ≡ met.move = one-move course (start_of part grid + before) met.entry entry met.move move met.holds holds in
         let (reads, completes) = (met.does state (target-of part.problem whole from state leads_to)).silent.0 (subst (λ (m : MoveSets). Has m.silent state) move_is silent) in
         let before_it = continues-earlier part.problem whole part.bound (items_at part grid) before t here from state leads_to reads on completes in

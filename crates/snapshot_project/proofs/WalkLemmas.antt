@@ -57,7 +57,7 @@ module _ (problem : Problem) (bound : Bound) (items : List Item) (group : List S
   module _ (position : ℕ) (t : Item) (here : slice_get items position ≡ Some t) (live : ℕ)
       (lives : (state : ℕ) → Has live state ↔ IsUseful problem bound items group on position state) where
     arrives-at : (state : ℕ) → Arrives problem bound items group on (suc position) state
-        ↔ (LeadsFrom problem.machine live state × Reads problem t state [] × Continues problem bound (drop (position + 1) items) state on)
+        ↔ (LeadsFrom problem.transducer live state × Reads problem t state [] × Continues problem bound (drop (position + 1) items) state on)
     arrives-at state = (
       (λ (u, from, there, useful, leads, reads, completes). (
         (from, (lives from).1 useful, leads),
@@ -69,11 +69,11 @@ module _ (problem : Problem) (bound : Bound) (items : List Item) (group : List S
 
     -- what arrives behind the item at the position
     pub arrives-next : (state : ℕ) → Arrives problem bound items group on (position + 1) state
-        ↔ (LeadsFrom problem.machine live state × Reads problem t state [] × Continues problem bound (drop (position + 1) items) state on)
+        ↔ (LeadsFrom problem.transducer live state × Reads problem t state [] × Continues problem bound (drop (position + 1) items) state on)
     arrives-next state =
         let next : suc position ≡ position + 1 = omega arith in
         subst (λ (k : ℕ). Arrives problem bound items group on k state
-        ↔ (LeadsFrom problem.machine live state × Reads problem t state [] × Continues problem bound (drop (position + 1) items) state on)) next
+        ↔ (LeadsFrom problem.transducer live state × Reads problem t state [] × Continues problem bound (drop (position + 1) items) state on)) next
         (arrives-at state)
 
   -- what arrives completes as it has to

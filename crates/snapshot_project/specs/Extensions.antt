@@ -27,7 +27,7 @@ GrowsBehind part ranks items =
 abbrev pub GeneratesWithin : GridList → List ℕ → List Item → Type 0
 GeneratesWithin part ranks items =
     (pattern : List Item) × AreRanked part.problem.ranking.order pattern ranks
-    × IsPatternOf part.problem.hierarchy.links (tree_of part.problem.machine.expression) items pattern
+    × IsPatternOf part.problem.hierarchy.links (tree_of part.problem.transducer.expression) items pattern
     × IsWithin part.problem.ranking.order part.bound.top part.bound.need pattern
 
 -- the rank can follow the prefix in sequences of the part that weigh so much together

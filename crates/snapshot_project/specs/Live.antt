@@ -28,7 +28,7 @@ IsLive problem bound items prefix position state =
 abbrev pub GoesOn : Problem → Bound → List Item → List Item → ℕ → ℕ → Type 0
 GoesOn problem bound items prefix position state =
     (t : Item) × (from : ℕ) × (slice_get items position ≡ Some t)
-    × IsLive problem bound items prefix position from × Leads problem.machine from state
+    × IsLive problem bound items prefix position from × Leads problem.transducer from state
     × Reads problem t state [] × CompletesBehind problem bound prefix (drop (position + 1) items) state
 
 -- what is needed is in the prefix, or is the rank
@@ -47,7 +47,7 @@ CompletesWith problem bound prefix rank rest state =
 abbrev pub WritesNext : Problem → Bound → List Item → List Item → ℕ → ℕ → ℕ → Type 0
 WritesNext problem bound items prefix rank position state =
     (t : Item) × (from : ℕ) × (slice_get items position ≡ Some t)
-    × IsLive problem bound items prefix position from × Leads problem.machine from state
+    × IsLive problem bound items prefix position from × Leads problem.transducer from state
     × WritesRank problem bound t state rank
     × CompletesWith problem bound prefix rank (drop (position + 1) items) state
 

@@ -10,7 +10,7 @@ use Rattle.mining_job.specs.Problems.{Problem}
 -- an edge leads from one state to the other, reads t and writes the output
 abbrev pub IsStep : Problem → ℕ → Item → List Item → ℕ → Type 0
 IsStep problem from t output to =
-    (edge : Edge) × Contains (edges_from problem.machine from) edge × (edge.to.0 ≡ to)
+    (edge : Edge) × Contains (edges_from problem.transducer from) edge × (edge.to.0 ≡ to)
     × Matches problem.hierarchy.links (leaf_of edge.leaf) t
     × WritesAt problem.hierarchy.links (leaf_of edge.leaf) edge.captured t output
 

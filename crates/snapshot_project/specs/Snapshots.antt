@@ -53,7 +53,7 @@ IsSnapshotOf part prefix snapshot =
 -- needed
 abbrev pub WritesOn : Problem → Bound → List Item → List Item → ℕ → Type 0
 WritesOn problem bound prefix rest state =
-    (v : Item) × (more : List Item) × IsPath problem.hierarchy.links problem.machine state rest (v ∷ more)
+    (v : Item) × (more : List Item) × IsPath problem.hierarchy.links problem.transducer state rest (v ∷ more)
     × AllByRecursion (IsAllowed problem.ranking bound) (v ∷ more)
     × HoldsNeeded problem.ranking bound.need (prefix ++ v ∷ more)
 

@@ -19,7 +19,7 @@ use Rattle.snapshot_project.specs.Layouts.{MayHaveStarts}
 -- the rows are the successors of all states, for which sets of so many words have room, and the records are
 -- those of the part
 pub record IsGround (width : ℕ) (part : GridList) (rows : List ℕ) (value : RecordsValue) : Type 0 where
-  pub rows_are : AreSuccessors width part.problem.machine rows
+  pub rows_are : AreSuccessors width part.problem.transducer rows
   pub records_are : AreRecords part value.places value.early value.late (ranks_of value.table)
       (CanAskOf value.table)
 

@@ -36,7 +36,7 @@ Arrives problem bound items group goes (suc before) state =
     (t : Item) × (from : ℕ) × (slice_get items before ≡ Some t)
     × ((Arrives problem bound items group goes before from ⊎ StandsIn group before from)
     × Continues problem bound (drop before items) from goes)
-    × Leads problem.machine from state × Reads problem t state []
+    × Leads problem.transducer from state × Reads problem t state []
     × Continues problem bound (drop (before + 1) items) state goes
 
 -- a snapshot stands at the position in the state, or such an edge leads to it; and a path goes on as it has
@@ -49,5 +49,5 @@ IsUseful problem bound items group goes position state =
 -- an edge from a live state writes the rank at t, and a path completes over the rest
 abbrev pub WritesFrom : Problem → Bound → ℕ → Item → List Item → Bool → ℕ → ℕ → Type 0
 WritesFrom problem bound live t rest seen rank state =
-    LeadsFrom problem.machine live state × WritesRank problem bound t state rank
+    LeadsFrom problem.transducer live state × WritesRank problem bound t state rank
     × Completes problem bound rest state (sees seen bound.need rank)

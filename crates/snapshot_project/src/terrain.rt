@@ -70,7 +70,7 @@ fn terrain_over<const W: usize>(
 ) -> Result<Terrain<W>, NoMemory>
     requires width { W ≤ 17 }
     requires within { AllByRecursion (λ i. i < length grids.problem.sequences) grids.sequences }
-    requires rows { AreSuccessors W grids.problem.machine rows.items }
+    requires rows { AreSuccessors W grids.problem.transducer rows.items }
     ensures { IfOk result (IsTerrain grids.entry) }
 {
     let records = records(alloc, grids)?;
@@ -117,7 +117,7 @@ fn terrain_over_all<R: Threads + Sync, const W: usize>(
 ) -> Result<(Vec<u32>, Terrain<W>), NoMemory>
     requires some { 1 ≤ workers }
     requires width { W ≤ 17 }
-    requires rows { AreSuccessors W job.now.machine rows.items }
+    requires rows { AreSuccessors W job.now.transducer rows.items }
     ensures sequences { IfOk result (λ all. AreAll job.now bound all.0.items) }
     ensures terrain { IfOk result (λ all. IsTerrain
         (record { problem = job.now; bound = bound; sequences = all.0.items }) all.1) }
@@ -160,7 +160,7 @@ fn terrain_over_all_alone<const W: usize>(
     rows: Vec<StateSet<W>>,
 ) -> Result<(Vec<u32>, Terrain<W>), NoMemory>
     requires width { W ≤ 17 }
-    requires rows { AreSuccessors W job.now.machine rows.items }
+    requires rows { AreSuccessors W job.now.transducer rows.items }
     ensures sequences { IfOk result (λ all. AreAll job.now bound all.0.items) }
     ensures terrain { IfOk result (λ all. IsTerrain
         (record { problem = job.now; bound = bound; sequences = all.0.items }) all.1) }

@@ -4,7 +4,7 @@ use Rattle.candidate_gen.proofs.advancing.absorb.Goals as goal
 
 pub take_state-requires : goal.take_state-requires
 take_state-requires g c =
-    let state : c.in-Some.state ≤ length c.args.view.now.problem.machine.labels =
+    let state : c.in-Some.state ≤ length c.args.view.now.problem.transducer.labels =
     next-within c.args.view.now c.args.depth c.args.rank c.args.position c.args.waiting.now.items c.places.waiting.items c.take_place.new.waiting.items c.args.live.now c.places.live c.in-Some.state c.places.ended
     c.places.invariant c.in-Some.ensures.taken c.requires.places in
     let room = c.requires.room in

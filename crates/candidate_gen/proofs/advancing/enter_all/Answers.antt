@@ -14,7 +14,7 @@ enter_silently-requires g c =
     (step-next c.args.view.now c.args.depth c.args.position c.args.targets.now c.args.found.now.items c.loop-state.yielded c.loop-state.state-iterator c.loop-state.found.items c.loop-state.after
     c.in-Some.state c.next.new.self c.loop-state.invariant c.in-Some.ensures.steps) in
     let start : 0 < c.in-Some.state = target.0 in
-    let state : c.in-Some.state ≤ length c.args.view.now.problem.machine.labels = target.1 in
+    let state : c.in-Some.state ≤ length c.args.view.now.problem.transducer.labels = target.1 in
     let small = c.requires.small in
     let room = c.requires.room in
     let position = c.requires.position in

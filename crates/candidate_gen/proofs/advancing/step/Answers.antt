@@ -28,9 +28,9 @@ enter_all-requires g c =
     let room = c.requires.successors.room in
     let small = c.requires.small in
     let position : c.args.position < length c.args.view.now.sequence = omega (arith, c.length.ensures.length, c.if-position-length.false) in
-    let targets : (to : ℕ) → Has c.neighbours-targets.result to → (0 < to) × (to ≤ length c.args.view.now.problem.machine.labels) = λ to has.
-    leads-within c.args.view.now.problem.machine c.length.ensures.whole.automaton.labelled c.args.live.now to
-    ((leads-from g.row.W c.args.view.now.problem.machine c.args.successors.now c.args.live.now c.neighbours-targets.result c.requires.successors c.requires.states c.neighbours-targets.ensures to).0 has) in
+    let targets : (to : ℕ) → Has c.neighbours-targets.result to → (0 < to) × (to ≤ length c.args.view.now.problem.transducer.labels) = λ to has.
+    leads-within c.args.view.now.problem.transducer c.length.ensures.whole.automaton.labelled c.args.live.now to
+    ((leads-from g.row.W c.args.view.now.problem.transducer c.args.successors.now c.args.live.now c.neighbours-targets.result c.requires.successors c.requires.states c.neighbours-targets.ensures to).0 has) in
     search rules
 
 pub returns-clause-ahead : goal.returns-clause-ahead
@@ -39,6 +39,6 @@ returns-clause-ahead g c =
     IfOk-weaker c.enter_all.result _ _
     (λ after entered. step-live c.args.view.now c.args.position inside c.length.ensures.whole.automaton.labelled c.args.found.now.items c.enter_all.new.found.items
     c.args.live.now c.neighbours-targets.result after
-    (leads-from g.row.W c.args.view.now.problem.machine c.args.successors.now c.args.live.now c.neighbours-targets.result c.requires.successors c.requires.states c.neighbours-targets.ensures)
+    (leads-from g.row.W c.args.view.now.problem.transducer c.args.successors.now c.args.live.now c.neighbours-targets.result c.requires.successors c.requires.states c.neighbours-targets.ensures)
     entered)
     c.enter_all.ensures.ahead

@@ -25,18 +25,18 @@ automaton c =
     let rows : c.as_slice.result.now ≡ c.add_all_edges.new.rows =
     c.as_slice.ensures.value ∙ take-append-le c.in_ok-rows.rows.len c.add_all_edges.new.rows _ (omega arith) ∙ take_all c.in_ok-rows.rows.len c.add_all_edges.new.rows (omega arith) in
     if_three c.from_rows.result _ _ _ _
-    (λ machine parts leads labelled.
-    IsPositionAutomaton-made (tree_of c.args.expr.now) c.add_all_edges.new.rows c.in_ok-finals.finals c.push_labels.new.labels.items machine whole entries parts.1 parts.2
+    (λ transducer parts leads labelled.
+    IsPositionAutomaton-made (tree_of c.args.expr.now) c.add_all_edges.new.rows c.in_ok-finals.finals c.push_labels.new.labels.items transducer whole entries parts.1 parts.2
     (rw rows at leads) labelled)
     c.from_rows.ensures.parts c.from_rows.ensures.edges c.from_rows.ensures.labelled
 
 pub returns-clause-states : goal.returns-clause-states
 returns-clause-states c =
     let count = labels_length (tree_of c.args.expr.now) false c.push_labels.new.labels.items (rw c.new-labels.ensures.items at c.in_ok-push_labels.ensures) in
-    IfOk-weaker c.from_rows.result _ _ (λ machine parts. ap length parts.1 ∙ count) c.from_rows.ensures.parts
+    IfOk-weaker c.from_rows.result _ _ (λ transducer parts. ap length parts.1 ∙ count) c.from_rows.ensures.parts
 
 pub returns-clause-automaton : goal.returns-clause-automaton
 returns-clause-automaton c = automaton c
 
 pub returns-clause-paths : goal.returns-clause-paths
-returns-clause-paths c = IfOk-weaker c.from_rows.result _ _ (λ machine is. automaton-generates machine (tree_of c.args.expr.now) is) (automaton c)
+returns-clause-paths c = IfOk-weaker c.from_rows.result _ _ (λ transducer is. automaton-generates transducer (tree_of c.args.expr.now) is) (automaton c)

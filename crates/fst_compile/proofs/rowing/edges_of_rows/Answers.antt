@@ -1,8 +1,8 @@
 use Rattle.std.proofs.Common.{◌≡◌, ◌∙◌, subst, ℕ, List, get_or}
 use Rattle.std.proofs.lemmas.List.{get_or_default}
 use Rattle.fst_compile.specs.declared.edge.Edge.{Edge}
-use Rattle.fst_compile.specs.Machines.{IsRow, LeadTo, AreRowsOf}
-use Rattle.fst_compile.proofs.MachineLemmas.{are_rows-more}
+use Rattle.fst_compile.specs.Transducers.{IsRow, LeadTo, AreRowsOf}
+use Rattle.fst_compile.proofs.TransducerLemmas.{are_rows-more}
 use Rattle.fst_compile.proofs.rowing.edges_of_rows.Goals as goal
 
 pub loop-row-preserved : goal.loop-row-preserved

@@ -1,4 +1,4 @@
-use Rattle.fst_compile.specs.Machines.{AreRowsOf}
+use Rattle.fst_compile.specs.Transducers.{AreRowsOf}
 use Rattle.fst_compile.proofs.rowing.edges_of_rows.Given as goal
 
 abbrev pub invariant-loop-row : goal.invariant-loop-row

@@ -1,5 +1,5 @@
 use Rattle.std.proofs.Common.{arith, refl}
-use Rattle.fst_compile.proofs.MachineLemmas.{IsFilledSoFar-none, IsFilledSoFar-more, IsRow-filled, LeadTo-filled, next_member, enters_at}
+use Rattle.fst_compile.proofs.TransducerLemmas.{IsFilledSoFar-none, IsFilledSoFar-more, IsRow-filled, LeadTo-filled, next_member, enters_at}
 use Rattle.fst_compile.proofs.rowing.fill.Goals as goal
 
 pub loop-state-init : goal.loop-state-init

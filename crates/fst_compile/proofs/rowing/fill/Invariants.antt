@@ -1,4 +1,4 @@
-use Rattle.fst_compile.proofs.MachineLemmas.{IsFilledSoFar}
+use Rattle.fst_compile.proofs.TransducerLemmas.{IsFilledSoFar}
 use Rattle.fst_compile.proofs.rowing.fill.Given as goal
 
 abbrev pub invariant-loop-state : goal.invariant-loop-state

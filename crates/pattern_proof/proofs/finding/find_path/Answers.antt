@@ -14,7 +14,7 @@ use Rattle.pattern_proof.proofs.finding.find_path.Goals as goal
 pub returns-in_default-clause-path : goal.returns-in_default-clause-path
 returns-in_default-clause-path c = λ states passes.
     let problem : Problem = c.args.job.now in
-    let few = run-shorter problem.hierarchy.links problem.machine 0 states (items_of problem c.args.seq) c.args.pattern.now
+    let few = run-shorter problem.hierarchy.links problem.transducer 0 states (items_of problem c.args.seq) c.args.pattern.now
     (passes-run problem c.db.ensures.whole 0 states (items_of problem c.args.seq) c.args.pattern.now passes) in
     let items = c.sequence-items.ensures.items ∙ ap (λ (s : List (Sequence Item)). (sequence_at s c.args.seq).items) c.db.ensures.sequences in
     let long = ap length items in
@@ -27,7 +27,7 @@ clear_bits-requires c =
     let items = c.sequence-items.ensures.items ∙ ap (λ (s : List (Sequence Item)). (sequence_at s c.args.seq).items) c.db.ensures.sequences in
     let long : length c.sequence-items.result.now ≡ length (items_of problem c.args.seq) = ap length items in
     let cut = c.in-Some.ensures in
-    let states : c.states.result ≡ length problem.machine.labels + 1 = c.states.ensures.states ∙ ap (λ (m : Transducer). length m.labels + 1) c.fst-2.ensures.machine in
+    let states : c.states.result ≡ length problem.transducer.labels + 1 = c.states.ensures.states ∙ ap (λ (m : Transducer). length m.labels + 1) c.fst-2.ensures.transducer in
     let table = c.requires.room.table (omega (arith, cut, long)) in
     words-within (length (items_of problem c.args.seq)) (length c.args.pattern.now) c.in-Some.silents c.states.result (vec_capacity c.args.room.now.table) (omega (arith, cut, long))
     (subst (λ w. (length (items_of problem c.args.seq) + 1) * (length c.args.pattern.now + 1) * w < 64 * vec_capacity c.args.room.now.table) (sym states) table)
@@ -37,7 +37,7 @@ find_in-requires-clause-room c =
     let cut = c.in-Some.ensures in
     let silents : c.in-Some.silents ≡ length c.sequence-items.result.now - length c.args.pattern.now = omega (arith, cut) in
     let states : c.states.result ≡ length c.fst.result.now.labels + 1 =
-    c.states.ensures.states ∙ ap (λ (m : Transducer). length m.labels + 1) (c.fst-2.ensures.machine ∙ sym c.fst.ensures.machine) in
+    c.states.ensures.states ∙ ap (λ (m : Transducer). length m.labels + 1) (c.fst-2.ensures.transducer ∙ sym c.fst.ensures.transducer) in
     let bits : ℕ = (length c.args.pattern.now + 1) * (c.in-Some.silents + 1) * c.states.result in
     let long : length c.clear_bits.new.words.items ≡ bits / 64 + 1 = c.clear_bits.ensures.long in
     let own : bits ≤ 64 * length c.clear_bits.new.words.items = omega (arith, long) in
@@ -48,7 +48,7 @@ pub returns-clause-path : goal.returns-clause-path
 returns-clause-path c =
     let problem : Problem = c.args.job.now in
     match-writes problem c.db.ensures.whole c.args.seq (numbers_of c.find_in.new.states.items) c.args.pattern.now c.sequence-items.result.now c.hierarchy.result.now.links c.fst.result.now
-    (ap (λ (h : Ancestry). h.links) c.hierarchy.ensures.hierarchy) c.fst.ensures.machine
+    (ap (λ (h : Ancestry). h.links) c.hierarchy.ensures.hierarchy) c.fst.ensures.transducer
     (c.sequence-items.ensures.items ∙ ap (λ (s : List (Sequence Item)). (sequence_at s c.args.seq).items) c.db.ensures.sequences) c.find_in.result c.find_in.ensures.path
 
 pub returns-clause-kept : goal.returns-clause-kept

@@ -42,7 +42,7 @@ put_entry-requires-clause-room g c = λ place inside.
     let problem : Problem = c.args.source.now.job.now in
     let n : ℕ = c.loop-number.number in
     let row : Row = c.row-item.result in
-    subst (λ (r : Row). HasRoom c.loop-number.room (length problem.machine.labels + 1) (length (items_of problem place)) (length r.pattern)) (sym c.row-item.is)
+    subst (λ (r : Row). HasRoom c.loop-number.room (length problem.transducer.labels + 1) (length (items_of problem place)) (length r.pattern)) (sym c.row-item.is)
     (c.loop-number.invariant.room n row c.loop-number-test.true place inside)
 
 pub returns-in_err-held-clause-cut : goal.returns-in_err-held-clause-cut

@@ -15,8 +15,8 @@ use Rattle.pattern_proof.proofs.search.choose.Goals.{then-edge, else-edge}
 -- the edge leads to that place, from where a path goes on
 abbrev Moves : Question → ℕ → ℕ → ℕ → Edge → ℕ → ℕ → Type 0
 Moves q s w state edge s' w' = IsPlace q s' w' × CanEnd q s' w' edge.to.0
-    × ((states : List ℕ) → IsRun q.links q.machine edge.to.0 states (drop (s' + w') q.items) (drop w' q.pattern)
-    → IsRun q.links q.machine state (edge.to.0 ∷ states) (drop (s + w) q.items) (drop w q.pattern))
+    × ((states : List ℕ) → IsRun q.links q.transducer edge.to.0 states (drop (s' + w') q.items) (drop w' q.pattern)
+    → IsRun q.links q.transducer state (edge.to.0 ∷ states) (drop (s + w) q.items) (drop w q.pattern))
 
 -- one more state behind those that were found
 one-more : (found : List State) (to : State) (new : List State) (tail : List ℕ) → new ≡ found ++ to ∷ [] → numbers_of found ++ (to.0 ∷ tail) ≡ numbers_of new ++ tail
@@ -25,9 +25,9 @@ one-more found to new tail is =
     ∙ ap (λ l. l ++ tail) (sym (map-append (λ (state : State). state.0) found (to ∷ [])) ∙ ap numbers_of (sym is))
 
 -- where no item is left, no state is
-no-state : (links : List (Link Item)) (machine : Transducer) (state : ℕ) (states : List ℕ) (items output : List Item) → items ≡ [] → IsRun links machine state states items output → states ≡ []
-no-state links machine state [] items output none run = refl
-no-state links machine state (next ∷ states) items output none run = absurd (subst (λ l. IsRun links machine state (next ∷ states) l output) none run)
+no-state : (links : List (Link Item)) (transducer : Transducer) (state : ℕ) (states : List ℕ) (items output : List Item) → items ≡ [] → IsRun links transducer state states items output → states ≡ []
+no-state links transducer state [] items output none run = refl
+no-state links transducer state (next ∷ states) items output none run = absurd (subst (λ l. IsRun links transducer state (next ∷ states) l output) none run)
 
 pub next_edge-requires-clause-silent : goal.next_edge-requires-clause-silent
 next_edge-requires-clause-silent c = λ place.
@@ -78,7 +78,7 @@ loop-silent-preserved c =
       deep = c.push_reserved.ensures.capacity ∙ c.loop-silent.invariant.deep;
       ends = moves.1;
       adds = λ states run.
-          subst (λ l. IsRun q.links q.machine 0 l q.items q.pattern) (one-more c.loop-silent.states.items edge.to c.push_reserved.new.self.items states c.push_reserved.ensures.items)
+          subst (λ l. IsRun q.links q.transducer 0 l q.items q.pattern) (one-more c.loop-silent.states.items edge.to c.push_reserved.new.self.items states c.push_reserved.ensures.items)
           (c.loop-silent.invariant.adds (edge.to.0 ∷ states) (moves.2 states run));
     }
 
@@ -88,6 +88,6 @@ returns-clause-run c =
     let last = c.loop-silent-test.false in
     let none = drop_all (c.loop-silent.silent + c.loop-silent.written) q.items (omega (arith, last)) in
     let (states, run) = c.loop-silent.invariant.ends in
-    let empty = no-state q.links q.machine c.loop-silent.state.0 states _ _ none run in
-    subst (λ l. IsRun q.links q.machine 0 l q.items q.pattern) (ap (λ l. numbers_of c.loop-silent.states.items ++ l) empty ∙ append-nil (numbers_of c.loop-silent.states.items))
+    let empty = no-state q.links q.transducer c.loop-silent.state.0 states _ _ none run in
+    subst (λ l. IsRun q.links q.transducer 0 l q.items q.pattern) (ap (λ l. numbers_of c.loop-silent.states.items ++ l) empty ∙ append-nil (numbers_of c.loop-silent.states.items))
     (c.loop-silent.invariant.adds states run)

@@ -11,7 +11,7 @@ loop-left-init c =
     let cells : (length q.pattern + 1) * (silents_of q + 1) ≤ (length q.pattern + 1) * (silents_of q + 1) = omega arith in
     record {
       within = subst (λ n. (length q.pattern + 1) * (n + 1) ≤ (length q.pattern + 1) * (silents_of q + 1)) (sym silents) cells;
-      set = subst (λ n. EndFrom q ((length q.pattern + 1) * (n + 1) * (length q.machine.labels + 1)) c.args.words.now.items) (sym silents) (none-set q c.args.words.now.items c.requires.clear);
+      set = subst (λ n. EndFrom q ((length q.pattern + 1) * (n + 1) * (length q.transducer.labels + 1)) c.args.words.now.items) (sym silents) (none-set q c.args.words.now.items c.requires.clear);
       long = refl;
       room = refl;
     }
@@ -27,6 +27,6 @@ fill_place-requires-clause-behind c =
     let within : left ≤ (length q.pattern + 1) * columns = subst (λ n. left ≤ (length q.pattern + 1) * n) (sym same) c.loop-left.invariant.within in
     let one : left ≡ left - 1 + 1 = omega (arith, some) in
     let less : left - 1 < (length q.pattern + 1) * columns = omega (arith, within, some) in
-    let width : ℕ = length q.machine.labels + 1 in
+    let width : ℕ = length q.transducer.labels + 1 in
     let bits : left * width ≡ (left - 1) * width + width = ap (λ n. n * width) one ∙ grind arith in
     subst (λ n. EndFrom q n c.loop-left.words.items) (bits ∙ sym (bit-of-place q (left - 1) columns same less width)) c.loop-left.invariant.set

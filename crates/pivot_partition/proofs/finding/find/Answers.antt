@@ -12,7 +12,7 @@ use Rattle.pivot_partition.proofs.FindLemmas.{outputs-kept, outputs-within, find
 use Rattle.pivot_partition.proofs.finding.find.Goals as goal
 
 pub overflow_sub-row : goal.overflow_sub-row
-overflow_sub-row c = omega (arith, c.requires.table.long, c.states-states.ensures.states, ap (λ (m : Transducer). length m.labels) c.fst-fst.ensures.machine)
+overflow_sub-row c = omega (arith, c.requires.table.long, c.states-states.ensures.states, ap (λ (m : Transducer). length m.labels) c.fst-fst.ensures.transducer)
 
 pub loop-position-init : goal.loop-position-init
 loop-position-init c = record {
@@ -20,7 +20,7 @@ loop-position-init c = record {
   entered_long = refl;
   marks_long = refl;
   marked = c.requires.marked;
-  row = omega (arith, c.requires.table.long, c.states-states.ensures.states, ap (λ (m : Transducer). length m.labels) c.fst-fst.ensures.machine);
+  row = omega (arith, c.requires.table.long, c.states-states.ensures.states, ap (λ (m : Transducer). length m.labels) c.fst-fst.ensures.transducer);
   found = found-begin c.args.job.now c.fst-fst.ensures.whole (items_at c.args.grids.now 0) c.begin.new.front c.args.found.now.items c.requires.few c.begin.ensures.first
       (λ state least inside. c.begin.ensures.others state least (omega (arith, inside, c.requires.front)))
       (λ rank held. Contains-none rank (subst (λ l. Contains l rank) c.requires.empty held));
@@ -36,14 +36,14 @@ overflow_sub-row-in-loop-position c =
       c.loop-position.invariant.row,
       row-next c.args.job.now (items_at c.args.grids.now 0) c.loop-position.position (omega (arith, c.loop-position-test.true, c.requires.count)),
       c.states-states.ensures.states,
-      ap (λ (m : Transducer). length m.labels) c.fst-fst.ensures.machine,
+      ap (λ (m : Transducer). length m.labels) c.fst-fst.ensures.transducer,
     )
 
 pub spread-requires-clause-front : goal.spread-requires-clause-front
-spread-requires-clause-front c = omega (arith, c.loop-position.invariant.front_long, c.requires.front, ap (λ (m : Transducer). length m.labels) c.fst-fst.ensures.machine)
+spread-requires-clause-front c = omega (arith, c.loop-position.invariant.front_long, c.requires.front, ap (λ (m : Transducer). length m.labels) c.fst-fst.ensures.transducer)
 
 pub spread-requires-clause-entered : goal.spread-requires-clause-entered
-spread-requires-clause-entered c = omega (arith, c.loop-position.invariant.entered_long, c.requires.entered, ap (λ (m : Transducer). length m.labels) c.fst-fst.ensures.machine)
+spread-requires-clause-entered c = omega (arith, c.loop-position.invariant.entered_long, c.requires.entered, ap (λ (m : Transducer). length m.labels) c.fst-fst.ensures.transducer)
 
 pub slice_bounds-pass-count : goal.slice_bounds-pass-count
 slice_bounds-pass-count c =
@@ -53,7 +53,7 @@ pub pass-requires-clause-some : goal.pass-requires-clause-some
 pass-requires-clause-some c = omega (arith, c.loop-position.invariant.front_long, c.requires.front)
 
 pub pass-requires-clause-few : goal.pass-requires-clause-few
-pass-requires-clause-few c = omega (arith, c.loop-position.invariant.front_long, c.requires.front, c.states-states.ensures.states, c.states-states.ensures.few, ap (λ (m : Transducer). length m.labels) c.fst-fst.ensures.machine)
+pass-requires-clause-few c = omega (arith, c.loop-position.invariant.front_long, c.requires.front, c.states-states.ensures.states, c.states-states.ensures.few, ap (λ (m : Transducer). length m.labels) c.fst-fst.ensures.transducer)
 
 pub pass-requires-clause-below : goal.pass-requires-clause-below
 pass-requires-clause-below c =
@@ -67,7 +67,7 @@ pass-requires-clause-below c =
       row-later c.args.job.now (items_at c.args.grids.now 0) 0 c.loop-position.position (omega arith),
       c.requires.table.long,
       c.states-states.ensures.states,
-      ap (λ (m : Transducer). length m.labels) c.fst-fst.ensures.machine,
+      ap (λ (m : Transducer). length m.labels) c.fst-fst.ensures.transducer,
     )
 
 pub pass-requires-clause-entered : goal.pass-requires-clause-entered
@@ -89,9 +89,9 @@ loop-position-preserved c =
     let inside : c.loop-position.position < length (items_at c.args.grids.now 0) = omega (arith, c.loop-position-test.true, c.requires.count) in
     let next = row-next c.args.job.now (items_at c.args.grids.now 0) c.loop-position.position inside in
     let row : c.loop-position.row - c.states-states.result ≡ row_at c.args.job.now (items_at c.args.grids.now 0) (c.loop-position.position + 1) =
-    omega (arith, next, c.loop-position.invariant.row, c.states-states.ensures.states, ap (λ (m : Transducer). length m.labels) c.fst-fst.ensures.machine) in
+    omega (arith, next, c.loop-position.invariant.row, c.states-states.ensures.states, ap (λ (m : Transducer). length m.labels) c.fst-fst.ensures.transducer) in
     let slice = take_rest c.args.table.now (c.loop-position.row - c.states-states.result) ∙ ap (λ n. drop n c.args.table.now) row in
-    let spreads = rw c.fst-fst.ensures.machine at c.spread.ensures.least in
+    let spreads = rw c.fst-fst.ensures.transducer at c.spread.ensures.least in
     record {
       front_long = c.pass.ensures.front_long ∙ c.loop-position.invariant.front_long;
       entered_long = c.spread.ensures.long ∙ c.loop-position.invariant.entered_long;

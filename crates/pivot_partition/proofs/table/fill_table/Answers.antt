@@ -10,7 +10,7 @@ use Rattle.pivot_partition.proofs.table.fill_table.Goals as goal
 
 pub loop-position-init : goal.loop-position-init
 loop-position-init c =
-    let last = rw (c.clear.ensures.items, c.fst-fst.ensures.machine) at c.in_ok-push_last.ensures in
+    let last = rw (c.clear.ensures.items, c.fst-fst.ensures.transducer) at c.in_ok-push_last.ensures in
     let (row, is, long, each) = last in
     record {
       long = refl;
@@ -24,7 +24,7 @@ reading-reading-requires-clause-pos c = omega (arith, c.loop-position-test.true,
 
 pub overflow_sub-start : goal.overflow_sub-start
 overflow_sub-start c =
-    omega (arith, c.loop-position.invariant.table.long, c.states-states.ensures.states, ap (λ (m : Transducer). length m.labels) c.fst-fst.ensures.machine, c.len.ensures, c.loop-position.table.ok.0)
+    omega (arith, c.loop-position.invariant.table.long, c.states-states.ensures.states, ap (λ (m : Transducer). length m.labels) c.fst-fst.ensures.transducer, c.len.ensures, c.loop-position.table.ok.0)
 
 pub enter-requires-clause-below : goal.enter-requires-clause-below
 enter-requires-clause-below c =
@@ -33,7 +33,7 @@ enter-requires-clause-below c =
       arith,
       c.loop-position.invariant.table.long,
       c.states-states.ensures.states,
-      ap (λ (m : Transducer). length m.labels) c.fst-fst.ensures.machine,
+      ap (λ (m : Transducer). length m.labels) c.fst-fst.ensures.transducer,
       c.len.ensures,
       c.loop-position.table.ok.0,
       ap length c.deref.ensures.value,
@@ -48,7 +48,7 @@ enter-requires-clause-outputs c = λ state least less.
     (omega (arith, less, c.loop-position.invariant.long, c.requires.entered))
 
 pub push_row-requires : goal.push_row-requires
-push_row-requires c = omega (arith, c.enter.ensures.long, c.loop-position.invariant.long, c.requires.entered, ap (λ (m : Transducer). length m.labels) c.fst-fst.ensures.machine)
+push_row-requires c = omega (arith, c.enter.ensures.long, c.loop-position.invariant.long, c.requires.entered, ap (λ (m : Transducer). length m.labels) c.fst-fst.ensures.transducer)
 
 pub loop-position-preserved : goal.loop-position-preserved
 loop-position-preserved c =
@@ -59,12 +59,12 @@ loop-position-preserved c =
       arith,
       c.loop-position.invariant.table.long,
       c.states-states.ensures.states,
-      ap (λ (m : Transducer). length m.labels) c.fst-fst.ensures.machine,
+      ap (λ (m : Transducer). length m.labels) c.fst-fst.ensures.transducer,
       c.len.ensures,
       c.loop-position.table.ok.0,
       ap (row_at c.args.job.now (items_at c.args.grids.now 0)) next,
     ) in
-    let pushed = rw c.fst-fst.ensures.machine at c.in_ok-push_row.ensures in
+    let pushed = rw c.fst-fst.ensures.transducer at c.in_ok-push_row.ensures in
     let (row, is, long, each) = pushed in
     record {
       long = c.enter.ensures.long ∙ c.loop-position.invariant.long;

@@ -15,7 +15,7 @@ make-made-requires g c =
     let from = c.into_parts-parts.ensures in
     let kinds = c.without_numbers-kinds.ensures in
     let width = c.requires.width in
-    let room : length c.into_parts-parts.result.job.now.machine.labels < 64 * g.row.W = rw from.job c.requires.room in
+    let room : length c.into_parts-parts.result.job.now.transducer.labels < 64 * g.row.W = rw from.job c.requires.room in
     let within : AllByRecursion (λ i. i < length c.into_parts-parts.result.job.now.sequences) c.as_slice-3.result.now = rw (from.job, c.as_slice-3.ensures.value, from.sequences) c.requires.within in
     let kept : AreKept c.into_parts-parts.result.job.now c.into_parts-parts.result.bound c.into_parts-parts.result.tables c.without_numbers-kinds.result c.as_slice.result.now c.as_slice-2.result.now c.as_slice-3.result.now =
     rw (from.job, from.bound, c.as_slice.ensures.value, c.as_slice-2.ensures.value, c.as_slice-3.ensures.value, from.sequences)
@@ -27,7 +27,7 @@ pub returns : goal.returns
 returns g c =
     let parts = c.into_parts-parts.result in
     let from = c.into_parts-parts.ensures in
-    let columns : AreColumns c.into_parts-parts.result.job.now.machine.labels c.without_numbers-kinds.result.columns.numbers.items c.without_numbers-kinds.result.columns.heads.items =
+    let columns : AreColumns c.into_parts-parts.result.job.now.transducer.labels c.without_numbers-kinds.result.columns.numbers.items c.without_numbers-kinds.result.columns.heads.items =
     rw (from.job, c.without_numbers-kinds.ensures.columns) from.grids.kinds_are.columns_are in
     let part : GridList = record { problem = c.into_parts-parts.result.job.now; bound = c.into_parts-parts.result.bound; sequences = c.as_slice-3.result.now } in
     let same : part ≡ c.args.grids = rw (from.job, from.bound, c.as_slice-3.ensures.value, from.sequences) refl in

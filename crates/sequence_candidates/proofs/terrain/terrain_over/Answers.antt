@@ -28,7 +28,7 @@ returns g c =
     let rows = c.in_ok-early.ensures.0 ∙ c.as_slice.ensures.value in
     record {
       ground = record {
-        rows_are = subst (AreSuccessors _ c.args.grids.problem.machine) (sym rows) c.requires.rows;
+        rows_are = subst (AreSuccessors _ c.args.grids.problem.transducer) (sym rows) c.requires.rows;
         records_are = c.in_ok-records.ensures;
       };
       early = c.in_ok-early.ensures.1 ∙ c.moves.ensures;

@@ -14,16 +14,16 @@ use Rattle.sequence_grids.proofs.kinds.enter.Goals.{After-index-column}
 pub index-column-requires : goal.index-column-requires
 index-column-requires c =
     let all = c.requires.columns.all in
-    let states : c.states-k-end.result ≡ length c.args.job.now.machine.labels + 1 = c.states-k-end.ensures.states ∙ ap (λ (m : Transducer). length m.labels + 1) c.fst.ensures.machine in
+    let states : c.states-k-end.result ≡ length c.args.job.now.transducer.labels + 1 = c.states-k-end.ensures.states ∙ ap (λ (m : Transducer). length m.labels + 1) c.fst.ensures.transducer in
     let inside : c.loop-k.k < length c.args.columns.now.numbers.items = omega (arith, all, states, c.loop-k-test.true) in
     search rules
 
 -- the column of the state
 the_column : (c : After-index-column) → (c.index-column.result.now ≡ slice_index c.args.columns.now.numbers.items c.loop-k.k)
-    × IsColumnOf c.args.job.now.machine.labels c.args.columns.now.heads.items c.loop-k.k (slice_index c.args.columns.now.numbers.items c.loop-k.k)
+    × IsColumnOf c.args.job.now.transducer.labels c.args.columns.now.heads.items c.loop-k.k (slice_index c.args.columns.now.numbers.items c.loop-k.k)
 the_column c =
     let all = c.requires.columns.all in
-    let states : c.states-k-end.result ≡ length c.args.job.now.machine.labels + 1 = c.states-k-end.ensures.states ∙ ap (λ (m : Transducer). length m.labels + 1) c.fst.ensures.machine in
+    let states : c.states-k-end.result ≡ length c.args.job.now.transducer.labels + 1 = c.states-k-end.ensures.states ∙ ap (λ (m : Transducer). length m.labels + 1) c.fst.ensures.transducer in
     let inside : c.loop-k.k < length c.args.columns.now.numbers.items = omega (arith, all, states, c.loop-k-test.true) in (
       get_or_read c.args.columns.now.numbers.items c.loop-k.k c.index-column.result.now inside c.index-column.ensures 0,
       c.requires.columns.numbers_are c.loop-k.k c.loop-k.invariant.least (omega (arith, all, inside)),
@@ -71,6 +71,6 @@ loop-k-preserved c =
 
 pub returns : goal.returns
 returns c =
-    let states : c.states-k-end.result ≡ length c.args.job.now.machine.labels + 1 = c.states-k-end.ensures.states ∙ ap (λ (m : Transducer). length m.labels + 1) c.fst.ensures.machine in
-    let last : c.loop-k.k ≡ length c.args.job.now.machine.labels + 1 = omega (arith, states, c.loop-k-test.false, c.loop-k.auto.k-end) in
+    let states : c.states-k-end.result ≡ length c.args.job.now.transducer.labels + 1 = c.states-k-end.ensures.states ∙ ap (λ (m : Transducer). length m.labels + 1) c.fst.ensures.transducer in
+    let last : c.loop-k.k ≡ length c.args.job.now.transducer.labels + 1 = omega (arith, states, c.loop-k-test.false, c.loop-k.auto.k-end) in
     subst (λ (count : ℕ). AreEntered c.args.job.now c.args.bound c.args.t count c.loop-k.scratch.silent.items c.loop-k.scratch.writes.items c.loop-k.scratch.needs.items) last c.loop-k.invariant.entered

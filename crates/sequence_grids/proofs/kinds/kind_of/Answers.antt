@@ -21,17 +21,17 @@ returns-in_err-enter-clause-kinds c =
 
 pub class_number-requires-clause-silent : goal.class_number-requires-clause-silent
 class_number-requires-clause-silent c =
-    rw c.as_slice.ensures.value (entered_below (λ k. Reads c.args.job.now c.args.t k []) c.enter.new.scratch.silent.items (length c.args.job.now.machine.labels + 1)
+    rw c.as_slice.ensures.value (entered_below (λ k. Reads c.args.job.now c.args.t k []) c.enter.new.scratch.silent.items (length c.args.job.now.transducer.labels + 1)
     (length c.args.tables.now.predecessors) c.in_ok-enter.ensures.silent_are (sym c.requires.states))
 
 pub class_number-requires-clause-writes : goal.class_number-requires-clause-writes
 class_number-requires-clause-writes c =
-    rw c.as_slice-2.ensures.value (entered_below (λ k. Writes c.args.job.now c.args.bound c.args.t k) c.enter.new.scratch.writes.items (length c.args.job.now.machine.labels + 1)
+    rw c.as_slice-2.ensures.value (entered_below (λ k. Writes c.args.job.now c.args.bound c.args.t k) c.enter.new.scratch.writes.items (length c.args.job.now.transducer.labels + 1)
     (length c.args.tables.now.predecessors) c.in_ok-enter.ensures.writes_are (sym c.requires.states))
 
 pub class_number-requires-clause-needs : goal.class_number-requires-clause-needs
 class_number-requires-clause-needs c =
-    rw c.as_slice-3.ensures.value (entered_below (λ k. Needs c.args.job.now c.args.bound c.args.t k) c.enter.new.scratch.needs.items (length c.args.job.now.machine.labels + 1)
+    rw c.as_slice-3.ensures.value (entered_below (λ k. Needs c.args.job.now c.args.bound c.args.t k) c.enter.new.scratch.needs.items (length c.args.job.now.transducer.labels + 1)
     (length c.args.tables.now.predecessors) c.in_ok-enter.ensures.needs_are (sym c.requires.states))
 
 pub returns-in_err-class-clause-kinds : goal.returns-in_err-class-clause-kinds

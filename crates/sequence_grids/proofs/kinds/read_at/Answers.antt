@@ -19,22 +19,22 @@ use Rattle.sequence_grids.proofs.kinds.read_at.Goals.{After-is_captured}
 pub outputs-requires-clause-named : goal.outputs-requires-clause-named
 outputs-requires-clause-named c =
     let d : Label = record { leaf = c.leaf-leaf.result; captured = false } in
-    let inside : c.args.k - 1 < length c.args.job.now.machine.labels = omega (arith, c.requires.state.0, c.requires.state.1) in
-    let same : c.leaf-leaf.result ≡ (get_or c.args.job.now.machine.labels (c.args.k - 1) d).leaf =
-    subst (λ (m : Transducer). c.leaf-leaf.result ≡ (get_or m.labels (c.args.k - 1) d).leaf) c.fst.ensures.machine (c.leaf-leaf.ensures d) in
-    rw (c.hierarchy.ensures.hierarchy, same) (named_label c.args.job.now c.fst.ensures.whole (c.args.k - 1) (get_or c.args.job.now.machine.labels (c.args.k - 1) d) (slice_get-get_or c.args.job.now.machine.labels (c.args.k - 1) d inside))
+    let inside : c.args.k - 1 < length c.args.job.now.transducer.labels = omega (arith, c.requires.state.0, c.requires.state.1) in
+    let same : c.leaf-leaf.result ≡ (get_or c.args.job.now.transducer.labels (c.args.k - 1) d).leaf =
+    subst (λ (m : Transducer). c.leaf-leaf.result ≡ (get_or m.labels (c.args.k - 1) d).leaf) c.fst.ensures.transducer (c.leaf-leaf.ensures d) in
+    rw (c.hierarchy.ensures.hierarchy, same) (named_label c.args.job.now c.fst.ensures.whole (c.args.k - 1) (get_or c.args.job.now.transducer.labels (c.args.k - 1) d) (slice_get-get_or c.args.job.now.transducer.labels (c.args.k - 1) d inside))
 
-the_label : (c : After-is_captured) → slice_get c.args.job.now.machine.labels (c.args.k - 1) ≡ Some (record { leaf = c.leaf-leaf.result; captured = c.is_captured.result })
+the_label : (c : After-is_captured) → slice_get c.args.job.now.transducer.labels (c.args.k - 1) ≡ Some (record { leaf = c.leaf-leaf.result; captured = c.is_captured.result })
 the_label c =
-    let inside : c.args.k - 1 < length c.args.job.now.machine.labels = omega (arith, c.requires.state.0, c.requires.state.1) in
-    label_at c.args.job.now.machine.labels (c.args.k - 1) c.leaf-leaf.result c.is_captured.result inside
-    (λ d. subst (λ (m : Transducer). c.leaf-leaf.result ≡ (get_or m.labels (c.args.k - 1) d).leaf) c.fst.ensures.machine (c.leaf-leaf.ensures d))
-    (λ d. subst (λ (m : Transducer). c.is_captured.result ≡ (get_or m.labels (c.args.k - 1) d).captured) c.fst-2.ensures.machine (c.is_captured.ensures d))
+    let inside : c.args.k - 1 < length c.args.job.now.transducer.labels = omega (arith, c.requires.state.0, c.requires.state.1) in
+    label_at c.args.job.now.transducer.labels (c.args.k - 1) c.leaf-leaf.result c.is_captured.result inside
+    (λ d. subst (λ (m : Transducer). c.leaf-leaf.result ≡ (get_or m.labels (c.args.k - 1) d).leaf) c.fst.ensures.transducer (c.leaf-leaf.ensures d))
+    (λ d. subst (λ (m : Transducer). c.is_captured.result ≡ (get_or m.labels (c.args.k - 1) d).captured) c.fst-2.ensures.transducer (c.is_captured.ensures d))
 
 pub returns-then-not-is_captured-clause-silent : goal.returns-then-not-is_captured-clause-silent
 returns-then-not-is_captured-clause-silent c =
     let there = the_label (goal.at.returns-then-not-is_captured-clause-silent c).After-is_captured in
-    let label : slice_get c.args.job.now.machine.labels (c.args.k - 1) ≡ Some (record { leaf = c.leaf-leaf.result; captured = false }) = rw c.if-not-is_captured.true at there in
+    let label : slice_get c.args.job.now.transducer.labels (c.args.k - 1) ≡ Some (record { leaf = c.leaf-leaf.result; captured = false }) = rw c.if-not-is_captured.true at there in
     let matches : IsTrue c.in_ok-matches.matches ↔ Matches c.args.job.now.hierarchy.links (leaf_of c.leaf-leaf.result) c.args.t =
     subst (λ (h : Ancestry). IsTrue c.in_ok-matches.matches ↔ Matches h.links (leaf_of c.leaf-leaf.result) c.args.t) c.hierarchy.ensures.hierarchy c.in_ok-matches.ensures.matches in
     let reads = silent_reads c.args.job.now c.args.bound c.args.t c.args.k c.leaf-leaf.result label in
@@ -43,7 +43,7 @@ returns-then-not-is_captured-clause-silent c =
 pub returns-then-not-is_captured-clause-found : goal.returns-then-not-is_captured-clause-found
 returns-then-not-is_captured-clause-found c rank =
     let there = the_label (goal.at.returns-then-not-is_captured-clause-found c).After-is_captured in
-    let label : slice_get c.args.job.now.machine.labels (c.args.k - 1) ≡ Some (record { leaf = c.leaf-leaf.result; captured = false }) = rw c.if-not-is_captured.true at there in (
+    let label : slice_get c.args.job.now.transducer.labels (c.args.k - 1) ≡ Some (record { leaf = c.leaf-leaf.result; captured = false }) = rw c.if-not-is_captured.true at there in (
       (λ held. absurd (Contains-none rank (subst (λ (xs : List ℕ). Contains xs rank) c.clear.ensures.items held))),
       (λ writes. absurd (silent_writes c.args.job.now c.args.bound c.args.t c.args.k c.leaf-leaf.result label rank writes)),
     )
@@ -51,13 +51,13 @@ returns-then-not-is_captured-clause-found c rank =
 pub returns-clause-silent : goal.returns-clause-silent
 returns-clause-silent c =
     let there = the_label (goal.at.returns-clause-silent c).After-is_captured in
-    let label : slice_get c.args.job.now.machine.labels (c.args.k - 1) ≡ Some (record { leaf = c.leaf-leaf.result; captured = true }) = rw c.if-not-is_captured.false at there in
+    let label : slice_get c.args.job.now.transducer.labels (c.args.k - 1) ≡ Some (record { leaf = c.leaf-leaf.result; captured = true }) = rw c.if-not-is_captured.false at there in
     ((λ yes. absurd (search rules)), (λ reads. absurd (captured_silent c.args.job.now c.args.bound c.args.t c.args.k c.leaf-leaf.result label reads)))
 
 pub returns-clause-found : goal.returns-clause-found
 returns-clause-found c =
     let there = the_label (goal.at.returns-clause-found c).After-is_captured in
-    let label : slice_get c.args.job.now.machine.labels (c.args.k - 1) ≡ Some (record { leaf = c.leaf-leaf.result; captured = true }) = rw c.if-not-is_captured.false at there in
+    let label : slice_get c.args.job.now.transducer.labels (c.args.k - 1) ≡ Some (record { leaf = c.leaf-leaf.result; captured = true }) = rw c.if-not-is_captured.false at there in
     held_by_sort c.push_ranks.new.found.items c.sort_unstable.new.self.items (λ rank. WritesRank c.args.job.now c.args.bound c.args.t c.args.k rank) c.sort_unstable.ensures.permutation
     (captured_writes c.args.job.now c.args.bound c.args.t c.args.k c.leaf-leaf.result label c.outputs.new.out.items c.push_ranks.new.found.items
     (subst (λ (h : Ancestry). (v : Item) → Contains c.outputs.new.out.items v ↔ (Matches h.links (leaf_of c.leaf-leaf.result) c.args.t × MayWrite h.links (leaf_of c.leaf-leaf.result) c.args.t v))

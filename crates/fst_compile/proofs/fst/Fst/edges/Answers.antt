@@ -2,7 +2,7 @@ use Rattle.std.proofs.Common.{◌≡◌, ◌≤◌, ◌<◌, [], length, get_or,
 use Rattle.std.specs.List.{Contains}
 use Rattle.std.proofs.lemmas.Option.{get_or_from_slice_get}
 use Rattle.fst_compile.specs.declared.edge.Edge.{Edge}
-use Rattle.fst_compile.specs.Machines.{IsRow}
+use Rattle.fst_compile.specs.Transducers.{IsRow}
 use Rattle.fst_compile.specs.Transducer.{Transducer, Enters, RisesByTarget, edges_from}
 use Rattle.fst_compile.proofs.fst.Fst.edges.Goals as goal
 use Rattle.fst_compile.proofs.fst.Fst.edges.Goals.{After-list}

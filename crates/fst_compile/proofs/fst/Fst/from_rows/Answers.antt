@@ -1,6 +1,6 @@
 use Rattle.std.proofs.Common.{length, arith}
-use Rattle.fst_compile.specs.Machines.{AreRowsOf}
-use Rattle.fst_compile.proofs.MachineLemmas.{leads_as_rows, rows_labelled}
+use Rattle.fst_compile.specs.Transducers.{AreRowsOf}
+use Rattle.fst_compile.proofs.TransducerLemmas.{leads_as_rows, rows_labelled}
 use Rattle.fst_compile.proofs.fst.Fst.from_rows.Goals as goal
 
 pub invariant_of-result : goal.invariant_of-result

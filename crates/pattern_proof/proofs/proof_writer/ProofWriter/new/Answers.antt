@@ -11,7 +11,7 @@ pub invariant_of-result : goal.invariant_of-result
 invariant_of-result c =
     let problem : Problem = c.args.job.now in
     let same : c.db.result.now ≡ problem.sequences = c.db.ensures.sequences in
-    let states : c.states.result ≡ length problem.machine.labels + 1 = c.states.ensures.states ∙ ap (λ (m : Transducer). length m.labels + 1) c.fst.ensures.machine in (
+    let states : c.states.result ≡ length problem.transducer.labels + 1 = c.states.ensures.states ∙ ap (λ (m : Transducer). length m.labels + 1) c.fst.ensures.transducer in (
       c.requires.frequent,
       c.requires.named,
       c.in_ok-lists_of.ensures,

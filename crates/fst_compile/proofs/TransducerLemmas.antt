@@ -12,7 +12,7 @@ use Rattle.state_bits.specs.Members.{Has}
 use Rattle.fst_compile.specs.declared.edge.Edge.{Edge}
 use Rattle.fst_compile.specs.declared.edge.Label.{Label}
 use Rattle.fst_compile.specs.Transducer.{Enters, target}
-use Rattle.fst_compile.specs.Machines.{IsRow, LeadTo, AreRowsOf}
+use Rattle.fst_compile.specs.Transducers.{IsRow, LeadTo, AreRowsOf}
 
 -- ---- one row
 
