@@ -6,7 +6,7 @@ use Rattle.std.proofs.lemmas.List.Elements.{All-push}
 use Rattle.mine_model.specs.Labels.{SameLabels}
 use Rattle.mine_model.proofs.ElementLemmas.{get-left}
 use Rattle.crossbeam_deque.specs.Handles.{worker_view}
-use Rattle.node_pool.specs.declared.rule.Hand.{Hand}
+use Rattle.node_pool.specs.declared.rule.Account.{Account}
 use Rattle.node_pool.specs.Rule.{Got}
 use Rattle.node_pool.specs.Opening.{Owner}
 use Rattle.node_pool.specs.Closing.{given_weight, got_weight, HaveParts}
@@ -15,17 +15,17 @@ use Rattle.node_pool.proofs.Kept.{kept_none}
 
 module _ {T G : Type 0} (label : T → List ℕ) (ground_of : T → G) where
   -- as much was taken from the deque as came to the list
-  pub record Emptying (first now : Hand G) (before left : List T) : Type 0 where
+  pub record Emptying (first now : Account G) (before left : List T) : Type 0 where
     pub parts : now.parts ≡ 64
     pub known_ground : now.known_ground ≡ first.known_ground
     pub given : now.given ≡ first.given
     pub got : (weight : List ℕ → ℕ) → sum_by weight now.got + sum_by (λ t. weight (label t)) before ≡ sum_by weight first.got + sum_by (λ t. weight (label t)) left
     pub tasks : All (λ t. Some (ground_of t) ≡ first.known_ground) before → All (λ t. Some (ground_of t) ≡ first.known_ground) left
 
-  pub emptying_begins : (first : Hand G) (before : List T) → first.parts ≡ 64 → Emptying first first before before
+  pub emptying_begins : (first : Account G) (before : List T) → first.parts ≡ 64 → Emptying first first before before
   emptying_begins first before all = record { parts = all; known_ground = refl; given = refl; got = λ weight. refl; tasks = λ h. h }
 
-  pub emptying_next : (first now after : Hand G) (before left : List T) (x : T) → Emptying first now before left → Got label ground_of now (x ∷ []) after → Emptying first after before (left ++ x ∷ [])
+  pub emptying_next : (first now after : Account G) (before left : List T) (x : T) → Emptying first now before left → Got label ground_of now (x ∷ []) after → Emptying first after before (left ++ x ∷ [])
   emptying_next first now after before left x s got = record {
     parts = ap (λ v. v.parts) got.0 ∙ s.parts;
     known_ground = ap (λ v. v.known_ground) got.0 ∙ s.known_ground;
@@ -37,14 +37,14 @@ module _ {T G : Type 0} (label : T → List ℕ) (ground_of : T → G) where
   }
 
   -- fewer are left to take
-  pub emptying_falls : (first now after : Hand G) (before left : List T) (x : T) → Emptying first now before left → Got label ground_of now (x ∷ []) after → length after.given - length after.got < length now.given - length now.got
+  pub emptying_falls : (first now after : Account G) (before left : List T) (x : T) → Emptying first now before left → Got label ground_of now (x ∷ []) after → length after.given - length after.got < length now.given - length now.got
   emptying_falls first now after before left x s got =
       let le = got.2 s.parts in
       let more : length after.got ≡ length (now.got ++ label x ∷ []) = ap (λ v. length v.got) got.0 in
       let same : length after.given ≡ length now.given = ap (λ v. length v.given) got.0 in
       let n = length_push now.got (label x) in omega arith
 
-  pub emptying_ends : (first now : Hand G) (before left : List T) → Emptying first now before left → SameLabels now.given now.got
+  pub emptying_ends : (first now : Account G) (before left : List T) → Emptying first now before left → SameLabels now.given now.got
       → (weight : List ℕ → ℕ) → sum_by weight first.given + sum_by (λ t. weight (label t)) before ≡ sum_by weight first.got + sum_by (λ t. weight (label t)) left
   emptying_ends first now before left s settled weight =
       let a : sum_by weight now.given ≡ sum_by weight first.given = ap (sum_by weight) s.given in

@@ -8,7 +8,7 @@ use Rattle.node_pool.specs.Ways.{share}
 use Rattle.std.proofs.lemmas.Option.{slice_get_within}
 use Rattle.crossbeam_deque.specs.Handles.{worker_view, worker_deque}
 use Rattle.node_pool.specs.declared.way.Way.{Way}
-use Rattle.node_pool.specs.Rule.{hand}
+use Rattle.node_pool.specs.Rule.{account}
 use Rattle.node_pool.specs.Opening.{kept, Owner, AreFresh, AreRows}
 use Rattle.std.specs.declared.vec.Vec.{Vec}
 use Rattle.std.specs.declared.alloc.Global.{Global}
@@ -55,12 +55,12 @@ kept_some seats k few within = dite (dec_le (suc k) seats)
     (λ no. let after : seats < suc k = lt_of_not-le no in let from : seats ≤ k = omega arith in let b = kept_from seats k from in omega arith)
 
 module _ {T G : Type 0} where
-  pub fresh_snoc : (known_ground : Option G) (owners : List (Owner T G)) (o : Owner T G) → AreFresh known_ground 0 owners → worker_view o ≡ hand 64 [] [] known_ground → AreFresh known_ground 0 (owners ++ o ∷ [])
-  fresh_snoc known_ground owners o old new = everywhere_snoc (λ k (o : Owner T G). worker_view o ≡ hand (kept 0 k) [] [] known_ground) owners o old (new ∙ ap (λ n. hand n [] [] known_ground) (sym (kept_none (length owners))))
+  pub fresh_snoc : (known_ground : Option G) (owners : List (Owner T G)) (o : Owner T G) → AreFresh known_ground 0 owners → worker_view o ≡ account 64 [] [] known_ground → AreFresh known_ground 0 (owners ++ o ∷ [])
+  fresh_snoc known_ground owners o old new = everywhere_snoc (λ k (o : Owner T G). worker_view o ≡ account (kept 0 k) [] [] known_ground) owners o old (new ∙ ap (λ n. account n [] [] known_ground) (sym (kept_none (length owners))))
 
   -- the owners below k gave the seat of this number its part
   abbrev pub Partly : Option G → ℕ → ℕ → List (Owner T G) → Type 0
-  Partly known_ground number k owners = Everywhere (λ j (o : Owner T G). (j < k → worker_view o ≡ hand (kept (number + 1) j) [] [] known_ground) × (k ≤ j → worker_view o ≡ hand (kept number j) [] [] known_ground)) owners
+  Partly known_ground number k owners = Everywhere (λ j (o : Owner T G). (j < k → worker_view o ≡ account (kept (number + 1) j) [] [] known_ground) × (k ≤ j → worker_view o ≡ account (kept number j) [] [] known_ground)) owners
 
   pub partly_none : (known_ground : Option G) (number : ℕ) (owners : List (Owner T G)) → AreFresh known_ground number owners → Partly known_ground number 0 owners
   partly_none known_ground number owners all j o e = ((λ no. absurd (omega arith)), λ _. all j o e)
@@ -69,15 +69,15 @@ module _ {T G : Type 0} where
   partly_all known_ground number k owners end all j o e = let within = slice_get_within owners j o e in (all j o e).0 (omega arith)
 
   pub partly_next : (known_ground : Option G) (number k : ℕ) (owners : List (Owner T G)) (o p : Owner T G) → number < 64 → slice_get owners k ≡ Some o → Partly known_ground number k owners
-      → worker_view p ≡ hand ((worker_view o).parts - share number k) (worker_view o).given (worker_view o).got (worker_view o).known_ground → Partly known_ground number (k + 1) (set owners k p)
+      → worker_view p ≡ account ((worker_view o).parts - share number k) (worker_view o).given (worker_view o).got (worker_view o).known_ground → Partly known_ground number (k + 1) (set owners k p)
   partly_next known_ground number k owners o p few at all new =
-      let was : worker_view o ≡ hand (kept number k) [] [] known_ground = (all k o at).1 (omega arith) in
-      let is : worker_view p ≡ hand (kept number k - share number k) [] [] known_ground = new ∙ ap (λ v. hand (v.parts - share number k) v.given v.got v.known_ground) was in
+      let was : worker_view o ≡ account (kept number k) [] [] known_ground = (all k o at).1 (omega arith) in
+      let is : worker_view p ≡ account (kept number k - share number k) [] [] known_ground = new ∙ ap (λ v. account (v.parts - share number k) v.given v.got v.known_ground) was in
       everywhere_set
-      (λ j (o : Owner T G). (j < k → worker_view o ≡ hand (kept (number + 1) j) [] [] known_ground) × (k ≤ j → worker_view o ≡ hand (kept number j) [] [] known_ground))
-      (λ j (o : Owner T G). (j < k + 1 → worker_view o ≡ hand (kept (number + 1) j) [] [] known_ground) × (k + 1 ≤ j → worker_view o ≡ hand (kept number j) [] [] known_ground))
+      (λ j (o : Owner T G). (j < k → worker_view o ≡ account (kept (number + 1) j) [] [] known_ground) × (k ≤ j → worker_view o ≡ account (kept number j) [] [] known_ground))
+      (λ j (o : Owner T G). (j < k + 1 → worker_view o ≡ account (kept (number + 1) j) [] [] known_ground) × (k + 1 ≤ j → worker_view o ≡ account (kept number j) [] [] known_ground))
       owners k p all
-      ((λ _. is ∙ ap (λ n. hand n [] [] known_ground) (sym (kept_next number k few))), λ no. absurd (omega arith))
+      ((λ _. is ∙ ap (λ n. account n [] [] known_ground) (sym (kept_next number k few))), λ no. absurd (omega arith))
       (λ j u other old. ((λ below. old.0 (omega arith)), λ from. old.1 (omega arith)))
 
   pub partly_room : (known_ground : Option G) (number k : ℕ) (owners : List (Owner T G)) (o : Owner T G) → number < 64 → length owners ≤ 64 → slice_get owners k ≡ Some o → Partly known_ground number k owners → share number k < (worker_view o).parts

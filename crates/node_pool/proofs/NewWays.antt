@@ -7,7 +7,7 @@ use Rattle.std.specs.declared.vec.Vec.{Vec}
 use Rattle.std.specs.declared.alloc.Global.{Global}
 use Rattle.crossbeam_deque.specs.Handles.{view, worker_deque, stealer_deque}
 use Rattle.node_pool.specs.declared.way.Way.{Way}
-use Rattle.node_pool.specs.Rule.{hand}
+use Rattle.node_pool.specs.Rule.{account}
 use Rattle.node_pool.specs.Deques.{Deque, pool_by}
 use Rattle.node_pool.specs.Ways.{share}
 use Rattle.node_pool.specs.Opening.{Owner, AreNewWays, AreRows}
@@ -37,13 +37,13 @@ module _ {T G : Type 0} where
       ∙ ap (λ n. take n deques) (sym (add-one k))
 
   pub ways_next : (known_ground : Option G) (number k : ℕ) (first : List (Owner T G)) (ways : List (Way T G)) (r : Way T G) → k ≤ length first → pool_by ways ≡ take k (map (λ (w : Owner T G). worker_deque w) first)
-      → AreNewWays known_ground number ways → view r.right ≡ hand (share number k) [] [] known_ground → AreNewWays known_ground number (ways ++ r ∷ [])
+      → AreNewWays known_ground number ways → view r.right ≡ account (share number k) [] [] known_ground → AreNewWays known_ground number (ways ++ r ∷ [])
   ways_next known_ground number k first ways r within so_far old new =
       let n = length-map ways (λ (r : Way T G). stealer_deque r.thief) in
       let m = length-map first (λ (w : Owner T G). worker_deque w) in
       let front = length-take-le k (map (λ (w : Owner T G). worker_deque w) first) (omega arith) in
       let count : length ways ≡ k = sym n ∙ ap length so_far ∙ front in
-      everywhere_snoc (λ j (r : Way T G). view r.right ≡ hand (share number j) [] [] known_ground) ways r old (new ∙ ap (λ j. hand (share number j) [] [] known_ground) (sym count))
+      everywhere_snoc (λ j (r : Way T G). view r.right ≡ account (share number j) [] [] known_ground) ways r old (new ∙ ap (λ j. account (share number j) [] [] known_ground) (sym count))
 
   pub rows_next : (known_ground : Option G) (deques : List Deque) (number : ℕ) (rows : List (Vec (Way T G) Global)) (ways : Vec (Way T G) Global)
       → AreRows known_ground deques number rows → pool_by ways.items ≡ deques → AreNewWays known_ground number ways.items → AreRows known_ground deques (number + 1) (rows ++ ways ∷ [])

@@ -10,7 +10,7 @@ use Rattle.std.specs.declared.alloc.Global.{Global}
 use Rattle.crossbeam_deque.specs.Handles.{view, worker_view, worker_deque, stealer_deque}
 use Rattle.node_pool.specs.declared.way.Way.{Way}
 use Rattle.node_pool.specs.declared.seat.Seat.{Seat}
-use Rattle.node_pool.specs.Rule.{hand}
+use Rattle.node_pool.specs.Rule.{account}
 use Rattle.node_pool.specs.Deques.{Deque, pool_by}
 use Rattle.node_pool.specs.Ways.{AreRights}
 use Rattle.node_pool.specs.Opening.{Owner, kept, AreFresh, AreRows, AreNewWays, AreSeats}
@@ -55,7 +55,7 @@ module _ {T G : Type 0} where
     pub size : length row ≡ n
     pub deques : pool_by row ≡ pool
     pub few : n ≤ 64
-    pub knows : worker_view owner ≡ hand (65 - n) [] [] known_ground
+    pub knows : worker_view owner ≡ account (65 - n) [] [] known_ground
     pub ways : AreNewWays known_ground number row
 
   pub seating_last : (known_ground : Option G) (n : ℕ) (deques : List Deque) (owners : List (Owner T G)) (o : Owner T G) (rows : List (Vec (Way T G) Global)) (w : Vec (Way T G) Global) (seats : List (Seat T G))
@@ -68,13 +68,13 @@ module _ {T G : Type 0} where
       let row = (everywhere_front (λ k (v : Vec (Way T G) Global). (pool_by v.items ≡ deques) × AreNewWays known_ground k v.items) rows w s.rows.1).1 in
       let own = (everywhere_front (λ k (o : Owner T G). slice_get deques k ≡ Some (worker_deque o)) owners o s.deques).1 in
       let few = s.few in let sum : 64 - n + 1 ≡ 65 - n = omega arith in
-      let fresh = (everywhere_front (λ k (o : Owner T G). worker_view o ≡ hand (kept n k) [] [] known_ground) owners o s.fresh).1 in record {
+      let fresh = (everywhere_front (λ k (o : Owner T G). worker_view o ≡ account (kept n k) [] [] known_ground) owners o s.fresh).1 in record {
         within = below;
         own = ap (λ l. slice_get l (length owners)) row.0 ∙ own;
         size = sym (length-map w.items (λ (r : Way T G). stealer_deque r.thief)) ∙ ap length row.0 ∙ s.size;
         deques = row.0;
         few = s.few;
-        knows = fresh ∙ ap (λ p. hand p [] [] known_ground) (kept_below n (length owners) below ∙ sum);
+        knows = fresh ∙ ap (λ p. account p [] [] known_ground) (kept_below n (length owners) below ∙ sum);
         ways = subst (λ k. AreNewWays known_ground k w.items) same row.1;
       }
 
@@ -87,7 +87,7 @@ module _ {T G : Type 0} where
         count = omega (arith, old.count, length_push seats s);
         size = old.size;
         few = old.few;
-        fresh = (everywhere_front (λ k (o : Owner T G). worker_view o ≡ hand (kept n k) [] [] known_ground) owners o old.fresh).0;
+        fresh = (everywhere_front (λ k (o : Owner T G). worker_view o ≡ account (kept n k) [] [] known_ground) owners o old.fresh).0;
         deques = (everywhere_front (λ k (o : Owner T G). slice_get deques k ≡ Some (worker_deque o)) owners o old.deques).0;
         rows = (omega (arith, old.rows.0), (everywhere_front (λ k (v : Vec (Way T G) Global). (pool_by v.items ≡ deques) × AreNewWays known_ground k v.items) rows w old.rows.1).0);
         seats = everywhere_snoc (λ i (s : Seat T G). (number_of s + i + 1 ≡ n) × (pool_of s ≡ deques) × (seat_ground s ≡ known_ground) × IsFresh s) seats s old.seats
@@ -121,7 +121,7 @@ module _ {T G : Type 0} where
   nothing_got known_ground number (r ∷ rs) none = ap (λ l. l ++ flat_map (λ (r : Way T G). (view r.right).got) rs) (none 0 r refl) ∙ nothing_got known_ground number rs (λ k. none (suc k))
 
   -- a new seat is fresh
-  pub seat_fresh : (known_ground : Option G) (parts number : ℕ) (o : Owner T G) (ways : List (Way T G)) → worker_view o ≡ hand parts [] [] known_ground → AreNewWays known_ground number ways
+  pub seat_fresh : (known_ground : Option G) (parts number : ℕ) (o : Owner T G) (ways : List (Way T G)) → worker_view o ≡ account parts [] [] known_ground → AreNewWays known_ground number ways
       → ((worker_view o).given ≡ []) × ((worker_view o).got ++ flat_map (λ (r : Way T G). (view r.right).got) ways ≡ []) × ((k : ℕ) → (bit_at 0 k == 1) ≡ false)
   seat_fresh known_ground parts number o ways knows new = (
     ap (λ v. v.given) knows,
@@ -134,8 +134,8 @@ module _ {T G : Type 0} where
   seat_rights known_ground number ways new k r e = let is = new k r e in (ap (λ v. v.parts) is, ap (λ v. v.given) is, ap (λ v. v.known_ground) is, λ _. ap (λ v. v.got) is)
 
   -- the last owner and ways make a seat
-  pub seat_owner : (known_ground : Option G) (n : ℕ) (pool : List Deque) (number : ℕ) (o : Owner T G) (ways : List (Way T G)) → Last known_ground n pool number o ways → worker_view o ≡ hand (65 - length ways) [] [] (worker_view o).known_ground
-  seat_owner known_ground n pool number o ways last = last.knows ∙ ap (λ (p : ℕ × Option G). hand p.0 [] [] p.1) (λ i. (ap (λ m. 65 - m) (sym last.size) i, sym (ap (λ v. v.known_ground) last.knows) i))
+  pub seat_owner : (known_ground : Option G) (n : ℕ) (pool : List Deque) (number : ℕ) (o : Owner T G) (ways : List (Way T G)) → Last known_ground n pool number o ways → worker_view o ≡ account (65 - length ways) [] [] (worker_view o).known_ground
+  seat_owner known_ground n pool number o ways last = last.knows ∙ ap (λ (p : ℕ × Option G). account p.0 [] [] p.1) (λ i. (ap (λ m. 65 - m) (sym last.size) i, sym (ap (λ v. v.known_ground) last.knows) i))
 
   pub seat_ways : (known_ground : Option G) (n : ℕ) (pool : List Deque) (number : ℕ) (o : Owner T G) (ways : List (Way T G)) → Last known_ground n pool number o ways → AreNewWays (worker_view o).known_ground number ways
   seat_ways known_ground n pool number o ways last = subst (λ (h : Option G). AreNewWays h number ways) (sym (ap (λ v. v.known_ground) last.knows)) last.ways

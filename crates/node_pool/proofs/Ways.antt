@@ -3,11 +3,11 @@ use Rattle.std.proofs.Common.{◌≡◌, ◌≢◌, ℕ, zero, suc, ◌+◌, ◌
 use Rattle.std.proofs.lemmas.List.Sums.{sum_by-append, sum_by_push}
 use Rattle.mine_model.specs.Labels.{SameLabels}
 use Rattle.crossbeam_deque.specs.Handles.{view, stealer_deque}
-use Rattle.node_pool.specs.declared.rule.Hand.{Hand}
+use Rattle.node_pool.specs.declared.rule.Account.{Account}
 use Rattle.node_pool.specs.declared.way.Way.{Way}
 use Rattle.std.specs.Option.{option_map_or}
 use Rattle.node_pool.specs.Pool.{stolen_by}
-use Rattle.node_pool.specs.Rule.{hand, Got}
+use Rattle.node_pool.specs.Rule.{account, Got}
 use Rattle.node_pool.specs.Deques.{Deque, pool_by}
 use Rattle.node_pool.specs.Ways.{share, AreRights}
 use Rattle.std.proofs.lemmas.List.{length-map}
@@ -33,19 +33,19 @@ none_both (Some x) A B a b = tt
 
 module _ {T G : Type 0} (label : T → List ℕ) (ground_of : T → G) where
   -- a task came out with its label, or nothing changed
-  abbrev pub Came : Option T → Hand G → Hand G → Type 0
-  Came result v w = MatchOption result (w ≡ v) (λ task. w ≡ hand v.parts v.given (v.got ++ label task ∷ []) v.known_ground)
+  abbrev pub Came : Option T → Account G → Account G → Type 0
+  Came result v w = MatchOption result (w ≡ v) (λ task. w ≡ account v.parts v.given (v.got ++ label task ∷ []) v.known_ground)
 
-  pub came_keeps : (result : Option T) (v w : Hand G) → Came result v w → (w.parts ≡ v.parts) × (w.given ≡ v.given) × (w.known_ground ≡ v.known_ground)
-  came_keeps None v w e = (ap (λ (u : Hand G). u.parts) e, ap (λ (u : Hand G). u.given) e, ap (λ (u : Hand G). u.known_ground) e)
-  came_keeps (Some x) v w e = (ap (λ (u : Hand G). u.parts) e, ap (λ (u : Hand G). u.given) e, ap (λ (u : Hand G). u.known_ground) e)
+  pub came_keeps : (result : Option T) (v w : Account G) → Came result v w → (w.parts ≡ v.parts) × (w.given ≡ v.given) × (w.known_ground ≡ v.known_ground)
+  came_keeps None v w e = (ap (λ (u : Account G). u.parts) e, ap (λ (u : Account G). u.given) e, ap (λ (u : Account G). u.known_ground) e)
+  came_keeps (Some x) v w e = (ap (λ (u : Account G). u.parts) e, ap (λ (u : Account G). u.given) e, ap (λ (u : Account G). u.known_ground) e)
 
   -- what came has the ground of its deque
-  pub came_ground : (result : Option T) (v : Hand G) (known_ground : Option G) → v.known_ground ≡ known_ground → IfSome result (λ x. v.known_ground ≡ Some (ground_of x)) → IfSome result (λ x. known_ground ≡ Some (ground_of x))
+  pub came_ground : (result : Option T) (v : Account G) (known_ground : Option G) → v.known_ground ≡ known_ground → IfSome result (λ x. v.known_ground ≡ Some (ground_of x)) → IfSome result (λ x. known_ground ≡ Some (ground_of x))
   came_ground None v known_ground is e = e
   came_ground (Some x) v known_ground is e = sym is ∙ e
 
-  pub took_ground : (result : Option T) (v w : Hand G) (E : Type 0) → MatchOption result ((w ≡ v) × E) (λ x. Got label ground_of v (x ∷ []) w) → IfSome result (λ x. v.known_ground ≡ Some (ground_of x))
+  pub took_ground : (result : Option T) (v w : Account G) (E : Type 0) → MatchOption result ((w ≡ v) × E) (λ x. Got label ground_of v (x ∷ []) w) → IfSome result (λ x. v.known_ground ≡ Some (ground_of x))
   took_ground None v w E e = tt
   took_ground (Some x) v w E e = sym (e.1 0 x (omega arith))
 
@@ -57,7 +57,7 @@ module _ {T G : Type 0} (label : T → List ℕ) (ground_of : T → G) where
   alone_steals_nothing (suc k) known_ground (r ∷ []) rights own one = absurd (omega arith)
   alone_steals_nothing number known_ground (r ∷ s ∷ rs) rights own one = absurd (omega arith)
 
-  pub took_alone : (result : Option T) (v w : Hand G) (F : T → Type 0) (number : ℕ) (ways : List (Way T G))
+  pub took_alone : (result : Option T) (v w : Account G) (F : T → Type 0) (number : ℕ) (ways : List (Way T G))
       → MatchOption result ((w ≡ v) × (v.parts ≡ 64 → SameLabels v.given v.got)) F → AreRights number v.known_ground ways → number < length ways → v.parts + length ways ≡ 65
       → IfNone result (length (pool_by ways) ≡ 1 → SameLabels v.given (v.got ++ flat_map (λ (r : Way T G). (view r.right).got) ways))
   took_alone (Some x) v w F number ways e rights own parts = tt
@@ -93,12 +93,12 @@ module _ {T G : Type 0} (label : T → List ℕ) (ground_of : T → G) where
         let old = flat_map (λ (r : Way T G). (view r.right).got) ways in
         let new = flat_map (λ (r : Way T G). (view r.right).got) (set ways i s) in
         let m = flat_map_set (λ (r : Way T G). (view r.right).got) weight ways i r s at in
-        let is : sum_by weight (view s.right).got ≡ sum_by weight ((view r.right).got ++ label x ∷ []) = ap (λ (w : Hand G). sum_by weight w.got) came in
+        let is : sum_by weight (view s.right).got ≡ sum_by weight ((view r.right).got ++ label x ∷ []) = ap (λ (w : Account G). sum_by weight w.got) came in
         omega (arith, sum_by-append weight mine old, sum_by-append weight mine new, sum_by_push weight (mine ++ old) (label x), sum_by_push weight (view r.right).got (label x))
 
     pub stole_none : (result : Option T) (mine : List (List ℕ)) → Came result (view r.right) (view s.right)
         → IfNone result (mine ++ flat_map (λ (r : Way T G). (view r.right).got) (set ways i s) ≡ mine ++ flat_map (λ (r : Way T G). (view r.right).got) ways)
-    stole_none None mine came = ap (λ l. mine ++ l) (flat_map_kept (λ (r : Way T G). (view r.right).got) ways i r s at (ap (λ (w : Hand G). w.got) came))
+    stole_none None mine came = ap (λ l. mine ++ l) (flat_map_kept (λ (r : Way T G). (view r.right).got) ways i r s at (ap (λ (w : Account G). w.got) came))
     stole_none (Some x) mine came = tt
 
     -- the part of the deque that was robbed
@@ -117,13 +117,13 @@ module _ {T G : Type 0} (label : T → List ℕ) (ground_of : T → G) where
     stole_from number None mine came other = tt
     stole_from number (Some x) mine came other =
         let f : (i == number) ≡ false = ne_eqb i number other in
-        let grew : (view s.right).got ≡ (view r.right).got ++ label x ∷ [] = ap (λ (w : Hand G). w.got) came in
+        let grew : (view s.right).got ≡ (view r.right).got ++ label x ∷ [] = ap (λ (w : Account G). w.got) came in
         (rw f (stole_there ∙ grew ∙ ap (λ l. l ++ label x ∷ []) (sym stole_before)), stole_other number mine)
 
     pub stole_nothing : (number : ℕ) (result : Option T) (mine : List (List ℕ)) → Came result (view r.right) (view s.right)
         → IfNone result ((k : ℕ) → part_from number mine (set ways i s) k ≡ part_from number mine ways k)
     stole_nothing number None mine came = λ k. dite (ℕ_discrete k i)
         (λ is. subst (λ (j : ℕ). part_from number mine (set ways i s) j ≡ part_from number mine ways j) (sym is)
-        (ap (λ l. if i == number then mine else l) (stole_there ∙ ap (λ (w : Hand G). w.got) came ∙ sym stole_before)))
+        (ap (λ l. if i == number then mine else l) (stole_there ∙ ap (λ (w : Account G). w.got) came ∙ sym stole_before)))
         (stole_other number mine k)
     stole_nothing number (Some x) mine came = tt

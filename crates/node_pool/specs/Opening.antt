@@ -5,17 +5,17 @@ use Rattle.std.specs.declared.alloc.Global.{Global}
 use Rattle.std.specs.declared.vec.Vec.{Vec}
 use Rattle.crossbeam_deque.specs.Handles.{view, worker_view}
 use Rattle.crossbeam_deque.specs.declared.handles.Worker.{Worker}
-use Rattle.node_pool.specs.declared.rule.Hand.{Hand}
+use Rattle.node_pool.specs.declared.rule.Account.{Account}
 use Rattle.node_pool.specs.declared.rule.Balance.{Balance}
 use Rattle.node_pool.specs.declared.way.Way.{Way}
 use Rattle.node_pool.specs.declared.seat.Seat.{Seat}
 use Rattle.node_pool.specs.Deques.{Deque, pool_by}
 use Rattle.node_pool.specs.Pool.{number_of, pool_of, seat_ground, IsFresh}
-use Rattle.node_pool.specs.Rule.{fresh_hand}
+use Rattle.node_pool.specs.Rule.{fresh_account}
 use Rattle.node_pool.specs.Ways.{share}
 
 abbrev pub Owner : Type 0 → Type 0 → Type 0
-Owner T G = Worker T Global (Hand G) Balance
+Owner T G = Worker T Global (Account G) Balance
 
 -- the parts that the owner of deque k has left once the first seats, this many, have theirs
 abbrev pub kept : ℕ → ℕ → ℕ
@@ -25,12 +25,12 @@ module _ {T G : Type 0} (known_ground : Option G) where
   -- nothing was put or taken yet, and the first seats have their parts
   abbrev pub AreFresh : ℕ → List (Owner T G) → Type 0
   AreFresh seats owners = (k : ℕ) (o : Owner T G) → slice_get owners k ≡ Some o
-      → worker_view o ≡ fresh_hand (kept seats k) known_ground
+      → worker_view o ≡ fresh_account (kept seats k) known_ground
 
   -- the ways of the seat of this number, before it stole anything
   abbrev pub AreNewWays : ℕ → List (Way T G) → Type 0
   AreNewWays number ways = (k : ℕ) (way : Way T G) → slice_get ways k ≡ Some way
-      → view way.right ≡ fresh_hand (share number k) known_ground
+      → view way.right ≡ fresh_account (share number k) known_ground
 
   -- the ways of the first seats, this many, into these deques
   abbrev pub AreRows : List Deque → ℕ → List (Vec (Way T G) Global) → Type 0

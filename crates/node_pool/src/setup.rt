@@ -2,7 +2,7 @@
 ghost use Rattle.std.specs.Prelude.{◌≡◌, ◌-◌, ◌+◌, ◌<◌, ◌≤◌, ℕ, [], None, Option, Some, IfOk, OnOk, All};
 ghost use Rattle.std.specs.Prelude.{length, map, slice_get, vec_len};
 ghost use Rattle.crossbeam_deque.specs.Handles.{IsPassOf, stealer_deque, view, worker_deque, worker_view};
-ghost use Rattle.node_pool.specs.Rule.{fresh_hand, without_parts};
+ghost use Rattle.node_pool.specs.Rule.{fresh_account, without_parts};
 ghost use Rattle.node_pool.specs.Deques.{pool_by};
 ghost use Rattle.node_pool.specs.Ways.{share};
 ghost use Rattle.node_pool.specs.Opening.{kept, AreFresh, AreNewWays, AreRows, AreSeats};
@@ -21,16 +21,16 @@ const FIRST_SLOTS: usize = 64;
 
 /// Fixes the ground of a new deque.
 fn found<T: Task, K: Grounded<T::Ground>>(owner: &mut Owner<T>, _ground: &T::Ground)
-    requires { worker_view owner.old ≡ fresh_hand 64 None }
+    requires { worker_view owner.old ≡ fresh_account 64 None }
     ensures same { worker_deque owner.new ≡ worker_deque owner.old }
-    ensures founded { worker_view owner.new ≡ fresh_hand 64 K.known_ground }
+    ensures founded { worker_view owner.new ≡ fresh_account 64 K.known_ground }
 {
     drop(owner.another::<Founds<K>>());
 }
 
 /// An empty deque for tasks of this ground.
 fn deque<T: Task>(alloc: Global, ground: &T::Ground) -> Result<Owner<T>, NoMemory>
-    ensures { IfOk result (λ owner. worker_view owner ≡ fresh_hand 64 (Some ground.now)) }
+    ensures { IfOk result (λ owner. worker_view owner ≡ fresh_account 64 (Some ground.now)) }
 {
     let mut owner = Owner::<T>::lifo_as(alloc, FIRST_SLOTS)?;
     found::<T, Brand>(&mut owner, ground);
@@ -59,7 +59,7 @@ fn right<T: Task>(owner: &mut Owner<T>, number: usize, k: usize) -> Right<T>
     ensures same { (worker_deque owner.new ≡ worker_deque owner.old)
         × IsPassOf (worker_deque owner.old) result }
     ensures left { worker_view owner.new ≡ without_parts (worker_view owner.old) (share number k) }
-    ensures right { view result ≡ fresh_hand (share number k) (worker_view owner.old).known_ground }
+    ensures right { view result ≡ fresh_account (share number k) (worker_view owner.old).known_ground }
 {
     if k == number {
         owner.another::<Spares>()
@@ -76,7 +76,7 @@ fn way<T: Task>(owner: &mut Owner<T>, number: usize, k: usize) -> Result<Way<T>,
         (worker_view owner.new ≡ without_parts (worker_view owner.old) (share number k)) }
     ensures there { IfOk result (λ way. stealer_deque way.thief ≡ worker_deque owner.old) }
     ensures right { IfOk result
-        (λ way. view way.right ≡ fresh_hand (share number k) (worker_view owner.old).known_ground) }
+        (λ way. view way.right ≡ fresh_account (share number k) (worker_view owner.old).known_ground) }
 {
     let thief = owner.stealer()?;
     let right = right::<T>(owner, number, k);
@@ -131,7 +131,7 @@ fn seat<T: Task>(owner: Owner<T>, ways: Vec<Way<T>>, number: u32) -> Seat<T>
     requires own { slice_get (pool_by ways.items) number ≡ Some (worker_deque owner) }
     requires few { length ways.items ≤ 64 }
     requires owner { worker_view owner
-        ≡ fresh_hand (65 - length ways.items) (worker_view owner).known_ground }
+        ≡ fresh_account (65 - length ways.items) (worker_view owner).known_ground }
     requires ways { AreNewWays (worker_view owner).known_ground number ways.items }
     ensures place { IsSeatAt (worker_view owner).known_ground (pool_by ways.items) number result }
     ensures fresh { IsFresh result }

@@ -55,13 +55,13 @@ unfolding pending_weight
 pending-set weight workers w x y at = flat_map_set (λ (worker : Load). pending_of worker.pending) weight workers w x y at
 
 held-set : (weight : List ℕ → ℕ) (workers : List Load) (w : ℕ) (x y : Load) → slice_get workers w ≡ Some x
-    → held_weight weight (set workers w y) + (sum_by weight x.hand + sum_by weight x.deque) ≡ held_weight weight workers + (sum_by weight y.hand + sum_by weight y.deque)
+    → held_weight weight (set workers w y) + (sum_by weight x.stack + sum_by weight x.deque) ≡ held_weight weight workers + (sum_by weight y.stack + sum_by weight y.deque)
 unfolding held_weight
 held-set weight workers w x y at = omega (
   arith,
-  flat_map_set (λ (worker : Load). worker.hand ++ worker.deque) weight workers w x y at,
-  sum_by-append weight x.hand x.deque,
-  sum_by-append weight y.hand y.deque,
+  flat_map_set (λ (worker : Load). worker.stack ++ worker.deque) weight workers w x y at,
+  sum_by-append weight x.stack x.deque,
+  sum_by-append weight y.stack y.deque,
 )
 
 one-weight : (weight : List ℕ → ℕ) (label : List ℕ) → sum_by weight (label ∷ []) ≡ weight label
@@ -115,7 +115,7 @@ same-pending : (weight : List ℕ → ℕ) (workers after : List Load) (w : ℕ)
 same-pending weight workers after w x y at is = rw is (pending-set weight workers w x y at)
 
 same-held : (weight : List ℕ → ℕ) (workers after : List Load) (w : ℕ) (x y : Load) → slice_get workers w ≡ Some x → after ≡ set workers w y
-    → held_weight weight after + (sum_by weight x.hand + sum_by weight x.deque) ≡ held_weight weight workers + (sum_by weight y.hand + sum_by weight y.deque)
+    → held_weight weight after + (sum_by weight x.stack + sum_by weight x.deque) ≡ held_weight weight workers + (sum_by weight y.stack + sum_by weight y.deque)
 same-held weight workers after w x y at is = rw is (held-set weight workers w x y at)
 
 same-posted : (weight : List ℕ → ℕ) (before after : List (List ℕ)) → after ≡ before → sum_by weight after ≡ sum_by weight before + 0
@@ -131,13 +131,13 @@ post-moves kids w before after s = record {
     arith,
     one-weight weight s.label,
     some-weight weight s.worker.pending s.label s.pending,
-    same-pending weight before.workers after.workers w s.worker (record { deque = s.worker.deque; hand = s.worker.hand; pending = None }) s.at s.workers,
+    same-pending weight before.workers after.workers w s.worker (record { deque = s.worker.deque; stack = s.worker.stack; pending = None }) s.at s.workers,
   );
   held = λ weight. omega (
     arith,
-    same-held weight before.workers after.workers w s.worker (record { deque = s.worker.deque; hand = s.worker.hand; pending = None }) s.at s.workers,
+    same-held weight before.workers after.workers w s.worker (record { deque = s.worker.deque; stack = s.worker.stack; pending = None }) s.at s.workers,
   );
-  lies = omega (arith, same-lying before.workers after.workers w s.worker (record { deque = s.worker.deque; hand = s.worker.hand; pending = None }) s.at s.workers);
+  lies = omega (arith, same-lying before.workers after.workers w s.worker (record { deque = s.worker.deque; stack = s.worker.stack; pending = None }) s.at s.workers);
 }
 
 grow-moves : (kids : List ℕ → List (List ℕ)) (w : ℕ) (before after : State) → Grows kids w before after → Moves kids (Grow w) before after
@@ -147,26 +147,26 @@ grow-moves kids w before after s = record {
   had = λ weight. omega (
     arith,
     one-weight weight s.label,
-    last-weight weight s.worker.hand s.rest s.label s.hand,
-    held-set weight before.workers w s.worker (record { deque = s.worker.deque; hand = s.rest; pending = s.worker.pending }) s.at,
+    last-weight weight s.worker.stack s.rest s.label s.stack,
+    held-set weight before.workers w s.worker (record { deque = s.worker.deque; stack = s.rest; pending = s.worker.pending }) s.at,
   );
   posted = λ weight. same-posted weight before.posted after.posted s.posted;
   pending = λ weight. omega (
     arith,
     one-weight weight s.label,
     none-weight weight s.worker.pending s.pending,
-    same-pending weight before.workers after.workers w s.worker (record { deque = s.worker.deque; hand = s.rest ++ kids s.label; pending = Some s.label }) s.at s.workers,
+    same-pending weight before.workers after.workers w s.worker (record { deque = s.worker.deque; stack = s.rest ++ kids s.label; pending = Some s.label }) s.at s.workers,
   );
   held = λ weight. omega (
     arith,
     one-weight weight s.label,
     one-weight (kids_weight kids weight) s.label,
-    last-weight weight s.worker.hand s.rest s.label s.hand,
+    last-weight weight s.worker.stack s.rest s.label s.stack,
     sum_by-append weight s.rest (kids s.label),
     kids-weight kids weight s.label,
-    same-held weight before.workers after.workers w s.worker (record { deque = s.worker.deque; hand = s.rest ++ kids s.label; pending = Some s.label }) s.at s.workers,
+    same-held weight before.workers after.workers w s.worker (record { deque = s.worker.deque; stack = s.rest ++ kids s.label; pending = Some s.label }) s.at s.workers,
   );
-  lies = omega (arith, same-lying before.workers after.workers w s.worker (record { deque = s.worker.deque; hand = s.rest ++ kids s.label; pending = Some s.label }) s.at s.workers);
+  lies = omega (arith, same-lying before.workers after.workers w s.worker (record { deque = s.worker.deque; stack = s.rest ++ kids s.label; pending = Some s.label }) s.at s.workers);
 }
 
 put-moves : (kids : List ℕ → List (List ℕ)) (w : ℕ) (before after : State) → Puts w before after → Moves kids (Put w) before after
@@ -178,15 +178,15 @@ put-moves kids w before after s = record {
   pending = λ weight. omega (
     arith,
     none-weight weight s.worker.pending s.pending,
-    same-pending weight before.workers after.workers w s.worker (record { deque = s.worker.deque ++ s.label ∷ []; hand = s.rest; pending = None }) s.at s.workers,
+    same-pending weight before.workers after.workers w s.worker (record { deque = s.worker.deque ++ s.label ∷ []; stack = s.rest; pending = None }) s.at s.workers,
   );
   held = λ weight. omega (
     arith,
-    first-weight weight s.worker.hand s.rest s.label s.hand,
+    first-weight weight s.worker.stack s.rest s.label s.stack,
     last-weight weight (s.worker.deque ++ s.label ∷ []) s.worker.deque s.label refl,
-    same-held weight before.workers after.workers w s.worker (record { deque = s.worker.deque ++ s.label ∷ []; hand = s.rest; pending = None }) s.at s.workers,
+    same-held weight before.workers after.workers w s.worker (record { deque = s.worker.deque ++ s.label ∷ []; stack = s.rest; pending = None }) s.at s.workers,
   );
-  lies = omega (arith, last-length (s.worker.deque ++ s.label ∷ []) s.worker.deque s.label refl, same-lying before.workers after.workers w s.worker (record { deque = s.worker.deque ++ s.label ∷ []; hand = s.rest; pending = None }) s.at s.workers);
+  lies = omega (arith, last-length (s.worker.deque ++ s.label ∷ []) s.worker.deque s.label refl, same-lying before.workers after.workers w s.worker (record { deque = s.worker.deque ++ s.label ∷ []; stack = s.rest; pending = None }) s.at s.workers);
 }
 
 take-moves : (kids : List ℕ → List (List ℕ)) (w : ℕ) (before after : State) → Takes w before after → Moves kids (Take w) before after
@@ -198,16 +198,16 @@ take-moves kids w before after s = record {
   pending = λ weight. omega (
     arith,
     none-weight weight s.worker.pending s.pending,
-    same-pending weight before.workers after.workers w s.worker (record { deque = s.rest; hand = s.label ∷ []; pending = None }) s.at s.workers,
+    same-pending weight before.workers after.workers w s.worker (record { deque = s.rest; stack = s.label ∷ []; pending = None }) s.at s.workers,
   );
   held = λ weight. omega (
     arith,
-    no-weight weight s.worker.hand s.hand,
+    no-weight weight s.worker.stack s.stack,
     one-weight weight s.label,
     last-weight weight s.worker.deque s.rest s.label s.deque,
-    same-held weight before.workers after.workers w s.worker (record { deque = s.rest; hand = s.label ∷ []; pending = None }) s.at s.workers,
+    same-held weight before.workers after.workers w s.worker (record { deque = s.rest; stack = s.label ∷ []; pending = None }) s.at s.workers,
   );
-  lies = omega (arith, last-length s.worker.deque s.rest s.label s.deque, same-lying before.workers after.workers w s.worker (record { deque = s.rest; hand = s.label ∷ []; pending = None }) s.at s.workers);
+  lies = omega (arith, last-length s.worker.deque s.rest s.label s.deque, same-lying before.workers after.workers w s.worker (record { deque = s.rest; stack = s.label ∷ []; pending = None }) s.at s.workers);
 }
 
 get-other : {X : Type 0} (xs : List X) (i j : ℕ) (y x : X) → i ≢ j → slice_get xs j ≡ Some x → slice_get (set xs i y) j ≡ Some x
@@ -219,10 +219,10 @@ get-other (z ∷ xs) (suc i) (suc j) y x other is = get-other xs i j y x (λ h. 
 
 steal-moves : (kids : List ℕ → List (List ℕ)) (w from : ℕ) (before after : State) → Steals w from before after → Moves kids (Steal w from) before after
 steal-moves kids w from before after s =
-    let robbed : Load = record { deque = s.rest; hand = s.victim.hand; pending = s.victim.pending } in
-    let thief : Load = record { deque = s.worker.deque; hand = s.label ∷ []; pending = None } in
-    let at : slice_get (set before.workers from (record { deque = s.rest; hand = s.victim.hand; pending = s.victim.pending })) w ≡ Some s.worker =
-    get-other before.workers from w (record { deque = s.rest; hand = s.victim.hand; pending = s.victim.pending }) s.worker s.other s.at in
+    let robbed : Load = record { deque = s.rest; stack = s.victim.stack; pending = s.victim.pending } in
+    let thief : Load = record { deque = s.worker.deque; stack = s.label ∷ []; pending = None } in
+    let at : slice_get (set before.workers from (record { deque = s.rest; stack = s.victim.stack; pending = s.victim.pending })) w ≡ Some s.worker =
+    get-other before.workers from w (record { deque = s.rest; stack = s.victim.stack; pending = s.victim.pending }) s.worker s.other s.at in
     record {
       posts = [];
       grows = [];
@@ -236,7 +236,7 @@ steal-moves kids w from before after s =
       );
       held = λ weight. omega (
         arith,
-        no-weight weight s.worker.hand s.hand,
+        no-weight weight s.worker.stack s.stack,
         one-weight weight s.label,
         first-weight weight s.victim.deque s.rest s.label s.deque,
         held-set weight before.workers from s.victim robbed s.at_victim,

@@ -77,33 +77,33 @@ sum-later after before all one counted part own p q r s = omega arith
 -- how many events a worker has
 
 module _ {N : Type 0} where
-  with-pending : (p : Option Pending) (hand : List N) (filled : ℕ) (pending : Pending) → p ≡ Some pending → events_with p hand filled ≡ 1
-  with-pending None hand filled pending is = absurd (cc)
-  with-pending (Some q) hand filled pending is = refl
+  with-pending : (p : Option Pending) (stack : List N) (filled : ℕ) (pending : Pending) → p ≡ Some pending → events_with p stack filled ≡ 1
+  with-pending None stack filled pending is = absurd (cc)
+  with-pending (Some q) stack filled pending is = refl
 
-  with-hand : (p : Option Pending) (hand : List N) (filled : ℕ) → p ≡ None → 0 < length hand → events_with p hand filled ≡ 2
-  with-hand (Some q) hand filled is some = absurd (cc)
-  with-hand None [] filled is some = absurd (omega arith)
-  with-hand None (x ∷ hand) filled is some = refl
+  with-stack : (p : Option Pending) (stack : List N) (filled : ℕ) → p ≡ None → 0 < length stack → events_with p stack filled ≡ 2
+  with-stack (Some q) stack filled is some = absurd (cc)
+  with-stack None [] filled is some = absurd (omega arith)
+  with-stack None (x ∷ stack) filled is some = refl
 
-  with-nothing : (p : Option Pending) (hand : List N) (filled : ℕ) → p ≡ None → length hand ≡ 0 → events_with p hand filled ≡ filled
-  with-nothing (Some q) hand filled is none = absurd (cc)
+  with-nothing : (p : Option Pending) (stack : List N) (filled : ℕ) → p ≡ None → length stack ≡ 0 → events_with p stack filled ≡ filled
+  with-nothing (Some q) stack filled is none = absurd (cc)
   with-nothing None [] filled is none = refl
-  with-nothing None (x ∷ hand) filled is none = absurd (omega arith)
+  with-nothing None (x ∷ stack) filled is none = absurd (omega arith)
 
   pub posting-count : (x : Worker N) (filled : ℕ) → IsPosting x → events_by filled x ≡ 1
-  posting-count x filled (pending, is) = with-pending x.pending x.hand.items filled pending is
+  posting-count x filled (pending, is) = with-pending x.pending x.stack.items filled pending is
 
   pub busy-count : (x : Worker N) (filled : ℕ) → IsBusy x → events_by filled x ≡ 2
-  busy-count x filled (none, some) = with-hand x.pending x.hand.items filled none some
+  busy-count x filled (none, some) = with-stack x.pending x.stack.items filled none some
 
   pub free-count : (x : Worker N) (filled : ℕ) → IsFree x → events_by filled x ≡ filled
-  free-count x filled (none, empty) = with-nothing x.pending x.hand.items filled none empty
+  free-count x filled (none, empty) = with-nothing x.pending x.stack.items filled none empty
 
-  hand-stage : (p : Option Pending) (hand : List N) → ((pending : Pending) × (p ≡ Some pending)) ⊎ (((p ≡ None) × (0 < length hand)) ⊎ ((p ≡ None) × (length hand ≡ 0)))
-  hand-stage (Some q) hand = inl (q, refl)
-  hand-stage None [] = inr (inr (refl, refl))
-  hand-stage None (x ∷ hand) = inr (inl (refl, omega arith))
+  stack-stage : (p : Option Pending) (stack : List N) → ((pending : Pending) × (p ≡ Some pending)) ⊎ (((p ≡ None) × (0 < length stack)) ⊎ ((p ≡ None) × (length stack ≡ 0)))
+  stack-stage (Some q) stack = inl (q, refl)
+  stack-stage None [] = inr (inr (refl, refl))
+  stack-stage None (x ∷ stack) = inr (inl (refl, omega arith))
 
 module _ {N : Type 0} (label : N → List ℕ) (workers : List (Worker N)) where
   abbrev Loads : List Load
@@ -231,35 +231,35 @@ module _ {N : Type 0} (label : N → List ℕ) (workers : List (Worker N)) where
   -- the events of one worker
 
   at-worker : (w : ℕ) (x : Worker N) → slice_get workers w ≡ Some x
-      → events_at w ≡ own_events w (load label x).pending (load label x).hand (load label x).deque (steals (map (load label) workers) w)
+      → events_at w ≡ own_events w (load label x).pending (load label x).stack (load label x).deque (steals (map (load label) workers) w)
   at-worker w x at = ap (events_of (map (load label) workers) w) (load-at label workers w x at)
 
-  posting : (w : ℕ) (p : Option Pending) (hand deque : List (List ℕ)) (others : List Event) (pending : Pending) → p ≡ Some pending
-      → own_events w (option_map (λ (q : Pending). q.label) p) hand deque others ≡ Post w ∷ []
-  posting w None hand deque others pending is = absurd (cc)
-  posting w (Some q) hand deque others pending is = refl
+  posting : (w : ℕ) (p : Option Pending) (stack deque : List (List ℕ)) (others : List Event) (pending : Pending) → p ≡ Some pending
+      → own_events w (option_map (λ (q : Pending). q.label) p) stack deque others ≡ Post w ∷ []
+  posting w None stack deque others pending is = absurd (cc)
+  posting w (Some q) stack deque others pending is = refl
 
-  busy : (w : ℕ) (p : Option Pending) (hand : List N) (deque : List (List ℕ)) (others : List Event) → p ≡ None → 0 < length hand
-      → own_events w (option_map (λ (q : Pending). q.label) p) (map label hand) deque others ≡ Grow w ∷ Put w ∷ []
-  busy w (Some q) hand deque others is some = absurd (cc)
+  busy : (w : ℕ) (p : Option Pending) (stack : List N) (deque : List (List ℕ)) (others : List Event) → p ≡ None → 0 < length stack
+      → own_events w (option_map (λ (q : Pending). q.label) p) (map label stack) deque others ≡ Grow w ∷ Put w ∷ []
+  busy w (Some q) stack deque others is some = absurd (cc)
   busy w None [] deque others is some = absurd (omega arith)
-  busy w None (x ∷ hand) deque others is some = refl
+  busy w None (x ∷ stack) deque others is some = refl
 
-  free : (w : ℕ) (p : Option Pending) (hand : List N) (deque : List (List ℕ)) (others : List Event) → p ≡ None → length hand ≡ 0
-      → own_events w (option_map (λ (q : Pending). q.label) p) (map label hand) deque others ≡ where_any deque (Take w) ++ others
-  free w (Some q) hand deque others is none = absurd (cc)
+  free : (w : ℕ) (p : Option Pending) (stack : List N) (deque : List (List ℕ)) (others : List Event) → p ≡ None → length stack ≡ 0
+      → own_events w (option_map (λ (q : Pending). q.label) p) (map label stack) deque others ≡ where_any deque (Take w) ++ others
+  free w (Some q) stack deque others is none = absurd (cc)
   free w None [] deque others is none = refl
-  free w None (x ∷ hand) deque others is none = absurd (omega arith)
+  free w None (x ∷ stack) deque others is none = absurd (omega arith)
 
   pub at-posting : (w : ℕ) (x : Worker N) → slice_get workers w ≡ Some x → IsPosting x → events_at w ≡ Post w ∷ []
-  at-posting w x at (pending, is) = at-worker w x at ∙ posting w x.pending (map label x.hand.items) (map label x.deque.items) (steals (map (load label) workers) w) pending is
+  at-posting w x at (pending, is) = at-worker w x at ∙ posting w x.pending (map label x.stack.items) (map label x.deque.items) (steals (map (load label) workers) w) pending is
 
   pub at-busy : (w : ℕ) (x : Worker N) → slice_get workers w ≡ Some x → IsBusy x → events_at w ≡ Grow w ∷ Put w ∷ []
-  at-busy w x at (none, some) = at-worker w x at ∙ busy w x.pending x.hand.items (map label x.deque.items) (steals (map (load label) workers) w) none some
+  at-busy w x at (none, some) = at-worker w x at ∙ busy w x.pending x.stack.items (map label x.deque.items) (steals (map (load label) workers) w) none some
 
   pub at-free : (w : ℕ) (x : Worker N) → slice_get workers w ≡ Some x → IsFree x
       → events_at w ≡ where_any (map label x.deque.items) (Take w) ++ steals (map (load label) workers) w
-  at-free w x at (none, empty) = at-worker w x at ∙ free w x.pending x.hand.items (map label x.deque.items) (steals (map (load label) workers) w) none empty
+  at-free w x at (none, empty) = at-worker w x at ∙ free w x.pending x.stack.items (map label x.deque.items) (steals (map (load label) workers) w) none empty
 
   -- what each event of a worker is by its number
 
@@ -281,7 +281,7 @@ module _ {N : Type 0} (label : N → List ℕ) (workers : List (Worker N)) where
       ap (slice_get (events_at w)) next ∙ ap (λ (l : List Event). slice_get l (suc before)) (full-events w x at is some) ∙ found
 
   pub events-length : (w : ℕ) (x : Worker N) (filled : ℕ) → slice_get workers w ≡ Some x → filled ≡ count_by is_filled workers → length (events_at w) ≡ events_by filled x
-  events-length w x filled at is = elim (hand-stage x.pending x.hand.items) [
+  events-length w x filled at is = elim (stack-stage x.pending x.stack.items) [
     | inl posts ↦ ap length (at-posting w x at posts) ∙ sym (posting-count x filled posts)
     | inr other ↦ elim other [
       | inl works ↦ ap length (at-busy w x at works) ∙ sym (busy-count x filled works)

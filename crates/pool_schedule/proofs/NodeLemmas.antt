@@ -14,14 +14,14 @@ use Rattle.pool_schedule.specs.declared.worker.Pending.{Pending}
 use Rattle.pool_schedule.specs.declared.worker.Worker.{Worker}
 
 made : List (List ℕ) → List (List ℕ) → Option (List ℕ) → Load
-made d h p = record { deque = d; hand = h; pending = p }
+made d h p = record { deque = d; stack = h; pending = p }
 
-pub same-load : (x y : Load) → x.deque ≡ y.deque → x.hand ≡ y.hand → x.pending ≡ y.pending → x ≡ y
+pub same-load : (x y : Load) → x.deque ≡ y.deque → x.stack ≡ y.stack → x.pending ≡ y.pending → x ≡ y
 unfolding made
 same-load x y d h p =
-    let one : made x.deque x.hand x.pending ≡ made y.deque x.hand x.pending = ap (λ l. made l x.hand x.pending) d in
-    let two : made y.deque x.hand x.pending ≡ made y.deque y.hand x.pending = ap (λ l. made y.deque l x.pending) h in
-    let three : made y.deque y.hand x.pending ≡ made y.deque y.hand y.pending = ap (λ l. made y.deque y.hand l) p in
+    let one : made x.deque x.stack x.pending ≡ made y.deque x.stack x.pending = ap (λ l. made l x.stack x.pending) d in
+    let two : made y.deque x.stack x.pending ≡ made y.deque y.stack x.pending = ap (λ l. made y.deque l x.pending) h in
+    let three : made y.deque y.stack x.pending ≡ made y.deque y.stack y.pending = ap (λ l. made y.deque y.stack l) p in
     one ∙ two ∙ three
 
 module _ {N : Type 0} (label : N → List ℕ) where
@@ -65,13 +65,13 @@ module _ {N : Type 0} (label : N → List ℕ) where
       → Puts w (seen label before) (with_worker before w y)
   puts-seen w x y before at busy p = record {
     worker = load label x;
-    rest = map label y.hand.items;
+    rest = map label y.stack.items;
     label = label p.node;
     at = load-at before.workers.items w x at;
     pending = none-pending x.pending busy.0;
-    hand = ap (map label) p.hand;
+    stack = ap (map label) p.stack;
     workers = loaded before.workers.items (set before.workers.items w y) w y
-        (record { deque = map label x.deque.items ++ label p.node ∷ []; hand = map label y.hand.items; pending = None }) refl
+        (record { deque = map label x.deque.items ++ label p.node ∷ []; stack = map label y.stack.items; pending = None }) refl
         (same-load _ _ (last-label y.deque.items x.deque.items p.node p.deque) refl (none-pending y.pending (p.pending ∙ busy.0)));
     posted = refl;
   }
@@ -84,11 +84,11 @@ module _ {N : Type 0} (label : N → List ℕ) where
     label = label p.node;
     at = load-at before.workers.items w x at;
     pending = none-pending x.pending free.0;
-    hand = no-labels x.hand.items free.1;
+    stack = no-labels x.stack.items free.1;
     deque = last-label x.deque.items y.deque.items p.node p.deque;
     workers = loaded before.workers.items (set before.workers.items w y) w y
-        (record { deque = map label y.deque.items; hand = label p.node ∷ []; pending = None }) refl
-        (same-load _ _ refl (only-label x.hand.items y.hand.items p.node free.1 p.hand) (none-pending y.pending (p.pending ∙ free.0)));
+        (record { deque = map label y.deque.items; stack = label p.node ∷ []; pending = None }) refl
+        (same-load _ _ refl (only-label x.stack.items y.stack.items p.node free.1 p.stack) (none-pending y.pending (p.pending ∙ free.0)));
     posted = refl;
   }
 
@@ -105,15 +105,15 @@ module _ {N : Type 0} (label : N → List ℕ) where
         at = load-at before.workers.items w s.worker s.at;
         at_victim = load-at before.workers.items from s.victim s.at_victim;
         pending = none-pending s.worker.pending f.0;
-        hand = no-labels s.worker.hand.items f.1;
+        stack = no-labels s.worker.stack.items f.1;
         deque = ap (map label) s.lost;
         workers =
             loaded (set before.workers.items from s.robbed) after.workers.items w s.thief
-            (record { deque = map label s.worker.deque.items; hand = label s.node ∷ []; pending = None }) s.workers
-            (same-load _ _ (ap (map label) s.same.0) (only-label s.worker.hand.items s.thief.hand.items s.node f.1 s.got) (none-pending s.thief.pending (s.same.1 ∙ f.0)))
-            ∙ ap (λ (l : List Load). set l w (record { deque = map label s.worker.deque.items; hand = label s.node ∷ []; pending = None }))
+            (record { deque = map label s.worker.deque.items; stack = label s.node ∷ []; pending = None }) s.workers
+            (same-load _ _ (ap (map label) s.same.0) (only-label s.worker.stack.items s.thief.stack.items s.node f.1 s.got) (none-pending s.thief.pending (s.same.1 ∙ f.0)))
+            ∙ ap (λ (l : List Load). set l w (record { deque = map label s.worker.deque.items; stack = label s.node ∷ []; pending = None }))
             (loaded before.workers.items (set before.workers.items from s.robbed) from s.robbed
-            (record { deque = map label s.robbed.deque.items; hand = map label s.victim.hand.items; pending = option_map (λ (pending : Pending). pending.label) s.victim.pending }) refl
+            (record { deque = map label s.robbed.deque.items; stack = map label s.victim.stack.items; pending = option_map (λ (pending : Pending). pending.label) s.victim.pending }) refl
             (same-load _ _ refl (ap (map label) s.kept.0) (ap (option_map (λ (pending : Pending). pending.label)) s.kept.1)));
         posted = ap (λ posted. posted.labels) s.posted;
       }
@@ -126,11 +126,11 @@ module _ {N : Type 0} (label : N → List ℕ) where
     label = label p.node;
     at = load-at before.workers.items w x at;
     pending = none-pending x.pending busy.0;
-    hand = last-label x.hand.items p.rest p.node p.hand;
+    stack = last-label x.stack.items p.rest p.node p.stack;
     workers = loaded before.workers.items (set before.workers.items w y) w y
-        (record { deque = map label x.deque.items; hand = map label p.rest ++ kids (label p.node); pending = Some (label p.node) }) refl
+        (record { deque = map label x.deque.items; stack = map label p.rest ++ kids (label p.node); pending = Some (label p.node) }) refl
         (same-load _ _ (ap (map label) p.deque)
-        (ap (map label) p.hand_after ∙ map-append label p.rest p.new ∙ ap (λ l. map label p.rest ++ l) p.labels)
+        (ap (map label) p.stack_after ∙ map-append label p.rest p.new ∙ ap (λ l. map label p.rest ++ l) p.labels)
         (ap (option_map (λ (pending : Pending). pending.label)) p.pending));
     posted = refl;
   }
@@ -170,15 +170,15 @@ module _ {N : Type 0} (label : N → List ℕ) where
       (x, at, some-pending x.pending s.label (ap (λ (l : Load). l.pending) is ∙ s.pending))
   enabled-may kids (Grow w) machine (after, s) =
       let (x, at, is) = unload-at machine.workers.items w s.worker s.at in
-      (x, at, (no-pending x.pending (ap (λ (l : Load). l.pending) is ∙ s.pending), last-nodes x.hand.items s.label s.rest (ap (λ (l : Load). l.hand) is ∙ s.hand)))
+      (x, at, (no-pending x.pending (ap (λ (l : Load). l.pending) is ∙ s.pending), last-nodes x.stack.items s.label s.rest (ap (λ (l : Load). l.stack) is ∙ s.stack)))
   enabled-may kids (Put w) machine (after, s) =
       let (x, at, is) = unload-at machine.workers.items w s.worker s.at in
-      (x, at, (no-pending x.pending (ap (λ (l : Load). l.pending) is ∙ s.pending), some-nodes x.hand.items s.label s.rest (ap (λ (l : Load). l.hand) is ∙ s.hand)))
+      (x, at, (no-pending x.pending (ap (λ (l : Load). l.pending) is ∙ s.pending), some-nodes x.stack.items s.label s.rest (ap (λ (l : Load). l.stack) is ∙ s.stack)))
   enabled-may kids (Take w) machine (after, s) =
       let (x, at, is) = unload-at machine.workers.items w s.worker s.at in (
         x,
         at,
-        (no-pending x.pending (ap (λ (l : Load). l.pending) is ∙ s.pending), no-nodes x.hand.items (ap (λ (l : Load). l.hand) is ∙ s.hand)),
+        (no-pending x.pending (ap (λ (l : Load). l.pending) is ∙ s.pending), no-nodes x.stack.items (ap (λ (l : Load). l.stack) is ∙ s.stack)),
         last-nodes x.deque.items s.label s.rest (ap (λ (l : Load). l.deque) is ∙ s.deque),
       )
   enabled-may kids (Steal w from) machine (after, s) =
@@ -189,6 +189,6 @@ module _ {N : Type 0} (label : N → List ℕ) where
         at,
         at_victim,
         s.other,
-        (no-pending x.pending (ap (λ (l : Load). l.pending) is ∙ s.pending), no-nodes x.hand.items (ap (λ (l : Load). l.hand) is ∙ s.hand)),
+        (no-pending x.pending (ap (λ (l : Load). l.pending) is ∙ s.pending), no-nodes x.stack.items (ap (λ (l : Load). l.stack) is ∙ s.stack)),
         some-nodes v.deque.items s.label s.rest (ap (λ (l : Load). l.deque) is_victim ∙ s.deque),
       )

@@ -23,26 +23,26 @@ step_settled kids (Post w) before a b s t =
     let worker : s.worker ≡ t.worker = same-some s.worker t.worker (slice_get before.workers w) s.at t.at in
     let label : s.label ≡ t.label = same-some s.label t.label s.worker.pending s.pending (ap (λ (x : Load). x.pending) worker ∙ t.pending) in
     machine-same a b
-    (s.workers ∙ ap (λ (x : Load). set before.workers w (record { deque = x.deque; hand = x.hand; pending = None })) worker ∙ sym t.workers)
+    (s.workers ∙ ap (λ (x : Load). set before.workers w (record { deque = x.deque; stack = x.stack; pending = None })) worker ∙ sym t.workers)
     (s.posted ∙ ap (λ x. before.posted ++ x ∷ []) label ∙ sym t.posted)
 step_settled kids (Grow w) before a b s t =
     let worker : s.worker ≡ t.worker = same-some s.worker t.worker (slice_get before.workers w) s.at t.at in
-    let ends : (s.rest ≡ t.rest) × (s.label ≡ t.label) = same_from_push s.rest t.rest s.label t.label (sym s.hand ∙ ap (λ (x : Load). x.hand) worker ∙ t.hand) in
+    let ends : (s.rest ≡ t.rest) × (s.label ≡ t.label) = same_from_push s.rest t.rest s.label t.label (sym s.stack ∙ ap (λ (x : Load). x.stack) worker ∙ t.stack) in
     machine-same a b
     (s.workers
-    ∙ ap (λ (x : Load). set before.workers w (record { deque = x.deque; hand = s.rest ++ kids s.label; pending = Some s.label })) worker
-    ∙ ap (λ x. set before.workers w (record { deque = t.worker.deque; hand = x ++ kids s.label; pending = Some s.label })) ends.0
-    ∙ ap (λ x. set before.workers w (record { deque = t.worker.deque; hand = t.rest ++ kids x; pending = Some x })) ends.1
+    ∙ ap (λ (x : Load). set before.workers w (record { deque = x.deque; stack = s.rest ++ kids s.label; pending = Some s.label })) worker
+    ∙ ap (λ x. set before.workers w (record { deque = t.worker.deque; stack = x ++ kids s.label; pending = Some s.label })) ends.0
+    ∙ ap (λ x. set before.workers w (record { deque = t.worker.deque; stack = t.rest ++ kids x; pending = Some x })) ends.1
     ∙ sym t.workers)
     (s.posted ∙ sym t.posted)
 step_settled kids (Put w) before a b s t =
     let worker : s.worker ≡ t.worker = same-some s.worker t.worker (slice_get before.workers w) s.at t.at in
-    let ends : (s.rest ≡ t.rest) × (s.label ≡ t.label) = same-cons s.rest t.rest s.label t.label (sym s.hand ∙ ap (λ (x : Load). x.hand) worker ∙ t.hand) in
+    let ends : (s.rest ≡ t.rest) × (s.label ≡ t.label) = same-cons s.rest t.rest s.label t.label (sym s.stack ∙ ap (λ (x : Load). x.stack) worker ∙ t.stack) in
     machine-same a b
     (s.workers
-    ∙ ap (λ (x : Load). set before.workers w (record { deque = x.deque ++ s.label ∷ []; hand = s.rest; pending = None })) worker
-    ∙ ap (λ x. set before.workers w (record { deque = t.worker.deque ++ s.label ∷ []; hand = x; pending = None })) ends.0
-    ∙ ap (λ x. set before.workers w (record { deque = t.worker.deque ++ x ∷ []; hand = t.rest; pending = None })) ends.1
+    ∙ ap (λ (x : Load). set before.workers w (record { deque = x.deque ++ s.label ∷ []; stack = s.rest; pending = None })) worker
+    ∙ ap (λ x. set before.workers w (record { deque = t.worker.deque ++ s.label ∷ []; stack = x; pending = None })) ends.0
+    ∙ ap (λ x. set before.workers w (record { deque = t.worker.deque ++ x ∷ []; stack = t.rest; pending = None })) ends.1
     ∙ sym t.workers)
     (s.posted ∙ sym t.posted)
 step_settled kids (Take w) before a b s t =
@@ -50,8 +50,8 @@ step_settled kids (Take w) before a b s t =
     let ends : (s.rest ≡ t.rest) × (s.label ≡ t.label) = same_from_push s.rest t.rest s.label t.label (sym s.deque ∙ ap (λ (x : Load). x.deque) worker ∙ t.deque) in
     machine-same a b
     (s.workers
-    ∙ ap (λ x. set before.workers w (record { deque = x; hand = s.label ∷ []; pending = None })) ends.0
-    ∙ ap (λ x. set before.workers w (record { deque = t.rest; hand = x ∷ []; pending = None })) ends.1
+    ∙ ap (λ x. set before.workers w (record { deque = x; stack = s.label ∷ []; pending = None })) ends.0
+    ∙ ap (λ x. set before.workers w (record { deque = t.rest; stack = x ∷ []; pending = None })) ends.1
     ∙ sym t.workers)
     (s.posted ∙ sym t.posted)
 step_settled kids (Steal w from) before a b s t =
@@ -60,10 +60,10 @@ step_settled kids (Steal w from) before a b s t =
     let ends : (s.rest ≡ t.rest) × (s.label ≡ t.label) = same-cons s.rest t.rest s.label t.label (sym s.deque ∙ ap (λ (x : Load). x.deque) victim ∙ t.deque) in
     machine-same a b
     (s.workers
-    ∙ ap (λ (x : Load). set (set before.workers from (record { deque = s.rest; hand = x.hand; pending = x.pending })) w (record { deque = s.worker.deque; hand = s.label ∷ []; pending = None })) victim
-    ∙ ap (λ (x : Load). set (set before.workers from (record { deque = s.rest; hand = t.victim.hand; pending = t.victim.pending })) w (record { deque = x.deque; hand = s.label ∷ []; pending = None })) worker
-    ∙ ap (λ x. set (set before.workers from (record { deque = x; hand = t.victim.hand; pending = t.victim.pending })) w (record { deque = t.worker.deque; hand = s.label ∷ []; pending = None })) ends.0
-    ∙ ap (λ x. set (set before.workers from (record { deque = t.rest; hand = t.victim.hand; pending = t.victim.pending })) w (record { deque = t.worker.deque; hand = x ∷ []; pending = None })) ends.1
+    ∙ ap (λ (x : Load). set (set before.workers from (record { deque = s.rest; stack = x.stack; pending = x.pending })) w (record { deque = s.worker.deque; stack = s.label ∷ []; pending = None })) victim
+    ∙ ap (λ (x : Load). set (set before.workers from (record { deque = s.rest; stack = t.victim.stack; pending = t.victim.pending })) w (record { deque = x.deque; stack = s.label ∷ []; pending = None })) worker
+    ∙ ap (λ x. set (set before.workers from (record { deque = x; stack = t.victim.stack; pending = t.victim.pending })) w (record { deque = t.worker.deque; stack = s.label ∷ []; pending = None })) ends.0
+    ∙ ap (λ x. set (set before.workers from (record { deque = t.rest; stack = t.victim.stack; pending = t.victim.pending })) w (record { deque = t.worker.deque; stack = x ∷ []; pending = None })) ends.1
     ∙ sym t.workers)
     (s.posted ∙ sym t.posted)
 

@@ -29,9 +29,9 @@ first P xs rest x is all = let whole : All P (x ∷ rest) = subst (All P) is all
 module _ {N : Type 0} (IsOwn : N → Type 0) where
   -- all nodes of the worker are own ones
   abbrev pub Owns : Worker N → Type 0
-  Owns worker = All IsOwn worker.deque.items × All IsOwn worker.hand.items
+  Owns worker = All IsOwn worker.deque.items × All IsOwn worker.stack.items
 
-  pub owns-at : (workers : List (Worker N)) (w : ℕ) (x : Worker N) → slice_get workers w ≡ Some x → AllOwn IsOwn workers → All IsOwn x.deque.items × All IsOwn x.hand.items
+  pub owns-at : (workers : List (Worker N)) (w : ℕ) (x : Worker N) → slice_get workers w ≡ Some x → AllOwn IsOwn workers → All IsOwn x.deque.items × All IsOwn x.stack.items
   owns-at workers w x at all = all-at Owns workers w x at all
 
   changes-own : (workers after : List (Worker N)) (w : ℕ) (y : Worker N) → after ≡ set workers w y → Owns y → AllOwn IsOwn workers → AllOwn IsOwn after
@@ -44,21 +44,21 @@ module _ {N : Type 0} (IsOwn : N → Type 0) where
   pub puts-own : (workers : List (Worker N)) (w : ℕ) (x y : Worker N) → slice_get workers w ≡ Some x → PutsNode x y → AllOwn IsOwn workers → AllOwn IsOwn (set workers w y)
   puts-own workers w x y at p own =
       let old : Owns x = owns-at workers w x at own in
-      let split : IsOwn p.node × All IsOwn y.hand.items = first IsOwn x.hand.items y.hand.items p.node p.hand old.1 in
+      let split : IsOwn p.node × All IsOwn y.stack.items = first IsOwn x.stack.items y.stack.items p.node p.stack old.1 in
       All-set Owns workers w y (All-same IsOwn y.deque.items (x.deque.items ++ p.node ∷ []) p.deque (All-push IsOwn x.deque.items p.node old.0 split.0), split.1) own
 
   pub takes-own : (workers : List (Worker N)) (w : ℕ) (x y : Worker N) → slice_get workers w ≡ Some x → TakesNode x y → AllOwn IsOwn workers → AllOwn IsOwn (set workers w y)
   takes-own workers w x y at p own =
       let old : Owns x = owns-at workers w x at own in
       let split : All IsOwn y.deque.items × IsOwn p.node = front IsOwn x.deque.items y.deque.items p.node p.deque old.0 in
-      All-set Owns workers w y (split.0, All-same IsOwn y.hand.items (x.hand.items ++ p.node ∷ []) p.hand (All-push IsOwn x.hand.items p.node old.1 split.1)) own
+      All-set Owns workers w y (split.0, All-same IsOwn y.stack.items (x.stack.items ++ p.node ∷ []) p.stack (All-push IsOwn x.stack.items p.node old.1 split.1)) own
 
   pub grows-own : (label : N → List ℕ) (kids : List ℕ → List (List ℕ)) (row : List ℕ → Option Row) (workers : List (Worker N)) (w : ℕ) (x y : Worker N) → slice_get workers w ≡ Some x
       → GrowsNode label kids row IsOwn x y → AllOwn IsOwn workers → AllOwn IsOwn (set workers w y)
   grows-own label kids row workers w x y at p own =
       let old : Owns x = owns-at workers w x at own in
-      let split : All IsOwn p.rest × IsOwn p.node = front IsOwn x.hand.items p.rest p.node p.hand old.1 in
-      All-set Owns workers w y (All-same IsOwn y.deque.items x.deque.items p.deque old.0, All-same IsOwn y.hand.items (p.rest ++ p.new) p.hand_after (All-append IsOwn p.rest p.new split.0 p.own)) own
+      let split : All IsOwn p.rest × IsOwn p.node = front IsOwn x.stack.items p.rest p.node p.stack old.1 in
+      All-set Owns workers w y (All-same IsOwn y.deque.items x.deque.items p.deque old.0, All-same IsOwn y.stack.items (p.rest ++ p.new) p.stack_after (All-append IsOwn p.rest p.new split.0 p.own)) own
 
   pub steals-own : (w from : ℕ) (before after : Machine N) → StealsNode w from before after → IsOwned IsOwn before → IsOwned IsOwn after
   steals-own w from before after s own =
@@ -66,10 +66,10 @@ module _ {N : Type 0} (IsOwn : N → Type 0) where
       let worker : Owns s.worker = owns-at before.workers.items w s.worker s.at own in
       let split : IsOwn s.node × All IsOwn s.robbed.deque.items = first IsOwn s.victim.deque.items s.robbed.deque.items s.node s.lost victim.0 in
       let robbed : AllOwn IsOwn (set before.workers.items from s.robbed) =
-      All-set Owns before.workers.items from s.robbed (split.1, All-same IsOwn s.robbed.hand.items s.victim.hand.items s.kept.0 victim.1) own in
+      All-set Owns before.workers.items from s.robbed (split.1, All-same IsOwn s.robbed.stack.items s.victim.stack.items s.kept.0 victim.1) own in
       changes-own (set before.workers.items from s.robbed) after.workers.items w s.thief s.workers (
         All-same IsOwn s.thief.deque.items s.worker.deque.items s.same.0 worker.0,
-        All-same IsOwn s.thief.hand.items (s.worker.hand.items ++ s.node ∷ []) s.got (All-push IsOwn s.worker.hand.items s.node worker.1 split.0),
+        All-same IsOwn s.thief.stack.items (s.worker.stack.items ++ s.node ∷ []) s.got (All-push IsOwn s.worker.stack.items s.node worker.1 split.0),
       ) robbed
 
 abbrev FitsRow : (List ℕ → Option Row) → Option Pending → Type 0

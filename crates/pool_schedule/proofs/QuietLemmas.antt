@@ -31,30 +31,30 @@ not-last (y ∷ rest) x e = cc
 
 -- an event of the worker is enabled, or it has nothing
 worker-rests : (kids : List ℕ → List (List ℕ)) (machine : State) → IsQuiet kids machine → (w : ℕ) (worker : Load) → slice_get machine.workers w ≡ Some worker
-    → (pending : Option (List ℕ)) (hand deque : List (List ℕ)) → worker.pending ≡ pending → worker.hand ≡ hand → worker.deque ≡ deque
-    → (pending_of pending ≡ []) × (hand ++ deque ≡ [])
-worker-rests kids machine quiet w worker at (Some label) hand deque p h d =
-    let after : State = record { workers = set machine.workers w (record { deque = worker.deque; hand = worker.hand; pending = None }); posted = machine.posted ++ label ∷ [] } in
+    → (pending : Option (List ℕ)) (stack deque : List (List ℕ)) → worker.pending ≡ pending → worker.stack ≡ stack → worker.deque ≡ deque
+    → (pending_of pending ≡ []) × (stack ++ deque ≡ [])
+worker-rests kids machine quiet w worker at (Some label) stack deque p h d =
+    let after : State = record { workers = set machine.workers w (record { deque = worker.deque; stack = worker.stack; pending = None }); posted = machine.posted ++ label ∷ [] } in
     absurd (quiet (Post w) (after, record { worker = worker; label = label; at = at; pending = p; workers = refl; posted = refl }))
 worker-rests kids machine quiet w worker at None (label ∷ rest) deque p h d =
-    let after : State = record { workers = set machine.workers w (record { deque = worker.deque ++ label ∷ []; hand = rest; pending = None }); posted = machine.posted } in
-    absurd (quiet (Put w) (after, record { worker = worker; rest = rest; label = label; at = at; pending = p; hand = h; workers = refl; posted = refl }))
+    let after : State = record { workers = set machine.workers w (record { deque = worker.deque ++ label ∷ []; stack = rest; pending = None }); posted = machine.posted } in
+    absurd (quiet (Put w) (after, record { worker = worker; rest = rest; label = label; at = at; pending = p; stack = h; workers = refl; posted = refl }))
 worker-rests kids machine quiet w worker at None [] (label ∷ others) p h d =
     let (rest, last, e) = has_last label others in
-    let after : State = record { workers = set machine.workers w (record { deque = rest; hand = last ∷ []; pending = None }); posted = machine.posted } in
-    absurd (quiet (Take w) (after, record { worker = worker; rest = rest; label = last; at = at; pending = p; hand = h; deque = d ∙ e; workers = refl; posted = refl }))
+    let after : State = record { workers = set machine.workers w (record { deque = rest; stack = last ∷ []; pending = None }); posted = machine.posted } in
+    absurd (quiet (Take w) (after, record { worker = worker; rest = rest; label = last; at = at; pending = p; stack = h; deque = d ∙ e; workers = refl; posted = refl }))
 worker-rests kids machine quiet w worker at None [] [] p h d = (refl, refl)
 
 pub idle_from_quiet : (kids : List ℕ → List (List ℕ)) (machine : State) → IsQuiet kids machine → IsIdle machine
 idle_from_quiet kids machine quiet = (
-  flat_map-none (λ (worker : Load). pending_of worker.pending) machine.workers (λ w worker at. (worker-rests kids machine quiet w worker at worker.pending worker.hand worker.deque refl refl refl).0),
-  flat_map-none (λ (worker : Load). worker.hand ++ worker.deque) machine.workers (λ w worker at. (worker-rests kids machine quiet w worker at worker.pending worker.hand worker.deque refl refl refl).1),
+  flat_map-none (λ (worker : Load). pending_of worker.pending) machine.workers (λ w worker at. (worker-rests kids machine quiet w worker at worker.pending worker.stack worker.deque refl refl refl).0),
+  flat_map-none (λ (worker : Load). worker.stack ++ worker.deque) machine.workers (λ w worker at. (worker-rests kids machine quiet w worker at worker.pending worker.stack worker.deque refl refl refl).1),
 )
 
-idle-worker : (machine : State) → IsIdle machine → (w : ℕ) (worker : Load) → slice_get machine.workers w ≡ Some worker → (pending_of worker.pending ≡ []) × (worker.hand ≡ []) × (worker.deque ≡ [])
+idle-worker : (machine : State) → IsIdle machine → (w : ℕ) (worker : Load) → slice_get machine.workers w ≡ Some worker → (pending_of worker.pending ≡ []) × (worker.stack ≡ []) × (worker.deque ≡ [])
 idle-worker machine still w worker at =
-    let held : worker.hand ++ worker.deque ≡ [] = flat_map-piece (λ (worker : Load). worker.hand ++ worker.deque) machine.workers w worker still.1 at in
-    (flat_map-piece (λ (worker : Load). pending_of worker.pending) machine.workers w worker still.0 at, (both-empty worker.hand worker.deque held).0, (both-empty worker.hand worker.deque held).1)
+    let held : worker.stack ++ worker.deque ≡ [] = flat_map-piece (λ (worker : Load). worker.stack ++ worker.deque) machine.workers w worker still.1 at in
+    (flat_map-piece (λ (worker : Load). pending_of worker.pending) machine.workers w worker still.0 at, (both-empty worker.stack worker.deque held).0, (both-empty worker.stack worker.deque held).1)
 
 pub quiet_from_idle : (kids : List ℕ → List (List ℕ)) (machine : State) → IsIdle machine → IsQuiet kids machine
 quiet_from_idle kids machine still (Post w) (after, s) =
@@ -62,9 +62,9 @@ quiet_from_idle kids machine still (Post w) (after, s) =
     let some : pending_of s.worker.pending ≡ s.label ∷ [] = ap pending_of s.pending in
     cc
 quiet_from_idle kids machine still (Grow w) (after, s) =
-    let none : s.worker.hand ≡ [] = (idle-worker machine still w s.worker s.at).1 in not-last s.rest s.label (sym s.hand ∙ none)
+    let none : s.worker.stack ≡ [] = (idle-worker machine still w s.worker s.at).1 in not-last s.rest s.label (sym s.stack ∙ none)
 quiet_from_idle kids machine still (Put w) (after, s) =
-    let none : s.worker.hand ≡ [] = (idle-worker machine still w s.worker s.at).1 in let some : s.worker.hand ≡ s.label ∷ s.rest = s.hand in cc
+    let none : s.worker.stack ≡ [] = (idle-worker machine still w s.worker s.at).1 in let some : s.worker.stack ≡ s.label ∷ s.rest = s.stack in cc
 quiet_from_idle kids machine still (Take w) (after, s) =
     let none : s.worker.deque ≡ [] = (idle-worker machine still w s.worker s.at).2 in not-last s.rest s.label (sym s.deque ∙ none)
 quiet_from_idle kids machine still (Steal w from) (after, s) =

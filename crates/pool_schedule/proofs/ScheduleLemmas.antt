@@ -71,21 +71,21 @@ unfolding Next
 next-of kids machine event other after same s = (after, subst (λ e. Step kids e machine after) (sym same) s)
 
 own-enabled : (kids : List ℕ → List (List ℕ)) (machine : State) (w : ℕ) (worker : Load) → slice_get machine.workers w ≡ Some worker
-    → (pending : Option (List ℕ)) (hand deque : List (List ℕ)) → worker.pending ≡ pending → worker.hand ≡ hand → worker.deque ≡ deque
-    → (event : Event) → Contains (own_events w pending hand deque (steals machine.workers w)) event → Next kids event machine
-own-enabled kids machine w worker at (Some label) hand deque p h d event is = elim (Contains-cases (Post w) [] event is) [
-  | inl same ↦ next-of kids machine event (Post w) (record { workers = set machine.workers w (record { deque = worker.deque; hand = worker.hand; pending = None }); posted = machine.posted ++ label ∷ [] }) same
+    → (pending : Option (List ℕ)) (stack deque : List (List ℕ)) → worker.pending ≡ pending → worker.stack ≡ stack → worker.deque ≡ deque
+    → (event : Event) → Contains (own_events w pending stack deque (steals machine.workers w)) event → Next kids event machine
+own-enabled kids machine w worker at (Some label) stack deque p h d event is = elim (Contains-cases (Post w) [] event is) [
+  | inl same ↦ next-of kids machine event (Post w) (record { workers = set machine.workers w (record { deque = worker.deque; stack = worker.stack; pending = None }); posted = machine.posted ++ label ∷ [] }) same
       (record { worker = worker; label = label; at = at; pending = p; workers = refl; posted = refl })
   | inr not ↦ absurd (Contains-none event not)
 ]
 own-enabled kids machine w worker at None (label ∷ others) deque p h d event is = elim (Contains-cases (Grow w) (Put w ∷ []) event is) [
   | inl same ↦
       let (rest, last, e) = has_last label others in
-      next-of kids machine event (Grow w) (record { workers = set machine.workers w (record { deque = worker.deque; hand = rest ++ kids last; pending = Some last }); posted = machine.posted }) same
-      (record { worker = worker; rest = rest; label = last; at = at; pending = p; hand = h ∙ e; workers = refl; posted = refl })
+      next-of kids machine event (Grow w) (record { workers = set machine.workers w (record { deque = worker.deque; stack = rest ++ kids last; pending = Some last }); posted = machine.posted }) same
+      (record { worker = worker; rest = rest; label = last; at = at; pending = p; stack = h ∙ e; workers = refl; posted = refl })
   | inr later ↦ elim (Contains-cases (Put w) [] event later) [
-    | inl same ↦ next-of kids machine event (Put w) (record { workers = set machine.workers w (record { deque = worker.deque ++ label ∷ []; hand = others; pending = None }); posted = machine.posted }) same
-        (record { worker = worker; rest = others; label = label; at = at; pending = p; hand = h; workers = refl; posted = refl })
+    | inl same ↦ next-of kids machine event (Put w) (record { workers = set machine.workers w (record { deque = worker.deque ++ label ∷ []; stack = others; pending = None }); posted = machine.posted }) same
+        (record { worker = worker; rest = others; label = label; at = at; pending = p; stack = h; workers = refl; posted = refl })
     | inr not ↦ absurd (Contains-none event not)
   ]
 ]
@@ -93,18 +93,18 @@ own-enabled kids machine w worker at None [] deque p h d event is = elim (Contai
   | inl here ↦
       let (label, others, same, some) = any-cases deque (Take w) event here in
       let (rest, last, e) = has_last label others in
-      next-of kids machine event (Take w) (record { workers = set machine.workers w (record { deque = rest; hand = last ∷ []; pending = None }); posted = machine.posted }) same
-      (record { worker = worker; rest = rest; label = last; at = at; pending = p; hand = h; deque = d ∙ some ∙ e; workers = refl; posted = refl })
+      next-of kids machine event (Take w) (record { workers = set machine.workers w (record { deque = rest; stack = last ∷ []; pending = None }); posted = machine.posted }) same
+      (record { worker = worker; rest = rest; label = last; at = at; pending = p; stack = h; deque = d ∙ some ∙ e; workers = refl; posted = refl })
   | inr there ↦
       let (v, victim, label, rest, same, other, at_victim, full) = steals-cases machine.workers w event there in
-      next-of kids machine event (Steal w v) (record { workers = set (set machine.workers v (record { deque = rest; hand = victim.hand; pending = victim.pending })) w (record { deque = worker.deque; hand = label ∷ []; pending = None }); posted = machine.posted }) same
-      (record { worker = worker; victim = victim; rest = rest; label = label; other = other; at = at; at_victim = at_victim; pending = p; hand = h; deque = full; workers = refl; posted = refl })
+      next-of kids machine event (Steal w v) (record { workers = set (set machine.workers v (record { deque = rest; stack = victim.stack; pending = victim.pending })) w (record { deque = worker.deque; stack = label ∷ []; pending = None }); posted = machine.posted }) same
+      (record { worker = worker; victim = victim; rest = rest; label = label; other = other; at = at; at_victim = at_victim; pending = p; stack = h; deque = full; workers = refl; posted = refl })
 ]
 
 worker-enabled : (kids : List ℕ → List (List ℕ)) (machine : State) (w : ℕ) (found : Option Load) → slice_get machine.workers w ≡ found
     → (event : Event) → Contains (events_of machine.workers w found) event → Next kids event machine
 worker-enabled kids machine w None at event is = absurd (Contains-none event is)
-worker-enabled kids machine w (Some worker) at event is = own-enabled kids machine w worker at worker.pending worker.hand worker.deque refl refl refl event is
+worker-enabled kids machine w (Some worker) at event is = own-enabled kids machine w worker at worker.pending worker.stack worker.deque refl refl refl event is
 
 pub listed_enabled : (kids : List ℕ → List (List ℕ)) (machine : State) (event : Event) → Contains (enabled machine) event → (after : State) × Step kids event machine after
 unfolding Next
@@ -113,7 +113,7 @@ listed_enabled kids machine event is =
     worker-enabled kids machine w (slice_get machine.workers w) refl event part
 
 own-listed : (machine : State) (w : ℕ) (worker : Load) (event : Event) → slice_get machine.workers w ≡ Some worker
-    → Contains (own_events w worker.pending worker.hand worker.deque (steals machine.workers w)) event → Contains (enabled machine) event
+    → Contains (own_events w worker.pending worker.stack worker.deque (steals machine.workers w)) event → Contains (enabled machine) event
 own-listed machine w worker event at is =
     flat-held (λ w. events_of machine.workers w (slice_get machine.workers w)) (range_with_len 0 (length machine.workers)) w event
     (range-held (length machine.workers) w (slice_get_within machine.workers w worker at))
@@ -123,28 +123,28 @@ snoc-cons : (rest : List (List ℕ)) (label : List ℕ) → (first : List ℕ) �
 snoc-cons [] label = (label, [], refl)
 snoc-cons (x ∷ rest) label = (x, rest ++ label ∷ [], refl)
 
-own-at : (w : ℕ) (worker : Load) (others : List Event) (pending : Option (List ℕ)) (hand deque : List (List ℕ)) (event : Event) → worker.pending ≡ pending → worker.hand ≡ hand → worker.deque ≡ deque
-    → Contains (own_events w pending hand deque others) event → Contains (own_events w worker.pending worker.hand worker.deque others) event
-own-at w worker others pending hand deque event p h d is =
-    subst (λ (x : Option (List ℕ)). Contains (own_events w x worker.hand worker.deque others) event) (sym p)
+own-at : (w : ℕ) (worker : Load) (others : List Event) (pending : Option (List ℕ)) (stack deque : List (List ℕ)) (event : Event) → worker.pending ≡ pending → worker.stack ≡ stack → worker.deque ≡ deque
+    → Contains (own_events w pending stack deque others) event → Contains (own_events w worker.pending worker.stack worker.deque others) event
+own-at w worker others pending stack deque event p h d is =
+    subst (λ (x : Option (List ℕ)). Contains (own_events w x worker.stack worker.deque others) event) (sym p)
     (subst (λ (x : List (List ℕ)). Contains (own_events w pending x worker.deque others) event) (sym h)
-    (subst (λ (x : List (List ℕ)). Contains (own_events w pending hand x others) event) (sym d) is))
+    (subst (λ (x : List (List ℕ)). Contains (own_events w pending stack x others) event) (sym d) is))
 
 pub enabled_listed : (kids : List ℕ → List (List ℕ)) (machine : State) (event : Event) (after : State) → Step kids event machine after → Contains (enabled machine) event
 enabled_listed kids machine (Post w) after s = own-listed machine w s.worker (Post w) s.at
-    (own-at w s.worker (steals machine.workers w) (Some s.label) s.worker.hand s.worker.deque (Post w) s.pending refl refl (Contains-first (Post w) []))
+    (own-at w s.worker (steals machine.workers w) (Some s.label) s.worker.stack s.worker.deque (Post w) s.pending refl refl (Contains-first (Post w) []))
 enabled_listed kids machine (Grow w) after s =
     let (first, others, e) = snoc-cons s.rest s.label in
     own-listed machine w s.worker (Grow w) s.at
-    (own-at w s.worker (steals machine.workers w) None (first ∷ others) s.worker.deque (Grow w) s.pending (s.hand ∙ e) refl (Contains-first (Grow w) (Put w ∷ [])))
+    (own-at w s.worker (steals machine.workers w) None (first ∷ others) s.worker.deque (Grow w) s.pending (s.stack ∙ e) refl (Contains-first (Grow w) (Put w ∷ [])))
 enabled_listed kids machine (Put w) after s = own-listed machine w s.worker (Put w) s.at
-    (own-at w s.worker (steals machine.workers w) None (s.label ∷ s.rest) s.worker.deque (Put w) s.pending s.hand refl (Contains-other (Grow w) (Put w ∷ []) (Put w) (Contains-first (Put w) [])))
+    (own-at w s.worker (steals machine.workers w) None (s.label ∷ s.rest) s.worker.deque (Put w) s.pending s.stack refl (Contains-other (Grow w) (Put w ∷ []) (Put w) (Contains-first (Put w) [])))
 enabled_listed kids machine (Take w) after s =
     let (first, others, e) = snoc-cons s.rest s.label in
     own-listed machine w s.worker (Take w) s.at
-    (own-at w s.worker (steals machine.workers w) None [] (first ∷ others) (Take w) s.pending s.hand (s.deque ∙ e) (Contains-first (Take w) (steals machine.workers w)))
+    (own-at w s.worker (steals machine.workers w) None [] (first ∷ others) (Take w) s.pending s.stack (s.deque ∙ e) (Contains-first (Take w) (steals machine.workers w)))
 enabled_listed kids machine (Steal w from) after s = own-listed machine w s.worker (Steal w from) s.at
-    (own-at w s.worker (steals machine.workers w) None [] s.worker.deque (Steal w from) s.pending s.hand refl
+    (own-at w s.worker (steals machine.workers w) None [] s.worker.deque (Steal w from) s.pending s.stack refl
     (Contains-append_right (where_any s.worker.deque (Take w)) (steals machine.workers w) (Steal w from) (steals-held machine.workers w from s.victim s.label s.rest s.at_victim s.other s.deque)))
 
 first-cut : {X Y : Type 0} (f : X → List Y) (x : X) (xs : List X) (y : Y) (ys : List Y) → f x ≡ ys → (slice_get (flat_map f xs) 0 ≡ Some y → (z : X) × (slice_get (f z) 0 ≡ Some y))
@@ -156,16 +156,16 @@ first-part : {X Y : Type 0} (f : X → List Y) (xs : List X) (y : Y) → slice_g
 first-part f [] y is = absurd (cc)
 first-part f (x ∷ xs) y is = first-cut f x xs y (f x) refl (λ later. first-part f xs y later) is
 
-own-first : (workers : List Load) (w : ℕ) (pending : Option (List ℕ)) (hand deque : List (List ℕ)) (event : Event) → slice_get (own_events w pending hand deque (steals workers w)) 0 ≡ Some event → extra event ≡ 0
-own-first workers w (Some label) hand deque event is = let same : Post w ≡ event = cc in ap extra (sym same)
-own-first workers w None (label ∷ hand) deque event is = let same : Grow w ≡ event = cc in ap extra (sym same)
+own-first : (workers : List Load) (w : ℕ) (pending : Option (List ℕ)) (stack deque : List (List ℕ)) (event : Event) → slice_get (own_events w pending stack deque (steals workers w)) 0 ≡ Some event → extra event ≡ 0
+own-first workers w (Some label) stack deque event is = let same : Post w ≡ event = cc in ap extra (sym same)
+own-first workers w None (label ∷ stack) deque event is = let same : Grow w ≡ event = cc in ap extra (sym same)
 own-first workers w None [] (label ∷ deque) event is = let same : Take w ≡ event = cc in ap extra (sym same)
 own-first workers w None [] [] event is =
     let (v, victim, label, rest, same, other, at, full) = steals-cases workers w event (get-held (steals workers w) 0 event is) in ap extra same
 
 worker-first : (workers : List Load) (w : ℕ) (found : Option Load) (event : Event) → slice_get (events_of workers w found) 0 ≡ Some event → extra event ≡ 0
 worker-first workers w None event is = absurd (cc)
-worker-first workers w (Some worker) event is = own-first workers w worker.pending worker.hand worker.deque event is
+worker-first workers w (Some worker) event is = own-first workers w worker.pending worker.stack worker.deque event is
 
 pub first_no_put : (machine : State) (event : Event) → slice_get (enabled machine) 0 ≡ Some event → extra event ≡ 0
 first_no_put machine event is =

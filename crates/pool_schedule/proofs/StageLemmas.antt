@@ -51,9 +51,9 @@ module _ {N : Type 0} where
   at-one worker Posting Free p q = let some : worker.pending ≡ Some p.0 = p.1 in let none : worker.pending ≡ None = q.0 in absurd (cc)
   at-one worker Busy Posting p q = let some : worker.pending ≡ Some q.0 = q.1 in let none : worker.pending ≡ None = p.0 in absurd (cc)
   at-one worker Busy Busy p q = refl
-  at-one worker Busy Free p q = let some : 0 < length worker.hand.items = p.1 in let none : length worker.hand.items ≡ 0 = q.1 in absurd (omega arith)
+  at-one worker Busy Free p q = let some : 0 < length worker.stack.items = p.1 in let none : length worker.stack.items ≡ 0 = q.1 in absurd (omega arith)
   at-one worker Free Posting p q = let some : worker.pending ≡ Some q.0 = q.1 in let none : worker.pending ≡ None = p.0 in absurd (cc)
-  at-one worker Free Busy p q = let some : 0 < length worker.hand.items = q.1 in let none : length worker.hand.items ≡ 0 = p.1 in absurd (omega arith)
+  at-one worker Free Busy p q = let some : 0 < length worker.stack.items = q.1 in let none : length worker.stack.items ≡ 0 = p.1 in absurd (omega arith)
   at-one worker Free Free p q = refl
 
   -- the worker that was read is at this stage exactly where its stage is that
@@ -121,7 +121,7 @@ module _ {N : Type 0} (label : N → List ℕ) where
   nothing-held [] all = refl
   nothing-held (x ∷ workers) all =
       let none : HasNothing x = All-head HasNothing x workers all in
-      ap (λ l. (map label l ++ map label x.deque.items) ++ all_held (map (load label) workers)) (nil_from_length x.hand.items none.1)
+      ap (λ l. (map label l ++ map label x.deque.items) ++ all_held (map (load label) workers)) (nil_from_length x.stack.items none.1)
       ∙ ap (λ l. map label l ++ all_held (map (load label) workers)) (nil_from_length x.deque.items none.2)
       ∙ nothing-held workers (All-tail HasNothing x workers all)
 
@@ -129,9 +129,9 @@ module _ {N : Type 0} (label : N → List ℕ) where
   all-nothing [] p h = All-nil HasNothing
   all-nothing (x ∷ workers) p h =
       let pending = both-empty (pending_of (load label x).pending) (all_pending (map (load label) workers)) p in
-      let held = both-empty (map label x.hand.items ++ map label x.deque.items) (all_held (map (load label) workers)) h in
-      let own = both-empty (map label x.hand.items) (map label x.deque.items) held.0 in
-      All-cons HasNothing x workers (no-label x.pending pending.0, no-nodes label x.hand.items own.0, no-nodes label x.deque.items own.1) (all-nothing workers pending.1 held.1)
+      let held = both-empty (map label x.stack.items ++ map label x.deque.items) (all_held (map (load label) workers)) h in
+      let own = both-empty (map label x.stack.items) (map label x.deque.items) held.0 in
+      All-cons HasNothing x workers (no-label x.pending pending.0, no-nodes label x.stack.items own.0, no-nodes label x.deque.items own.1) (all-nothing workers pending.1 held.1)
 
   pub quiet-iff : (kids : List ℕ → List (List ℕ)) (machine : Machine N) → All HasNothing machine.workers.items ↔ IsQuiet kids (seen label machine)
   quiet-iff kids machine = (

@@ -17,18 +17,18 @@ replicate-more zero x = refl
 replicate-more (suc n) x = ap (λ l. x ∷ l) (replicate-more n x)
 
 abbrev pub first_load : List (List ℕ) → Load
-first_load roots = record { deque = roots; hand = []; pending = None }
+first_load roots = record { deque = roots; stack = []; pending = None }
 
 -- a worker with these nodes in its deque, and nothing else
 pub record IsNew {N : Type 0} (x : Worker N) (nodes : List N) : Type 0 where
   pub deque : x.deque.items ≡ nodes
-  pub hand : x.hand.items ≡ []
+  pub stack : x.stack.items ≡ []
   pub pending : x.pending ≡ None
 
 module _ {N : Type 0} (label : N → List ℕ) where
   new-load : (x : Worker N) (nodes : List N) → IsNew x nodes → load label x ≡ first_load (map label nodes)
   new-load x nodes new =
-      same-load (load label x) (first_load (map label nodes)) (ap (map label) new.deque) (ap (map label) new.hand) (ap (option_map (λ (p : Pending). p.label)) new.pending)
+      same-load (load label x) (first_load (map label nodes)) (ap (map label) new.deque) (ap (map label) new.stack) (ap (option_map (λ (p : Pending). p.label)) new.pending)
 
   -- the workers so far: the first with the roots, and others with nothing
   abbrev pub AreReady : List (List ℕ) → ℕ → List (Worker N) → Type 0
@@ -55,7 +55,7 @@ module _ {N : Type 0} (label : N → List ℕ) where
 
 module _ {N : Type 0} (IsOwn : N → Type 0) where
   owns-new : (x : Worker N) (nodes : List N) → IsNew x nodes → All IsOwn nodes → Owns IsOwn x
-  owns-new x nodes new own = (All-same IsOwn x.deque.items nodes new.deque own, All-same IsOwn x.hand.items [] new.hand (All-nil IsOwn))
+  owns-new x nodes new own = (All-same IsOwn x.deque.items nodes new.deque own, All-same IsOwn x.stack.items [] new.stack (All-nil IsOwn))
 
   pub own-more : (before after : List (Worker N)) (x : Worker N) (nodes : List N) → after ≡ before ++ x ∷ [] → IsNew x nodes → All IsOwn nodes → AllOwn IsOwn before → AllOwn IsOwn after
   own-more before after x nodes is new own all = All-same (Owns IsOwn) after (before ++ x ∷ []) is (All-push (Owns IsOwn) before x all (owns-new x nodes new own))

@@ -19,7 +19,7 @@ module _ {N : Type 0} where
   abbrev pub load : (N → List ℕ) → Worker N → Load
   load label worker = record {
     deque = map label worker.deque.items;
-    hand = map label worker.hand.items;
+    stack = map label worker.stack.items;
     pending = option_map (λ (pending : Pending). pending.label) worker.pending;
   }
 
@@ -31,7 +31,7 @@ module _ {N : Type 0} where
   -- all nodes that the workers have are own ones
   abbrev pub AllOwn : (N → Type 0) → List (Worker N) → Type 0
   AllOwn IsOwn workers =
-      All (λ (worker : Worker N). All IsOwn worker.deque.items × All IsOwn worker.hand.items) workers
+      All (λ (worker : Worker N). All IsOwn worker.deque.items × All IsOwn worker.stack.items) workers
 
   -- all nodes of the machine are own ones
   abbrev pub IsOwned : (N → Type 0) → Machine N → Type 0
@@ -73,7 +73,7 @@ module _ {N : Type 0} where
     pub labels : after.posted.labels ≡ before.posted.labels ++ pending.label ∷ []
     pub rows : after.posted.rows.items ≡ before.posted.rows.items ++ option_to_list pending.row
 
-  -- the first node of the one deque has come to the other hand
+  -- the first node of the one deque has come to the other stack
   pub record StealsNode (w from : ℕ) (before after : Machine N) : Type 0 where
     pub worker : Worker N
     pub victim : Worker N
@@ -85,6 +85,6 @@ module _ {N : Type 0} where
     pub workers : after.workers.items ≡ set (set before.workers.items from robbed) w thief
     pub posted : after.posted ≡ before.posted
     pub lost : victim.deque.items ≡ node ∷ robbed.deque.items
-    pub kept : (robbed.hand.items ≡ victim.hand.items) × (robbed.pending ≡ victim.pending)
-    pub got : thief.hand.items ≡ worker.hand.items ++ node ∷ []
+    pub kept : (robbed.stack.items ≡ victim.stack.items) × (robbed.pending ≡ victim.pending)
+    pub got : thief.stack.items ≡ worker.stack.items ++ node ∷ []
     pub same : (thief.deque.items ≡ worker.deque.items) × (thief.pending ≡ worker.pending)

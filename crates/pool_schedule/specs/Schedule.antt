@@ -23,15 +23,15 @@ steal_from w v (Some victim) = cond (v == w) [] (where_any victim.deque (Steal w
 abbrev pub steals : List Load → ℕ → List Event
 steals workers w = flat_map (λ v. steal_from w v (slice_get workers v)) (range_with_len 0 (length workers))
 
--- w's events, where it has this pending, in its hand and in its deque, and these are its steals
+-- w's events, where it has this pending, in its stack and in its deque, and these are its steals
 abbrev pub own_events : ℕ → Option (List ℕ) → List (List ℕ) → List (List ℕ) → List Event → List Event
-own_events w (Some label) hand deque others = Post w ∷ []
-own_events w None (label ∷ hand) deque others = Grow w ∷ Put w ∷ []
+own_events w (Some label) stack deque others = Post w ∷ []
+own_events w None (label ∷ stack) deque others = Grow w ∷ Put w ∷ []
 own_events w None [] deque others = where_any deque (Take w) ++ others
 
 abbrev pub events_of : List Load → ℕ → Option Load → List Event
 events_of workers w None = []
-events_of workers w (Some worker) = own_events w worker.pending worker.hand worker.deque (steals workers w)
+events_of workers w (Some worker) = own_events w worker.pending worker.stack worker.deque (steals workers w)
 
 -- the enabled events, by worker
 abbrev pub listed : List Load → List Event

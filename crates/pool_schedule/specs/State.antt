@@ -8,7 +8,7 @@ use Rattle.search_tree.specs.Cover.{Balanced}
 -- what one worker has, each node by its label
 pub record Load : Type 0 where
   pub deque : List (List ℕ)
-  pub hand : List (List ℕ)
+  pub stack : List (List ℕ)
   pub pending : Option (List ℕ)
 
 pub record State : Type 0 where
@@ -16,12 +16,12 @@ pub record State : Type 0 where
   pub posted : List (List ℕ)
 
 abbrev pub idle : Load
-idle = record { deque = []; hand = []; pending = None }
+idle = record { deque = []; stack = []; pending = None }
 
 -- all roots lie in order in the deque of the first worker, and nothing else is there
 abbrev pub start : List (List ℕ) → ℕ → State
 start roots workers = record {
-  workers = record { deque = roots; hand = []; pending = None } ∷ replicate (workers - 1) idle;
+  workers = record { deque = roots; stack = []; pending = None } ∷ replicate (workers - 1) idle;
   posted = [];
 }
 
@@ -33,18 +33,18 @@ pending_of (Some label) = label ∷ []
 abbrev pub all_pending : List Load → List (List ℕ)
 all_pending workers = flat_map (λ (worker : Load). pending_of worker.pending) workers
 
--- the labels in all hands and deques
+-- the labels in all stacks and deques
 abbrev pub all_held : List Load → List (List ℕ)
-all_held workers = flat_map (λ (worker : Load). worker.hand ++ worker.deque) workers
+all_held workers = flat_map (λ (worker : Load). worker.stack ++ worker.deque) workers
 
 -- the labels that were grown
 abbrev pub grown : State → List (List ℕ)
 grown state = state.posted ++ all_pending state.workers
 
--- what is posted, pending, in a hand or in a deque are the roots and the kids of what is posted or pending
+-- what is posted, pending, in a stack or in a deque are the roots and the kids of what is posted or pending
 abbrev pub IsBalanced : List (List ℕ) → (List ℕ → List (List ℕ)) → State → Type 0
 IsBalanced roots kids state = Balanced roots kids (grown state) (all_held state.workers)
 
--- nothing is pending, and all hands and deques are empty
+-- nothing is pending, and all stacks and deques are empty
 abbrev pub IsIdle : State → Type 0
 IsIdle state = (all_pending state.workers ≡ []) × (all_held state.workers ≡ [])

@@ -16,45 +16,45 @@ pub record Posts (w : ℕ) (before after : State) : Type 0 where
   pub workers : after.workers ≡ set before.workers w (record worker { pending = None })
   pub posted : after.posted ≡ before.posted ++ label ∷ []
 
--- the last label of the worker's hand is pending, and its kids come to the hand
+-- the last label of the worker's stack is pending, and its kids come to the stack
 pub record Grows (kids : List ℕ → List (List ℕ)) (w : ℕ) (before after : State) : Type 0 where
   pub worker : Load
   pub rest : List (List ℕ)
   pub label : List ℕ
   pub at : slice_get before.workers w ≡ Some worker
   pub pending : worker.pending ≡ None
-  pub hand : worker.hand ≡ rest ++ label ∷ []
+  pub stack : worker.stack ≡ rest ++ label ∷ []
   pub workers : after.workers
       ≡ set before.workers w
-      (record { deque = worker.deque; hand = rest ++ kids label; pending = Some label })
+      (record { deque = worker.deque; stack = rest ++ kids label; pending = Some label })
   pub posted : after.posted ≡ before.posted
 
--- the first label of the worker's hand goes to the back of its deque
+-- the first label of the worker's stack goes to the back of its deque
 pub record Puts (w : ℕ) (before after : State) : Type 0 where
   pub worker : Load
   pub rest : List (List ℕ)
   pub label : List ℕ
   pub at : slice_get before.workers w ≡ Some worker
   pub pending : worker.pending ≡ None
-  pub hand : worker.hand ≡ label ∷ rest
+  pub stack : worker.stack ≡ label ∷ rest
   pub workers : after.workers
-      ≡ set before.workers w (record { deque = worker.deque ++ label ∷ []; hand = rest; pending = None })
+      ≡ set before.workers w (record { deque = worker.deque ++ label ∷ []; stack = rest; pending = None })
   pub posted : after.posted ≡ before.posted
 
--- the last label of the worker's deque comes to its empty hand
+-- the last label of the worker's deque comes to its empty stack
 pub record Takes (w : ℕ) (before after : State) : Type 0 where
   pub worker : Load
   pub rest : List (List ℕ)
   pub label : List ℕ
   pub at : slice_get before.workers w ≡ Some worker
   pub pending : worker.pending ≡ None
-  pub hand : worker.hand ≡ []
+  pub stack : worker.stack ≡ []
   pub deque : worker.deque ≡ rest ++ label ∷ []
   pub workers : after.workers
-      ≡ set before.workers w (record { deque = rest; hand = label ∷ []; pending = None })
+      ≡ set before.workers w (record { deque = rest; stack = label ∷ []; pending = None })
   pub posted : after.posted ≡ before.posted
 
--- the first label of another worker's deque comes to the worker's empty hand
+-- the first label of another worker's deque comes to the worker's empty stack
 pub record Steals (w from : ℕ) (before after : State) : Type 0 where
   pub worker : Load
   pub victim : Load
@@ -64,11 +64,11 @@ pub record Steals (w from : ℕ) (before after : State) : Type 0 where
   pub at : slice_get before.workers w ≡ Some worker
   pub at_victim : slice_get before.workers from ≡ Some victim
   pub pending : worker.pending ≡ None
-  pub hand : worker.hand ≡ []
+  pub stack : worker.stack ≡ []
   pub deque : victim.deque ≡ label ∷ rest
   pub workers : after.workers
       ≡ set (set before.workers from (record victim { deque = rest })) w
-      (record { deque = worker.deque; hand = label ∷ []; pending = None })
+      (record { deque = worker.deque; stack = label ∷ []; pending = None })
   pub posted : after.posted ≡ before.posted
 
 abbrev pub Step : (List ℕ → List (List ℕ)) → Event → State → State → Type 0

@@ -7,14 +7,14 @@ ghost use Rattle.pool_schedule.specs.Steps.{IsQuiet, Runs};
 ghost use Rattle.pool_schedule.specs.Schedule.{IsScheduled};
 ghost use Rattle.pool_schedule.specs.declared.event.Event.{Event};
 
-/// After each list of events, what is posted, pending, in hands and in deques are the roots and the kids
+/// After each list of events, what is posted, pending, in stacks and in deques are the roots and the kids
 /// of what is posted or pending: nothing is lost, and nothing comes twice.
 pub fn events_keep_the_balance()
     ensures { (roots : List (List ℕ)) (kids : List ℕ → List (List ℕ)) (workers : ℕ) (events : List Event)
         (last : State) → Runs kids (start roots workers) events last → IsBalanced roots kids last }
 {}
 
-/// The machine is quiet exactly where nothing is pending and all hands and deques are empty.
+/// The machine is quiet exactly where nothing is pending and all stacks and deques are empty.
 pub fn quiet_machine_is_idle()
     ensures { (kids : List ℕ → List (List ℕ)) (state : State) → IsQuiet kids state ↔ IsIdle state }
 {}

@@ -27,13 +27,13 @@ fn post<N: Drop>(machine: &mut Machine<N>, w: u32) -> Result<(), NoMemory>
     Ok(())
 }
 
-/// Moves the first node of the deque of `from` into the hand of `w`.
+/// Moves the first node of the deque of `from` into the stack of `w`.
 fn steal<N: Drop>(machine: &mut Machine<N>, w: u32, from: u32) -> Result<(), NoMemory>
     requires { MayStep (Steal w from) machine.old.workers.items }
     ensures { OnOk result (StealsNode w from machine.old machine.new) }
 {
     if let Some(node) = machine.workers[from as usize].deque.pop_front() {
-        machine.workers[w as usize].hand.push_back(node)?;
+        machine.workers[w as usize].stack.push_back(node)?;
     }
     Ok(())
 }

@@ -17,7 +17,7 @@ pub(crate) struct Pending {
 #[derive(Drop)]
 pub(crate) struct Worker<N> {
     pub(crate) deque: VecDeque<N>,
-    pub(crate) hand: VecDeque<N>,
+    pub(crate) stack: VecDeque<N>,
     pub(crate) pending: Option<Pending>,
 }
 
@@ -26,7 +26,7 @@ pub(crate) struct Worker<N> {
 pub(crate) enum Stage {
     /// It has a label to post.
     Pending,
-    /// It has nodes in its hand.
+    /// It has nodes in its stack.
     Busy,
     /// It has neither, and looks into the deques.
     Free,
@@ -38,12 +38,12 @@ impl<N: Drop> Worker<N> {
     /// A worker with these nodes in its deque. Takes no memory.
     pub(crate) fn new(alloc: Global, nodes: Vec<N>) -> Worker<N>
         ensures deque { result.deque.items ≡ nodes.items }
-        ensures hand { result.hand.items ≡ [] }
+        ensures stack { result.stack.items ≡ [] }
         ensures pending { result.pending ≡ None }
     {
         Worker {
             deque: VecDeque::from_vec(nodes),
-            hand: VecDeque::new(alloc),
+            stack: VecDeque::new(alloc),
             pending: None,
         }
     }
@@ -53,7 +53,7 @@ impl<N: Drop> Worker<N> {
     {
         if self.pending.is_some() {
             Stage::Pending
-        } else if self.hand.is_empty() {
+        } else if self.stack.is_empty() {
             Stage::Free
         } else {
             Stage::Busy
@@ -64,48 +64,48 @@ impl<N: Drop> Worker<N> {
     pub(crate) fn is_idle(&self) -> bool
         ensures { IsTrue result ↔ HasNothing self.now }
     {
-        self.pending.is_none() && self.hand.is_empty() && self.deque.is_empty()
+        self.pending.is_none() && self.stack.is_empty() && self.deque.is_empty()
     }
 
-    /// Moves the first node of the hand to the back of the deque.
+    /// Moves the first node of the stack to the back of the deque.
     pub(crate) fn put(&mut self) -> Result<(), NoMemory>
-        requires { 0 < length self.old.hand.items }
+        requires { 0 < length self.old.stack.items }
         ensures { OnOk result (PutsNode self.old self.new) }
     {
-        if let Some(node) = self.hand.pop_front() {
+        if let Some(node) = self.stack.pop_front() {
             self.deque.push_back(node)?;
         }
         Ok(())
     }
 
-    /// Moves the last node of the deque into the hand.
+    /// Moves the last node of the deque into the stack.
     pub(crate) fn take(&mut self) -> Result<(), NoMemory>
         requires { 0 < length self.old.deque.items }
         ensures { OnOk result (TakesNode self.old self.new) }
     {
         if let Some(node) = self.deque.pop_back() {
-            self.hand.push_back(node)?;
+            self.stack.push_back(node)?;
         }
         Ok(())
     }
 
-    /// Grows the last node of the hand, and puts its kids there in order.
+    /// Grows the last node of the stack, and puts its kids there in order.
     pub(crate) fn grow<G: Grow<Node = N>>(
         &mut self,
         alloc: Global,
         g: &G,
         room: &mut G::Room,
     ) -> Result<(), NoMemory>
-        requires some { 0 < length self.old.hand.items }
-        requires own { All (G.IsOwn g.now) self.old.hand.items }
+        requires some { 0 < length self.old.stack.items }
+        requires own { All (G.IsOwn g.now) self.old.stack.items }
         requires room { G.IsRoomy g.now room.old }
         ensures room { OnOk result (G.IsRoomy g.now room.new) }
         ensures grown { OnOk result (GrowsNode
             (G.label_of g.now) (G.kids_of g.now) (G.row_of g.now) (G.IsOwn g.now) self.old self.new) }
     {
-        if let Some(node) = self.hand.pop_back() {
+        if let Some(node) = self.stack.pop_back() {
             let grown = g.grow(alloc, node, room)?;
-            self.hand.append(&mut VecDeque::from_vec(grown.kids))?;
+            self.stack.append(&mut VecDeque::from_vec(grown.kids))?;
             self.pending = Some(Pending {
                 label: grown.label,
                 row: grown.row,

@@ -78,8 +78,8 @@ module _ {T G : Type 0} (label_of : T → List ℕ) where
 
   module _ (ground_of : T → G) where
     -- the next task is the last of the overflow
-    pub next-of_hand : (task : T) (seat : Seat T G) (overflow rest : List T) → overflow ≡ rest ++ task ∷ [] → IsNext label_of ground_of task seat seat overflow rest
-    next-of_hand task seat overflow rest is = record {
+    pub next-of_stack : (task : T) (seat : Seat T G) (overflow rest : List T) → overflow ≡ rest ++ task ∷ [] → IsNext label_of ground_of task seat seat overflow rest
+    next-of_stack task seat overflow rest is = record {
       came = [];
       got_them = λ weight. omega (arith, sum_by-append weight (got seat) []);
       same = λ weight. omega (

@@ -1,5 +1,5 @@
 use Rattle.std.proofs.Common.{◌≡◌, length, [], ap, ◌∙◌, arith}
-use Rattle.node_pool.specs.Rule.{hand}
+use Rattle.node_pool.specs.Rule.{account}
 use Rattle.node_pool.specs.Ways.{share}
 use Rattle.crossbeam_deque.specs.Handles.{worker_deque}
 use Rattle.node_pool.proofs.Kept.{partly_next, partly_all, partly_room, partly_ground, same_deques}
@@ -20,7 +20,7 @@ ways-preserved g c =
       parts = partly_next g.known_ground c.args.number c.ways.k c.ways.owners.items c.index_mut.result.now c.way.new.owner (omega arith) at c.ways.invariant.parts c.in_ok-way.ensures.left;
       pool = rw c.in_ok-push.ensures.items (pool_next c.ways.k c.args.owners.now.items c.ways.owners.items c.index_mut.result.now c.ways.ways.items c.in_ok-way.field-0 c.ways.invariant.deques c.ways.invariant.pool at c.in_ok-way.ensures.there);
       ways = rw c.in_ok-push.ensures.items (ways_next g.known_ground c.args.number c.ways.k c.args.owners.now.items c.ways.ways.items c.in_ok-way.field-0 (omega arith) c.ways.invariant.pool c.ways.invariant.ways
-          (c.in_ok-way.ensures.right ∙ ap (λ known_ground. hand (share c.args.number c.ways.k) [] [] known_ground) (partly_ground g.known_ground c.args.number c.ways.k c.ways.owners.items c.index_mut.result.now at c.ways.invariant.parts)));
+          (c.in_ok-way.ensures.right ∙ ap (λ known_ground. account (share c.args.number c.ways.k) [] [] known_ground) (partly_ground g.known_ground c.args.number c.ways.k c.ways.owners.items c.index_mut.result.now at c.ways.invariant.parts)));
     }
 
 pub returns-clause-left : goal.returns-clause-left

@@ -12,7 +12,7 @@ pub grow-requires-clause-own : goal.grow-requires-clause-own
 grow-requires-clause-own g c =
     let there = growing-at c.args.machine.now.workers.items c.args.event c.in-Grow.w c.in-Grow.is c.requires.enabled in
     let same = now-is c.args.machine.now.workers.items c.in-Grow.w there.0 c.index_mut.result.now there.1 c.index_mut.ensures.value in
-    subst (λ (x : Worker g.row.G-Node.Denot). All (g.G.Grow.IsOwn c.args.g.now) x.hand.items) same (owns-at (g.G.Grow.IsOwn c.args.g.now) c.args.machine.now.workers.items c.in-Grow.w there.0 there.1 c.requires.own).1
+    subst (λ (x : Worker g.row.G-Node.Denot). All (g.G.Grow.IsOwn c.args.g.now) x.stack.items) same (owns-at (g.G.Grow.IsOwn c.args.g.now) c.args.machine.now.workers.items c.in-Grow.w there.0 there.1 c.requires.own).1
 
 pub index_mut-requires-in-Put : goal.index_mut-requires-in-Put
 index_mut-requires-in-Put g c =

@@ -17,7 +17,7 @@ returns-after-row-2 g c =
         pending = c.in-Some.pending;
         at = at-now c.args.machine.now.workers.items c.args.w c.requires.0 c.index_mut.result.now c.requires.1 c.index_mut.ensures.value;
         is = sym c.take.ensures.value ∙ c.in-Some.is;
-        workers = ap (λ p. set c.args.machine.now.workers.items c.args.w (record { deque = c.index_mut.result.now.deque; hand = c.index_mut.result.now.hand; pending = p })) c.take.ensures.after;
+        workers = ap (λ p. set c.args.machine.now.workers.items c.args.w (record { deque = c.index_mut.result.now.deque; stack = c.index_mut.result.now.stack; pending = p })) c.take.ensures.after;
         labels = c.in_ok-push.ensures.pushed ∙ ap (λ (l : List ℕ). c.args.machine.now.posted.labels ++ l ∷ []) c.numbers.ensures;
         rows = w.in_ok-push-2.ensures.items ∙ ap (λ r. c.args.machine.now.posted.rows.items ++ option_to_list r) (sym w.in-Some-row.is);
       })
@@ -26,7 +26,7 @@ returns-after-row-2 g c =
         pending = c.in-Some.pending;
         at = at-now c.args.machine.now.workers.items c.args.w c.requires.0 c.index_mut.result.now c.requires.1 c.index_mut.ensures.value;
         is = sym c.take.ensures.value ∙ c.in-Some.is;
-        workers = ap (λ p. set c.args.machine.now.workers.items c.args.w (record { deque = c.index_mut.result.now.deque; hand = c.index_mut.result.now.hand; pending = p })) c.take.ensures.after;
+        workers = ap (λ p. set c.args.machine.now.workers.items c.args.w (record { deque = c.index_mut.result.now.deque; stack = c.index_mut.result.now.stack; pending = p })) c.take.ensures.after;
         labels = c.in_ok-push.ensures.pushed ∙ ap (λ (l : List ℕ). c.args.machine.now.posted.labels ++ l ∷ []) c.numbers.ensures;
         rows = sym (append-nil c.args.machine.now.posted.rows.items) ∙ ap (λ r. c.args.machine.now.posted.rows.items ++ option_to_list r) (sym w.in_default-row.is);
       })

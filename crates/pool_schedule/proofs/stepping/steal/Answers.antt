@@ -11,11 +11,11 @@ module _ {N : Type 0} where
 
 pub returns-in_ok-push_back : goal.returns-in_ok-push_back
 returns-in_ok-push_back g c =
-    let robbed : Worker g.row.N.Denot = record { deque = c.pop_front.new.self; hand = c.index_mut.result.now.hand; pending = c.index_mut.result.now.pending } in
+    let robbed : Worker g.row.N.Denot = record { deque = c.pop_front.new.self; stack = c.index_mut.result.now.stack; pending = c.index_mut.result.now.pending } in
     record {
       worker = c.index_mut-in-Some.result.now;
       victim = c.index_mut.result.now;
-      thief = record { deque = c.index_mut-in-Some.result.now.deque; hand = c.push_back.new.self; pending = c.index_mut-in-Some.result.now.pending };
+      thief = record { deque = c.index_mut-in-Some.result.now.deque; stack = c.push_back.new.self; pending = c.index_mut-in-Some.result.now.pending };
       robbed = robbed;
       node = c.in-Some.node;
       at = other_at c.args.machine.now.workers.items c.args.w c.args.from c.requires.0 robbed c.index_mut-in-Some.result.now c.requires.2 c.requires.4 c.index_mut-in-Some.ensures.value;

@@ -1,10 +1,10 @@
 use Rattle.std.proofs.Common.{◌≡◌, [], arith}
 use Rattle.std.proofs.lemmas.Result.{IfOk-weaker}
-use Rattle.search_engine.proofs.SeatLemmas.{empty-list, next-of_hand, next-of_seat}
+use Rattle.search_engine.proofs.SeatLemmas.{empty-list, next-of_stack, next-of_seat}
 use Rattle.search_engine.proofs.seats.next_task.Goals as goal
 
 pub returns-in-Some-clause-next : goal.returns-in-Some-clause-next
-returns-in-Some-clause-next g c = next-of_hand g.T.Task.label_of g.T.Task.ground_of c.in-Some.task c.args.seat.now c.args.overflow.now.items c.pop.new.self.items c.in-Some.ensures.items
+returns-in-Some-clause-next g c = next-of_stack g.T.Task.label_of g.T.Task.ground_of c.in-Some.task c.args.seat.now c.args.overflow.now.items c.pop.new.self.items c.in-Some.ensures.items
 
 pub returns-in-None-clause-next : goal.returns-in-None-clause-next
 returns-in-None-clause-next g c =

@@ -9,7 +9,7 @@ pub loop-preserved : goal.loop-preserved
 loop-preserved g c =
     let new : IsNew c.new-in-loop-2.result [] = record {
       deque = c.new-in-loop-2.ensures.deque ∙ c.new-in-loop.ensures.items;
-      hand = c.new-in-loop-2.ensures.hand;
+      stack = c.new-in-loop-2.ensures.stack;
       pending = c.new-in-loop-2.ensures.pending;
     } in
     record {
