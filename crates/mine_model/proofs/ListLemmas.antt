@@ -1,8 +1,8 @@
 -- Lemmas on lists, what is contained in them and what holds of each element.
-use Rattle.std.proofs.Common.{◌≡◌, ◌≢◌, ◌⊎◌, inl, inr, Bool, true, false, cond, Option, Some, None, List, [], ◌∷◌, ◌++◌, map, filter, length, get_or, take, drop, length-drop, refl, sym, ap, ◌∙◌, subst, arith, suc, zero, true≢false, ℕ, ◌-◌, ◌≤◌, ◌<◌, ◌+◌}
-use Rattle.std.specs.List.{AllByRecursion, AllPairs, Contains, slice_range, list_any, filter_map, cons_option, All}
+use Rattle.std.proofs.Common.{◌≡◌, ◌≢◌, ◌⊎◌, inl, inr, Bool, true, false, cond, Option, Some, None, List, [], ◌∷◌, ◌++◌, map, filter, length, get_or, take, drop, refl, sym, ap, ◌∙◌, subst, arith, suc, zero, true≢false, ℕ, ◌<◌, ◌+◌}
+use Rattle.std.specs.List.{AllByRecursion, AllPairs, Contains, list_any, filter_map, cons_option, All}
 use Rattle.std.proofs.Math.Seq.{take-append_seam}
-use Rattle.std.proofs.lemmas.List.{get_or_default, append-nil, map-append, take-append-le, drop-append-le, get_or-map, length-map, get_or_append_left, length-append}
+use Rattle.std.proofs.lemmas.List.{get_or_default, append-nil, map-append, get_or-map, length-map, get_or_append_left, length-append}
 use Rattle.std.proofs.lemmas.Bool.{cases_Bool}
 use Rattle.std.proofs.lemmas.List.Elements.{Contains-append_cases}
 use Rattle.std.proofs.lemmas.List.Kept.{AllPairs-cons}

@@ -1,5 +1,5 @@
 -- A hierarchy by the list of ancestors of each item, where all lists stand behind each other in one.
-use Rattle.std.specs.Prelude.{◌≡◌, ℕ, ◌+◌, ◌≤◌, ◌<◌, ◌==◌, not, List, [], ◌∷◌, ◌++◌, map, filter, length, slice_index, AllPairs, Contains}
+use Rattle.std.specs.Prelude.{◌≡◌, ℕ, ◌+◌, ◌<◌, ◌==◌, not, List, [], ◌∷◌, ◌++◌, map, filter, length, AllPairs, Contains}
 use Rattle.std.specs.List.{slice_range}
 use Rattle.flat_lists.specs.Cuts.{list_at, AreCut}
 use Rattle.mine_model.specs.declared.item.Item.{Item}

@@ -1,4 +1,4 @@
-use Rattle.std.proofs.Common.{◌≡◌, ◌<◌, ◌+◌, ◌++◌, [], ◌∷◌, length, arith, ap}
+use Rattle.std.proofs.Common.{◌≡◌, ◌<◌, ◌++◌, [], ◌∷◌, length, arith, ap}
 use Rattle.mine_model.specs.Limits.{most_sequences}
 use Rattle.mine_model.proofs.DatabaseLemmas.{length-sequences_of, sequences_of-push, AreWeighted-push}
 use Rattle.mine_model.proofs.database.Db.push_weighted.Goals as goal
