@@ -1,20 +1,16 @@
 -- What all workers found is the answer and its work.
-use Rattle.std.proofs.Common.{◌≡◌, ◌↔◌, ℕ, ◌≤◌, ◌<◌, Some, Result, Ok, List, [], length, sym, ap, ◌∙◌, subst, arith}
+use Rattle.std.proofs.Common.{◌≡◌, ◌↔◌, ℕ, ◌≤◌, ◌<◌, Some, Result, Ok, List, [], length, sym, ap, ◌∙◌, subst}
 use Rattle.std.specs.List.{All, AllByRecursion, Contains, slice_get}
 use Rattle.std.proofs.lemmas.List.{length-map}
 use Rattle.mine_model.specs.declared.item.Item.{Item}
 use Rattle.mine_model.specs.declared.memory.NoMemory.{NoMemory}
 use Rattle.mine_model.specs.declared.row.Row.{Row}
-use Rattle.mine_model.specs.Answer.{IsFrequent}
-use Rattle.mine_model.specs.Candidates.{IsFrequentItem}
-use Rattle.mine_model.specs.Support.{HasFrequency}
-use Rattle.mine_model.specs.Numbered.{AreFrequent, tree_of}
+use Rattle.mine_model.specs.Numbered.{AreFrequent}
 use Rattle.mine_model.specs.Pivots.{IsAliveLabel}
-use Rattle.mine_model.proofs.ListLemmas.{AllByRecursion-weaker}
 use Rattle.mine_model.proofs.ElementLemmas.{slice_get-mapped_by}
-use Rattle.mine_model.proofs.FrequencyLemmas.{HasFrequency-within, frequencies-known, frequent-items}
 use Rattle.mining_job.specs.declared.part_seed.PartSeed.{PartSeed}
 use Rattle.mining_job.specs.Problems.{Problem, data_of, IsWhole}
+use Rattle.mining_job.proofs.ItemLemmas.{items-known, frequent-within}
 use Rattle.pivot_partition.specs.Pivots.{pivots_in}
 use Rattle.automaton_model.specs.Work.{IsAutomatonWork}
 use Rattle.cand_automaton.specs.declared.parts.Done.{Done}
@@ -25,18 +21,6 @@ use Rattle.cand_automaton.proofs.WorkerLemmas.{found-all}
 
 module _ (problem : Problem) (whole : IsWhole problem)
     (ends : All (λ link. (link.child.0 < problem.hierarchy.items) × (link.parent.0 < problem.hierarchy.items)) problem.hierarchy.links) where
-  items-known : (w : Item) → (m : ℕ) × HasFrequency problem.hierarchy.links problem.sequences w m
-  items-known = frequencies-known problem.hierarchy.links problem.hierarchy.items ends problem.sequences problem.ranking.frequencies whole.items whole.ranked whole.ranks.exact
-
-  -- a frequent pattern has items of the problem
-  frequent-within : (row : Row) → IsFrequent (data_of problem) row.pattern row.support → AllByRecursion (λ (t : Item). t.0 < problem.hierarchy.items) row.pattern
-  frequent-within row is =
-      AllByRecursion-weaker (IsFrequentItem problem.hierarchy.links problem.sequences problem.threshold) (λ (t : Item). t.0 < problem.hierarchy.items)
-      (λ v frequent. HasFrequency-within problem.hierarchy.links problem.hierarchy.items ends problem.sequences v frequent.frequency whole.items frequent.exact
-      (omega (arith, whole.least, frequent.enough)))
-      row.pattern
-      (frequent-items problem.hierarchy.links problem.sequences items-known problem.threshold (tree_of problem.transducer.expression) row.pattern row.support is.exact is.enough)
-
   module _ (seeds : List PartSeed) (are : AreSeeds problem seeds) (workers : ℕ) (some : 1 ≤ workers)
       (results : List (Result Done NoMemory)) (tried : AreTried problem seeds workers results) (all : Done) (gathered : AreGathered results all) where
     each-done : (k : ℕ) (done : Done) → slice_get gathered.found k ≡ Some done → IsDone problem seeds workers k done
@@ -57,10 +41,10 @@ module _ (problem : Problem) (whole : IsWhole problem)
     module _ (alive : (pivot : ℕ) → Contains (pivots_in seeds) pivot ↔ ((1 ≤ pivot) × IsAliveLabel (data_of problem) problem.ranking.order pivot [])) where
       -- THE ROWS are the frequent patterns
       pub mined-rows : AreFrequent (data_of problem) all.rows.items
-      mined-rows = rows-all (data_of problem) problem.ranking whole.ranks (pivots_in seeds) alive items-known all.rows.items all-found.0
+      mined-rows = rows-all (data_of problem) problem.ranking whole.ranks (pivots_in seeds) alive (items-known problem whole ends) all.rows.items all-found.0
 
       pub mined-items : (row : Row) → Contains all.rows.items row → AllByRecursion (λ (t : Item). t.0 < problem.hierarchy.items) row.pattern
-      mined-items row held = frequent-within row ((mined-rows.frequent row).0 held)
+      mined-items row held = frequent-within problem whole ends row ((mined-rows.frequent row).0 held)
 
       -- THE WORK is the number of the sets
       pub mined-work : IsAutomatonWork (data_of problem) problem.ranking.order (record { nodes = 0; parts = all.sets; candidates = 0 })

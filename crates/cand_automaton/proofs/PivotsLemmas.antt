@@ -17,7 +17,8 @@ use Rattle.search_tree.proofs.PivotLemmas.{pivot-same, place_of}
 use Rattle.search_tree.proofs.SearchAnswerLemmas.{frequent-ranks}
 use Rattle.automaton_model.specs.Groups.{AreRowsOfPivot}
 use Rattle.automaton_model.specs.Work.{CodeOfPart, IsCounted, IsAutomatonWork}
-use Rattle.cand_automaton.specs.Pivots.{HasPivotIn, AreRowsOfPivots, AreSetsOfPivots}
+use Rattle.pivot_partition.specs.Pivots.{HasPivotIn}
+use Rattle.cand_automaton.specs.Pivots.{AreRowsOfPivots, AreSetsOfPivots}
 
 module _ (d : Data Item) (order : List Item) where
   -- No pivots

@@ -1,8 +1,6 @@
 -- The state of a sequence's candidates, whatever pivot the part is that of.
 use Rattle.std.proofs.Common.{◌≡◌, ◌≢◌, ◌↔◌, ℕ, ◌≤◌, ◌<◌, Option, Some, List, [], ◌∷◌, length, refl, sym, ap, ◌∙◌, subst, arith}
-use Rattle.std.specs.Prelude.{IfSome, slice_get}
-use Rattle.std.proofs.lemmas.List.{length-map}
-use Rattle.std.proofs.lemmas.Option.{slice_get_within}
+use Rattle.std.specs.Prelude.{IfSome}
 use Rattle.mine_model.specs.declared.item.Item.{Item}
 use Rattle.mine_model.specs.Pivots.{IsWithin}
 use Rattle.mine_model.proofs.RankedLemmas.{ranked-length}
@@ -17,12 +15,12 @@ use Rattle.automaton_model.specs.Automata.{StateValue, Accepts}
 use Rattle.automaton_model.specs.Codes.{IsCodeOf}
 use Rattle.automaton_model.specs.Members.{IsPivotMember, IsPivotCode}
 use Rattle.automaton_model.proofs.AutomatonLemmas.{code-also}
-use Rattle.candidate_graph.specs.Graphs.{Node, Standpoint, points_of}
+use Rattle.candidate_graph.specs.Graphs.{Node}
 use Rattle.candidate_graph.specs.Paths.{Accepts as IsPath}
 use Rattle.graph_order.specs.Orders.{IsSomeGraph}
 use Rattle.candidate_states.specs.Roots.{IsRootOf}
 use Rattle.sequence_candidates.specs.Candidates.{AreCandidates}
-use Rattle.cand_automaton.specs.Roots.{IsRootFor, IsRootWithin, IsCodeWithin}
+use Rattle.cand_automaton.specs.Roots.{IsRootWithin, IsCodeWithin}
 
 -- the patterns within the bound are the candidates with the pivot
 member-within : (part : GridList) (items : List Item) (pivot : Option ℕ) → IfSome pivot (λ rank. 1 ≤ rank) → part.bound ≡ bound_of (length part.problem.ranking.order) pivot
@@ -66,23 +64,9 @@ pub code-within : (part : GridList) (items : List Item) (states : List StateValu
 code-within part items states root code is coded = λ pivot least bound.
     code-also (Accepts states root) (IsPivotMember (data_of part.problem) part.problem.ranking.order (pivot_of pivot) items) (is pivot least bound).language code coded
 
--- The nodes of the graph that was begun
-
--- a part, and nodes, under other names
-pub begun-are : (part later : GridList) (begun : Option ℕ) (index : ℕ) (nodes others : List Node) → later ≡ part → begun ≡ Some index → others ≡ nodes
-    → IfSome begun (λ i. AreCandidates later (items_at later i) nodes) → AreCandidates part (items_at part index) others
-begun-are part later begun index nodes others same is also are =
-    let here : AreCandidates later (items_at later index) nodes = subst (λ (o : Option ℕ). IfSome o (λ i. AreCandidates later (items_at later i) nodes)) is are in
-    let there : AreCandidates part (items_at part index) nodes = subst (λ (p : GridList). AreCandidates p (items_at p index) nodes) same here in
-    subst (AreCandidates part (items_at part index)) (sym also) there
-
+-- the nodes of a part are some graph
 pub some-graph : (part : GridList) (items : List Item) (nodes : List Node) → AreCandidates part items nodes → IsSomeGraph nodes
 some-graph part items nodes are = (are.courses, are.ranks, part.bound.need, are.graph)
-
-pub some-nodes : (part : GridList) (items : List Item) (nodes : List Node) → AreCandidates part items nodes → 0 < length nodes
-some-nodes part items nodes are =
-    let below : 0 < length (points_of nodes) = slice_get_within (points_of nodes) 0 are.root are.root_is in
-    omega (arith, below, length-map nodes (λ (node : Node). node.at))
 
 -- the code of the one sequence of a part
 pub code-alone : (problem : Problem) (part : GridList) (seq pivot : ℕ) → part.problem ≡ problem → part.bound ≡ bound_of (length problem.ranking.order) (Some pivot)

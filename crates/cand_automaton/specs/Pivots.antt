@@ -4,12 +4,8 @@ use Rattle.mine_model.specs.declared.item.Item.{Item}
 use Rattle.mine_model.specs.declared.row.Row.{Row}
 use Rattle.mine_model.specs.Answer.{Data, IsFrequent}
 use Rattle.mine_model.specs.Numbered.{PatternsDiffer}
-use Rattle.mine_model.specs.Pivots.{IsWithinPivot}
+use Rattle.pivot_partition.specs.Pivots.{HasPivotIn}
 use Rattle.automaton_model.specs.Work.{CodeOfPart, IsCounted}
-
--- the pivot of the items is one of these
-abbrev pub HasPivotIn : List Item → List ℕ → List Item → Type 0
-HasPivotIn order pivots items = (pivot : ℕ) × Contains pivots pivot × IsWithinPivot order pivot items
 
 -- the rows are the frequent patterns with these pivots, each once, in any order
 pub record AreRowsOfPivots (d : Data Item) (order : List Item) (pivots : List ℕ) (rows : List Row)

@@ -2,8 +2,7 @@
 use Rattle.std.specs.Prelude.{◌≡◌, ℕ, ◌≤◌, ◌<◌, Option, IfSome, List, length}
 use Rattle.mine_model.specs.declared.item.Item.{Item}
 use Rattle.mine_model.specs.Answer.{Data}
-use Rattle.mining_job.specs.declared.part_seed.PartSeed.{PartSeed}
-use Rattle.mining_job.specs.Problems.{Problem, data_of}
+use Rattle.mining_job.specs.Problems.{data_of}
 use Rattle.mining_job.specs.Parts.{pivot_of}
 use Rattle.sequence_grids.specs.Grids.{GridList}
 use Rattle.snapshot_project.specs.Snapshots.{bound_of}
@@ -30,11 +29,3 @@ IsCodeWithin part items code =
     (pivot : Option ℕ) → IfSome pivot (λ rank. 1 ≤ rank)
     → part.bound ≡ bound_of (length part.problem.ranking.order) pivot
     → IsPivotCode (data_of part.problem) part.problem.ranking.order (pivot_of pivot) code items
-
--- the part of the seed
-abbrev pub part_for : Problem → PartSeed → GridList
-part_for problem seed = record {
-  problem = problem;
-  bound = bound_of (length problem.ranking.order) seed.pivot;
-  sequences = seed.sequences.items;
-}

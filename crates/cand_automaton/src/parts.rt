@@ -10,7 +10,7 @@ ghost use Rattle.sequence_grids.specs.Grids.{items_at};
 ghost use Rattle.automaton_model.specs.Groups.{part_of, AreRowsOfPivot};
 ghost use Rattle.automaton_model.specs.Registry.{IsRegistry};
 ghost use Rattle.automaton_model.specs.Searches.{Load};
-ghost use Rattle.cand_automaton.specs.Roots.{part_for};
+ghost use Rattle.snapshot_project.specs.Snapshots.{part_for};
 ghost use Rattle.cand_automaton.specs.declared.alone.Alone.TheVariants.{Nothing};
 ghost use Rattle.cand_automaton.specs.Wholes.{IsWholeOf, IsKept};
 ghost use Rattle.cand_automaton.specs.Loads.{AreLoadsOf, AreLoadedWith};

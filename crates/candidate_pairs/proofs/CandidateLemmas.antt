@@ -1,8 +1,5 @@
 -- From lists of ranks to candidates.
-use Rattle.std.proofs.Common.{◌≡◌, ◌≢◌, ◌↔◌, ℕ, ◌<◌, Option, Some, None, List, [], ◌∷◌, length, map, refl, sym, ap, ◌∙◌, subst, arith}
-use Rattle.std.specs.Prelude.{IfSome}
-use Rattle.std.proofs.lemmas.List.{length-map}
-use Rattle.std.proofs.lemmas.Option.{slice_get_within}
+use Rattle.std.proofs.Common.{◌≡◌, ◌≢◌, ◌↔◌, ℕ, ◌<◌, None, List, [], ◌∷◌, length, map, refl, sym, ap, ◌∙◌, subst, arith}
 use Rattle.mine_model.specs.declared.item.Item.{Item}
 use Rattle.mine_model.specs.Answer.{Data}
 use Rattle.mine_model.specs.Candidates.{IsCandidate}
@@ -16,10 +13,10 @@ use Rattle.mine_model.proofs.RankedLemmas.{same_ranks, ranked-length}
 use Rattle.search_tree.proofs.SearchAnswerLemmas.{ranked-items, within-frequent, frequent-ranks, frequent-within}
 use Rattle.mining_job.specs.declared.bound.Bound.{Bound}
 use Rattle.mining_job.specs.Problems.{Problem, IsWhole, data_of}
-use Rattle.sequence_grids.specs.Grids.{GridList, items_at}
+use Rattle.sequence_grids.specs.Grids.{GridList}
 use Rattle.snapshot_project.specs.Snapshots.{bound_of}
 use Rattle.snapshot_project.specs.Extensions.{GeneratesWithin}
-use Rattle.candidate_graph.specs.Graphs.{Node, points_of}
+use Rattle.candidate_graph.specs.Graphs.{Node}
 use Rattle.candidate_graph.specs.Paths.{Accepts}
 use Rattle.graph_order.specs.Orders.{IsSomeGraph}
 use Rattle.sequence_candidates.specs.Candidates.{AreCandidates}
@@ -85,19 +82,6 @@ told-candidates problem part items nodes told same whole bound accepts (n, has, 
     let bound' : part.bound ≡ bound_of (length part.problem.ranking.order) None = bound ∙ ap (λ (p : Problem). bound_of (length p.ranking.order) None) (sym same) in
     (n, subst (λ (p : Problem). HasCandidates (data_of p) items n) same (lists-number part whole' bound' items (Accepts nodes 0) accepts n has), is)
 
--- ---- the nodes of the sequence that was begun
-
-pub begun-are : (part later : GridList) (begun : Option ℕ) (index : ℕ) (nodes others : List Node) → later ≡ part → begun ≡ Some index → others ≡ nodes
-    → IfSome begun (λ i. AreCandidates later (items_at later i) nodes) → AreCandidates part (items_at part index) others
-begun-are part later begun index nodes others same is also are =
-    let here : AreCandidates later (items_at later index) nodes = subst (λ (o : Option ℕ). IfSome o (λ i. AreCandidates later (items_at later i) nodes)) is are in
-    let there : AreCandidates part (items_at part index) nodes = subst (λ (p : GridList). AreCandidates p (items_at p index) nodes) same here in
-    subst (AreCandidates part (items_at part index)) (sym also) there
-
+-- the nodes are some graph
 pub some-graph : (part : GridList) (items : List Item) (nodes : List Node) → AreCandidates part items nodes → IsSomeGraph nodes
 some-graph part items nodes are = (are.courses, are.ranks, part.bound.need, are.graph)
-
-pub some-nodes : (part : GridList) (items : List Item) (nodes : List Node) → AreCandidates part items nodes → 0 < length nodes
-some-nodes part items nodes are =
-    let below : 0 < length (points_of nodes) = slice_get_within (points_of nodes) 0 are.root are.root_is in
-    omega (arith, below, length-map nodes (λ (node : Node). node.at))

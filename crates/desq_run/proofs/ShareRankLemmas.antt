@@ -17,12 +17,13 @@ use Rattle.mine_model.proofs.RankedLemmas.{item_rank, within-top}
 use Rattle.mine_model.proofs.AliveLemmas.{IsAlive-frequent, IsAlive-shorter}
 use Rattle.search_tree.proofs.SearchTreeLemmas.{IsAliveLabel-shorter}
 use Rattle.mining_job.specs.Problems.{Problem, data_of, IsWhole}
-use Rattle.search_engine.specs.Partition.{HasPivotAmong, IsPartsWork}
+use Rattle.search_engine.specs.Partition.{IsPartsWork}
 use Rattle.command_line.specs.declared.share.Share.{Share}
 use Rattle.split_merge.specs.Shares.{IsInShare, IsRankList, HasPlace, IsRankedTo, IsPivot}
 use Rattle.desq_run.specs.Parts.{HasItem, IsOfShare, IsShareWork}
 use Rattle.desq_run.specs.Inputs.{AreFound}
 use Rattle.search_tree.proofs.PartitionRankLemmas.{order-within, before, label-ranked, label-forth, label-back, one_top, one_list, item_at, items_of, IsItemLabel}
+use Rattle.pivot_partition.specs.Pivots.{HasPivotIn}
 
 to_place : (order : List Item) (v : Item) (rank : ℕ) → HasRank order v rank → HasPlace order v rank
 to_place order v rank has = (has.least, has.place)
@@ -74,7 +75,7 @@ module _ (names : List (List ℕ)) (d : Data Item) (ranking : Ranking) (ranks : 
   module _ (pivots : List ℕ) (exact : ArePivotsOfShare pivots) where
     -- a frequent pattern is of the share exactly where its pivot is one of these
     pub share-pattern : (row : Row) → IsFrequent d row.pattern row.support
-        → HasPivotAmong ranking.order pivots row.pattern ↔ IsOfShare share ranking.order row.pattern
+        → HasPivotIn ranking.order pivots row.pattern ↔ IsOfShare share ranking.order row.pattern
     share-pattern row frequent = (
       (λ (pivot, inside, is).
           let (alive, in_share) = (exact pivot).0 inside in
@@ -92,7 +93,7 @@ module _ (names : List (List ℕ)) (d : Data Item) (ranking : Ranking) (ranks : 
 
     -- THE ROWS of the search are the frequent patterns of the share
     pub share-rows : (rows : List Row)
-        → ((row : Row) → Contains rows row ↔ (IsFrequent d row.pattern row.support × HasPivotAmong ranking.order pivots row.pattern))
+        → ((row : Row) → Contains rows row ↔ (IsFrequent d row.pattern row.support × HasPivotIn ranking.order pivots row.pattern))
         → AreFound (IsNamedBefore names) (Some share) d rows
     share-rows rows found = (
       ranking.order,
@@ -179,7 +180,7 @@ module _ (problem : Problem) (whole : IsWhole problem)
   in_list = order-within (data_of problem) problem.ranking whole.ranks whole.least problem.hierarchy.items ends whole.items whole.ranked
 
   pub problem-share-rows : (rows : List Row)
-      → ((row : Row) → Contains rows row ↔ (IsFrequent (data_of problem) row.pattern row.support × HasPivotAmong problem.ranking.order pivots row.pattern))
+      → ((row : Row) → Contains rows row ↔ (IsFrequent (data_of problem) row.pattern row.support × HasPivotIn problem.ranking.order pivots row.pattern))
       → AreFound (IsNamedBefore names) (Some share) (data_of problem) rows
   problem-share-rows = share-rows names (data_of problem) problem.ranking whole.ranks ties in_list whole.least share pivots exact
 

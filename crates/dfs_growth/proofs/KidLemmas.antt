@@ -16,7 +16,8 @@ use Rattle.sequence_grids.specs.Grids.{GridList}
 use Rattle.mining_job.specs.Parts.{pivot_of, IsComplete}
 use Rattle.snapshot_project.specs.declared.next_rank.NextRank.{NextRank}
 use Rattle.snapshot_project.specs.Extensions.{sequences_of, GrowsBehind, CanFollow, AreNextRanks}
-use Rattle.dfs_growth.specs.Projections.{part_of, IsPartBy}
+use Rattle.snapshot_project.specs.Snapshots.{part_for}
+use Rattle.dfs_growth.specs.Projections.{IsPartBy}
 use Rattle.dfs_growth.proofs.PartLemmas.{for_part, Behind, part-counts, part-weighs, behind-any, grows-behind}
 
 abbrev rank_of : NextRank → ℕ
@@ -24,10 +25,10 @@ rank_of next = next.rank
 
 module _ (problem : Problem) (seed : PartSeed) (complete : IsComplete problem seed) (least : 1 ≤ problem.threshold) where
   -- a rank that can follow in sequences that weigh enough is that of an alive label
-  follows-alive : (ranks : List ℕ) (rank weight : ℕ) → CanFollow (part_of problem seed) ranks rank weight → problem.threshold ≤ weight
+  follows-alive : (ranks : List ℕ) (rank weight : ℕ) → CanFollow (part_for problem seed) ranks rank weight → problem.threshold ≤ weight
       → IsAliveLabel (data_of problem) problem.ranking.order (pivot_of seed.pivot) (ranks ++ rank ∷ [])
   follows-alive ranks rank weight counted enough =
-      let part = part_of problem seed in
+      let part = part_for problem seed in
       let Grows : List Item → Type 0 = GrowsBehind part (ranks ++ rank ∷ []) in
       let weigh : WeighAtLeast Grows (sequences_of part) 1 = (WeighAtLeast-counted Grows (sequences_of part) weight 1 counted).1 (omega arith) in
       let (some, held, (prefix, ranked, behind)) = WeighAtLeast-some Grows (sequences_of part) 1 (omega arith) weigh in
@@ -38,9 +39,9 @@ module _ (problem : Problem) (seed : PartSeed) (complete : IsComplete problem se
 
   -- the rank of an alive label can follow
   alive-follows : (ranks : List ℕ) → IsAliveLabel (data_of problem) problem.ranking.order (pivot_of seed.pivot) ranks
-      → WeighAtLeast (GrowsBehind (part_of problem seed) ranks) (sequences_of (part_of problem seed)) problem.threshold
+      → WeighAtLeast (GrowsBehind (part_for problem seed) ranks) (sequences_of (part_for problem seed)) problem.threshold
   alive-follows ranks alive =
-      let part = part_of problem seed in
+      let part = part_for problem seed in
       let Has : List Item → Type 0 = Behind problem seed complete alive.prefix in
       WeighAtLeast-weaker Has (GrowsBehind part ranks) (λ items. (grows-behind problem seed complete alive.prefix ranks alive.ranked items).1) (sequences_of part) problem.threshold
       (part-weighs problem seed complete Has (behind-any problem seed complete alive.prefix) problem.threshold alive.alive)

@@ -12,8 +12,9 @@ use Rattle.mining_job.specs.Problems.{Problem}
 use Rattle.sequence_grids.specs.Grids.{GridList}
 use Rattle.snapshot_project.specs.declared.next_rank.NextRank.{NextRank}
 use Rattle.snapshot_project.specs.Stands.{StandList, IsProjected}
+use Rattle.snapshot_project.specs.Snapshots.{part_for}
 use Rattle.dfs_growth.specs.Nodes.{Prefix, label_at, prefix_at, longer_by}
-use Rattle.dfs_growth.specs.Projections.{part_of, IsPartBy, IsProjection, IsRootOf}
+use Rattle.dfs_growth.specs.Projections.{IsPartBy, IsProjection, IsRootOf}
 
 pub problem-at : (problem : Problem) (label : List ℕ) → (prefix_at problem label).problem ≡ problem
 problem-at problem [] = refl
@@ -70,13 +71,13 @@ longer-projection problem label rank part list by_seed projected = record {
 
 -- the part of a root's seed, with what is told of the empty prefix
 pub root-projection : (problem : Problem) (label : List ℕ) (seed : PartSeed) (part : GridList) (list : StandList) → IsRootOf (prefix_at problem label) seed
-    → part ≡ part_of problem seed → ((least : ℕ) → IsProjected part least [] list) → IsProjection (prefix_at problem label) part list
+    → part ≡ part_for problem seed → ((least : ℕ) → IsProjected part least [] list) → IsProjection (prefix_at problem label) part list
 root-projection problem label seed part list root is start = record {
   part_by = record {
     seed = seed;
     complete = root.complete;
     pivot_is = root.pivot_is;
-    part_is = is ∙ ap (λ (p : Problem). part_of p seed) (sym (problem-at problem label));
+    part_is = is ∙ ap (λ (p : Problem). part_for p seed) (sym (problem-at problem label));
   };
   projected = subst (λ ranks. IsProjected part (prefix_at problem label).problem.threshold ranks list) (sym root.empty) (start (prefix_at problem label).problem.threshold);
 }

@@ -16,15 +16,15 @@ use Rattle.mining_job.specs.declared.part_seed.PartSeed.{PartSeed}
 use Rattle.mining_job.specs.Problems.{Problem, data_of, items_of}
 use Rattle.sequence_grids.specs.Grids.{GridList}
 use Rattle.mining_job.specs.Parts.{pivot_of, IsComplete}
-use Rattle.snapshot_project.specs.Snapshots.{bound_of}
+use Rattle.snapshot_project.specs.Snapshots.{bound_of, part_for}
 use Rattle.snapshot_project.specs.Extensions.{sequences_of, GrowsBehind, GeneratesWithin}
 use Rattle.snapshot_project.specs.Rooms.{RoomValue}
 use Rattle.snapshot_project.proofs.BoundLemmas.{within-pivot}
-use Rattle.dfs_growth.specs.Projections.{part_of, IsPartBy, IsRoomFor}
+use Rattle.dfs_growth.specs.Projections.{IsPartBy, IsRoomFor}
 
 -- what holds of the parts of complete seeds holds of this one
 pub for_part : (problem : Problem) (pivot : ℕ) (part : GridList) → IsPartBy problem pivot part → (P : ℕ → GridList → Type 0)
-    → ((seed : PartSeed) → IsComplete problem seed → P (pivot_of seed.pivot) (part_of problem seed)) → P pivot part
+    → ((seed : PartSeed) → IsComplete problem seed → P (pivot_of seed.pivot) (part_for problem seed)) → P pivot part
 for_part problem pivot part is P each =
     subst (λ q. P q part) is.pivot_is (subst (P (pivot_of is.seed.pivot)) (sym is.part_is) (each is.seed is.complete))
 
@@ -45,11 +45,11 @@ module _ (problem : Problem) (seed : PartSeed) (complete : IsComplete problem se
 
   -- a property that only sequences with such a pattern have is counted in the part as in all sequences
   pub part-counts : (Has : List Item → Type 0) → ((items : List Item) → Has items → Behind [] items)
-      → (n : ℕ) → Counts Has (sequences_of (part_of problem seed)) n ↔ Counts Has problem.sequences n
+      → (n : ℕ) → Counts Has (sequences_of (part_for problem seed)) n ↔ Counts Has problem.sequences n
   part-counts Has follows n = Counts-part Has problem.sequences seed.sequences.items complete.rising within (held Has follows) n
 
   pub part-weighs : (Has : List Item → Type 0) → ((items : List Item) → Has items → Behind [] items)
-      → (m : ℕ) → WeighAtLeast Has problem.sequences m → WeighAtLeast Has (sequences_of (part_of problem seed)) m
+      → (m : ℕ) → WeighAtLeast Has problem.sequences m → WeighAtLeast Has (sequences_of (part_for problem seed)) m
   part-weighs Has follows m = WeighAtLeast-part Has problem.sequences seed.sequences.items complete.rising within (held Has follows) m
 
   -- a pattern that begins with the prefix is a pattern
@@ -58,18 +58,18 @@ module _ (problem : Problem) (seed : PartSeed) (complete : IsComplete problem se
 
   -- where items grow behind ranks, a pattern begins with the items that have these ranks
   pub grows-behind : (prefix : List Item) (ranks : List ℕ) → AreRanked problem.ranking.order prefix ranks
-      → (items : List Item) → GrowsBehind (part_of problem seed) ranks items ↔ Behind prefix items
+      → (items : List Item) → GrowsBehind (part_for problem seed) ranks items ↔ Behind prefix items
   grows-behind prefix ranks ranked items = (
     (λ (other, also, behind).
         let same : other ≡ prefix = ranked-same problem.ranking.order other prefix ranks also ranked in
-        let (more, pattern, inside) = subst (λ p. HasPatternBehind (data_of problem) (IsWithin problem.ranking.order (part_of problem seed).bound.top (part_of problem seed).bound.need) p items) same behind in
+        let (more, pattern, inside) = subst (λ p. HasPatternBehind (data_of problem) (IsWithin problem.ranking.order (part_for problem seed).bound.top (part_for problem seed).bound.need) p items) same behind in
         (more, pattern, (within-pivot problem.ranking.order seed.pivot complete.least (prefix ++ more)).0 inside)),
     (λ (more, pattern, inside). (prefix, ranked, (more, pattern, (within-pivot problem.ranking.order seed.pivot complete.least (prefix ++ more)).1 inside))),
   )
 
   -- items generate the prefix with these ranks where it is a pattern of theirs
   pub generates-within : (pattern : List Item) (ranks : List ℕ) → AreRanked problem.ranking.order pattern ranks → Within pattern
-      → (items : List Item) → GeneratesWithin (part_of problem seed) ranks items ↔ IsPatternOf problem.hierarchy.links (tree_of problem.transducer.expression) items pattern
+      → (items : List Item) → GeneratesWithin (part_for problem seed) ranks items ↔ IsPatternOf problem.hierarchy.links (tree_of problem.transducer.expression) items pattern
   generates-within pattern ranks ranked inside items = (
     (λ (other, also, is, bounded). subst (IsPatternOf problem.hierarchy.links (tree_of problem.transducer.expression) items) (ranked-same problem.ranking.order other pattern ranks also ranked) is),
     (λ is. (pattern, ranked, is, (within-pivot problem.ranking.order seed.pivot complete.least pattern).1 inside)),
@@ -91,7 +91,7 @@ module _ (problem : Problem) where
       (λ i held. let (below, has) = (there.exact i).0 held in
       (here.exact i).1 (below, subst (λ (p : ℕ). HasPatternBehind (data_of problem) (IsWithinPivot problem.ranking.order p) [] (items_of problem i)) (sym bound) has))
 
-  same-seeds : (one other : PartSeed) → IsComplete problem one → IsComplete problem other → one.pivot ≡ other.pivot → part_of problem one ≡ part_of problem other
+  same-seeds : (one other : PartSeed) → IsComplete problem one → IsComplete problem other → one.pivot ≡ other.pivot → part_for problem one ≡ part_for problem other
   same-seeds one other here there same =
       let sequences = same-sequences one other here there same in
       λ i. record { problem = problem; bound = bound_of (length problem.ranking.order) (same i); sequences = sequences i }

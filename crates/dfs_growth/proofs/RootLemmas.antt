@@ -22,10 +22,10 @@ use Rattle.mining_job.specs.Problems.{Problem, IsWhole, data_of, items_of}
 use Rattle.sequence_grids.specs.Grids.{GridList, Completes}
 use Rattle.mining_job.specs.Parts.{pivot_of, IsComplete}
 use Rattle.snapshot_project.specs.Extensions.{sequences_of}
-use Rattle.snapshot_project.specs.Snapshots.{bound_of}
+use Rattle.snapshot_project.specs.Snapshots.{bound_of, part_for}
 use Rattle.snapshot_project.specs.Terrains.{AreAll, IsWholePart}
 use Rattle.dfs_growth.specs.Nodes.{Prefix, label_at, prefix_at}
-use Rattle.dfs_growth.specs.Projections.{part_of, IsPartBy}
+use Rattle.dfs_growth.specs.Projections.{IsPartBy}
 use Rattle.dfs_growth.proofs.PartLemmas.{Behind, part-counts}
 
 -- Roots
@@ -60,7 +60,7 @@ module _ (problem : Problem) (seed : PartSeed) (complete : IsComplete problem se
   root-weighs =
       let Has : List Item → Type 0 = Behind problem seed complete [] in
       let weight = sum_by (λ i. (sequence_at problem.sequences i).weight) seed.sequences.items in
-      let here : Counts Has (sequences_of (part_of problem seed)) weight = counts-all Has (λ i. sequence_at problem.sequences i) seed.sequences.items (λ i held. ((complete.exact i).0 held).1) in
+      let here : Counts Has (sequences_of (part_for problem seed)) weight = counts-all Has (λ i. sequence_at problem.sequences i) seed.sequences.items (λ i held. ((complete.exact i).0 held).1) in
       let all : Counts Has problem.sequences weight = (part-counts problem seed complete Has (λ items has. has) weight).0 here in
       let either = IsAlive-counted (data_of problem) (IsWithinPivot problem.ranking.order (pivot_of seed.pivot)) [] weight all in (
         (λ alive. either.0 (subst (IsAlive (data_of problem) (IsWithinPivot problem.ranking.order (pivot_of seed.pivot))) (ranked-same problem.ranking.order alive.prefix [] [] alive.ranked tt) alive.alive)),

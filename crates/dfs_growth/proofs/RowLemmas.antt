@@ -17,7 +17,8 @@ use Rattle.sequence_grids.specs.Grids.{GridList}
 use Rattle.mining_job.specs.Parts.{IsComplete}
 use Rattle.snapshot_project.specs.Extensions.{sequences_of, GeneratesWithin}
 use Rattle.snapshot_project.proofs.BoundLemmas.{within-pivot}
-use Rattle.dfs_growth.specs.Projections.{part_of, IsPartBy}
+use Rattle.snapshot_project.specs.Snapshots.{part_for}
+use Rattle.dfs_growth.specs.Projections.{IsPartBy}
 use Rattle.dfs_growth.proofs.PartLemmas.{for_part, Within, part-counts, generates-within}
 
 module _ (problem : Problem) (seed : PartSeed) (complete : IsComplete problem seed) where
@@ -26,18 +27,18 @@ module _ (problem : Problem) (seed : PartSeed) (complete : IsComplete problem se
 
   -- what the part counts of a pattern within the bound is its support
   counted-pattern : (pattern : List Item) (ranks : List ℕ) (n : ℕ) → AreRanked problem.ranking.order pattern ranks → Within problem seed complete pattern
-      → Counts (GeneratesWithin (part_of problem seed) ranks) (sequences_of (part_of problem seed)) n → Counts (IsPattern pattern) problem.sequences n
+      → Counts (GeneratesWithin (part_for problem seed) ranks) (sequences_of (part_for problem seed)) n → Counts (IsPattern pattern) problem.sequences n
   counted-pattern pattern ranks n ranked within counted =
-      let part = part_of problem seed in
+      let part = part_for problem seed in
       (part-counts problem seed complete (IsPattern pattern) (λ items is. (pattern, is, within)) n).0
       (Counts-by (GeneratesWithin part ranks) (IsPattern pattern) (generates-within problem seed complete pattern ranks ranked within) (sequences_of part) n counted)
 
   -- where something is counted, the pattern with these ranks is within the bound
   counted-within : (pattern : List Item) (ranks : List ℕ) (n : ℕ) → 1 ≤ n → AreRanked problem.ranking.order pattern ranks
-      → Counts (GeneratesWithin (part_of problem seed) ranks) (sequences_of (part_of problem seed)) n
+      → Counts (GeneratesWithin (part_for problem seed) ranks) (sequences_of (part_for problem seed)) n
       → (pattern ≢ []) × Within problem seed complete pattern
   counted-within pattern ranks n some ranked counted =
-      let part = part_of problem seed in
+      let part = part_for problem seed in
       let Has : List Item → Type 0 = GeneratesWithin part ranks in
       let (s, held, (other, also, is, inside)) = WeighAtLeast-some Has (sequences_of part) 1 (omega arith) ((WeighAtLeast-counted Has (sequences_of part) n 1 counted).1 some) in
       let same : other ≡ pattern = ranked-same problem.ranking.order other pattern ranks also ranked in (

@@ -7,27 +7,19 @@ use Rattle.mining_job.specs.Problems.{Problem}
 use Rattle.sequence_grids.specs.Grids.{GridList}
 use Rattle.sequence_grids.specs.Wholes.{IsWholeAlphabet}
 use Rattle.mining_job.specs.Parts.{pivot_of, IsComplete}
-use Rattle.snapshot_project.specs.Snapshots.{bound_of}
+use Rattle.snapshot_project.specs.Snapshots.{part_for}
 use Rattle.snapshot_project.specs.Rooms.{RoomValue}
 use Rattle.snapshot_project.specs.Stands.{StandList, IsProjected}
 use Rattle.dfs_growth.specs.declared.state.State.{State}
 use Rattle.dfs_growth.specs.declared.state.State.TheVariants.{Root, Projected}
 use Rattle.dfs_growth.specs.Nodes.{Prefix, prefix_at}
 
--- the part of the sequences of the seed
-abbrev pub part_of : Problem → PartSeed → GridList
-part_of problem seed = record {
-  problem = problem;
-  bound = bound_of (length problem.ranking.order) seed.pivot;
-  sequences = seed.sequences.items;
-}
-
 -- the part of a complete seed with the pivot, or 0
 pub record IsPartBy (problem : Problem) (pivot : ℕ) (part : GridList) : Type 0 where
   pub seed : PartSeed
   pub complete : IsComplete problem seed
   pub pivot_is : pivot_of seed.pivot ≡ pivot
-  pub part_is : part ≡ part_of problem seed
+  pub part_is : part ≡ part_for problem seed
 
 -- there is room for all ranks of the problem, and the part that is known is one of it
 pub record IsRoomFor (problem : Problem) (room : RoomValue) : Type 0 where

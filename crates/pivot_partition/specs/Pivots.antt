@@ -29,3 +29,7 @@ pub record ArePivots (problem : Problem) (items : List Item) (pivots : List ℕ)
 -- the pivots of seeds, 0 for none
 abbrev pub pivots_in : List PartSeed → List ℕ
 pivots_in seeds = map (λ seed. pivot_of seed.pivot) seeds
+
+-- the pivot of the items is one of these
+abbrev pub HasPivotIn : List Item → List ℕ → List Item → Type 0
+HasPivotIn order pivots items = (pivot : ℕ) × Contains pivots pivot × IsWithinPivot order pivot items

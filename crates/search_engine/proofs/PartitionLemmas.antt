@@ -22,8 +22,9 @@ use Rattle.search_tree.proofs.PivotLemmas.{pivot-same, place_of}
 use Rattle.search_tree.proofs.SearchAnswerLemmas.{frequent-ranks}
 use Rattle.search_tree.proofs.SearchTreeLemmas.{IsAliveLabel-shorter, IsRowOf-same, search-members, search-once}
 use Rattle.search_tree.specs.RankedPartition.{AreAlivePivots, IsRankedPartitionWork}
-use Rattle.search_engine.specs.Partition.{HasPivotAmong, IsPartsWork}
+use Rattle.search_engine.specs.Partition.{IsPartsWork}
 use Rattle.sequence_grids.proofs.KindLemmas.{once_by_rising}
+use Rattle.pivot_partition.specs.Pivots.{HasPivotIn}
 
 -- one root for each pivot
 roots-long : (d : Data Item) (order : List Item) (some : List ℕ) (roots : List (List ℕ)) → AreRootsOf d order some roots
@@ -61,7 +62,7 @@ module _ (d : Data Item) (ranking : Ranking) (are : AreRanks d.links d.sequences
       differ (is_first ∙ (λ i. label_of (top i) (one i)) ∙ sym is_second))
       apart
 
-  part-back : ((w : Item) → (m : ℕ) × HasFrequency d.links d.sequences w m) → (row : Row) → IsFrequent d row.pattern row.support → HasPivotAmong ranking.order pivots row.pattern
+  part-back : ((w : Item) → (m : ℕ) × HasFrequency d.links d.sequences w m) → (row : Row) → IsFrequent d row.pattern row.support → HasPivotIn ranking.order pivots row.pattern
       → Contains (filter_map tree.row labels) row
   part-back known row frequent (pivot, inside, within) =
       let items = frequent-items d.links d.sequences known d.threshold d.expression row.pattern row.support frequent.exact frequent.enough in
@@ -78,7 +79,7 @@ module _ (d : Data Item) (ranking : Ranking) (are : AreRanks d.links d.sequences
 
   -- THE ROWS are the frequent patterns of these pivots
   pub parts-rows : ((w : Item) → (m : ℕ) × HasFrequency d.links d.sequences w m) → (row : Row) → Contains (filter_map tree.row labels) row
-      ↔ (IsFrequent d row.pattern row.support × HasPivotAmong ranking.order pivots row.pattern)
+      ↔ (IsFrequent d row.pattern row.support × HasPivotIn ranking.order pivots row.pattern)
   parts-rows known row = (
     (λ held.
         let (label, inside, gives) = filter_map-forth tree.row labels row held in
@@ -102,7 +103,7 @@ module _ (d : Data Item) (ranking : Ranking) (are : AreRanks d.links d.sequences
 module _ (d : Data Item) (ranking : Ranking) (are : AreRanks d.links d.sequences d.threshold ranking) (pivots : List ℕ) (alive_are : AreAlivePivots d ranking.order pivots) where
   -- the rows of all alive pivots are the frequent patterns
   pub all-parts-rows : ((w : Item) → (m : ℕ) × HasFrequency d.links d.sequences w m) → (rows : List Row) → PatternsDiffer rows
-      → ((row : Row) → Contains rows row ↔ (IsFrequent d row.pattern row.support × HasPivotAmong ranking.order pivots row.pattern)) → AreFrequent d rows
+      → ((row : Row) → Contains rows row ↔ (IsFrequent d row.pattern row.support × HasPivotIn ranking.order pivots row.pattern)) → AreFrequent d rows
   all-parts-rows known rows differ exact = record {
     once = differ;
     frequent = λ row. (

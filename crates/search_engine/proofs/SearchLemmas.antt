@@ -4,30 +4,29 @@ use Rattle.std.specs.List.{AllByRecursion, AllPairs, Contains, filter_map}
 use Rattle.mine_model.specs.declared.item.Item.{Item}
 use Rattle.mine_model.specs.declared.mined.Work.{Work}
 use Rattle.mine_model.specs.declared.row.Row.{Row}
-use Rattle.mine_model.specs.Candidates.{IsFrequentItem}
 use Rattle.search_tree.specs.Cover.{Covers, down_to}
 use Rattle.mine_model.specs.Growth.{HasPatternBehind}
 use Rattle.mine_model.specs.Answer.{IsFrequent}
-use Rattle.mine_model.specs.Numbered.{tree_of as expression_of, PatternsDiffer, AreFrequent}
+use Rattle.mine_model.specs.Numbered.{PatternsDiffer, AreFrequent}
 use Rattle.mine_model.specs.Pivots.{IsWithinPivot, IsAliveLabel}
 use Rattle.search_tree.specs.SearchTree.{IsRowOf, AreKids, AreRootsOf, IsSearchTree}
 use Rattle.mine_model.specs.Support.{HasFrequency}
-use Rattle.mine_model.proofs.FrequencyLemmas.{frequent-items, frequencies-known, HasFrequency-within}
-use Rattle.mine_model.proofs.ListLemmas.{AllByRecursion-weaker}
 use Rattle.search_tree.proofs.SearchAnswerLemmas.{search-rows, search-work}
 use Rattle.search_tree.proofs.SearchTreeLemmas.{AreKids-same, IsRowOf-same, AreRootsOf-same, search-covers, longest, longest-all}
 use Rattle.mining_job.specs.declared.part_seed.PartSeed.{PartSeed}
 use Rattle.mining_job.specs.Parts.{pivot_of, IsComplete}
 use Rattle.mining_job.specs.Problems.{Problem, IsWhole, data_of, items_of}
+use Rattle.mining_job.proofs.ItemLemmas.{items-known, frequent-within}
 use Rattle.dfs_growth.specs.Nodes.{Prefix, label_at}
 use Rattle.dfs_growth.specs.Tree.{search_tree, roots_by, kids_by, row_by}
 use Rattle.dfs_growth.proofs.TreeLemmas.{search_tree-is}
 use Rattle.result_board.specs.Board.{HasRow}
 use Rattle.search_engine.specs.declared.division.Division.{Division}
 use Rattle.search_engine.specs.declared.division.Division.TheVariants.{Whole, ByPivots}
-use Rattle.search_engine.specs.Partition.{HasPivotAmong, IsPartsWork, ArePivotsFor, IsWorkFor}
+use Rattle.search_engine.specs.Partition.{IsPartsWork, ArePivotsFor, IsWorkFor}
 use Rattle.search_engine.specs.Searches.{Search, tree_of}
 use Rattle.search_engine.proofs.PartitionLemmas.{parts-once, parts-rows, parts-work, partition-rows, partition-work}
+use Rattle.pivot_partition.specs.Pivots.{HasPivotIn}
 
 -- a seed with the pivot takes the sequence
 abbrev Takes : Problem → Option ℕ → ℕ → Type 0
@@ -83,22 +82,6 @@ walks-rows problem whole search same (pivot ∷ ranks) long =
     subst (λ (p : Problem). IsRowOf (data_of problem) problem.ranking.order pivot ranks (row_by p (pivot ∷ ranks))) (sym same)
     ((search_tree-is problem whole []).row pivot ranks)
 
--- The items of a problem whose links lead to its items alone
-
-module _ (problem : Problem) (whole : IsWhole problem)
-    (ends : All (λ link. (link.child.0 < problem.hierarchy.items) × (link.parent.0 < problem.hierarchy.items)) problem.hierarchy.links) where
-  pub items-known : (w : Item) → (m : ℕ) × HasFrequency problem.hierarchy.links problem.sequences w m
-  items-known = frequencies-known problem.hierarchy.links problem.hierarchy.items ends problem.sequences problem.ranking.frequencies whole.items whole.ranked whole.ranks.exact
-
-  -- a frequent pattern has items of the problem
-  pub frequent-within : (row : Row) → IsFrequent (data_of problem) row.pattern row.support → AllByRecursion (λ (t : Item). t.0 < problem.hierarchy.items) row.pattern
-  frequent-within row is =
-      AllByRecursion-weaker (IsFrequentItem problem.hierarchy.links problem.sequences problem.threshold) (λ (t : Item). t.0 < problem.hierarchy.items)
-      (λ v frequent. HasFrequency-within problem.hierarchy.links problem.hierarchy.items ends problem.sequences v frequent.frequency whole.items frequent.exact
-      (omega (arith, whole.least, frequent.enough)))
-      row.pattern
-      (frequent-items problem.hierarchy.links problem.sequences items-known problem.threshold (expression_of problem.transducer.expression) row.pattern row.support is.exact is.enough)
-
 -- a search of the problem, split by pivots or not
 module _ (problem : Problem) (whole : IsWhole problem) (search : Search) (same : search.problem ≡ problem) where
   pub walks-tree : IsSearchTree (data_of problem) problem.ranking.order search.pivots (tree_of search)
@@ -152,7 +135,7 @@ module _ (problem : Problem) (whole : IsWhole problem) (search : Search) (same :
     walks-parts-once = subst PatternsDiffer (sym are) (parts-once (data_of problem) problem.ranking whole.ranks pivots rising each (tree_of search) parts-tree labels covers)
 
     pub walks-parts-rows : ((w : Item) → (m : ℕ) × HasFrequency problem.hierarchy.links problem.sequences w m) → (row : Row) → Contains rows row
-        ↔ (IsFrequent (data_of problem) row.pattern row.support × HasPivotAmong problem.ranking.order pivots row.pattern)
+        ↔ (IsFrequent (data_of problem) row.pattern row.support × HasPivotIn problem.ranking.order pivots row.pattern)
     walks-parts-rows known row =
-        subst (λ (l : List Row). Contains l row ↔ (IsFrequent (data_of problem) row.pattern row.support × HasPivotAmong problem.ranking.order pivots row.pattern)) (sym are)
+        subst (λ (l : List Row). Contains l row ↔ (IsFrequent (data_of problem) row.pattern row.support × HasPivotIn problem.ranking.order pivots row.pattern)) (sym are)
         (parts-rows (data_of problem) problem.ranking whole.ranks pivots rising each (tree_of search) parts-tree labels covers known row)

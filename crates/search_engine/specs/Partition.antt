@@ -4,14 +4,10 @@ use Rattle.mine_model.specs.declared.item.Item.{Item}
 use Rattle.mine_model.specs.declared.mined.Work.{Work}
 use Rattle.mine_model.specs.Answer.{Data}
 use Rattle.mine_model.specs.Growth.{IsSearchWork}
-use Rattle.mine_model.specs.Pivots.{label_of, IsWithinPivot, IsAliveLabel}
+use Rattle.mine_model.specs.Pivots.{label_of, IsAliveLabel}
 use Rattle.search_tree.specs.RankedPartition.{AreAlivePivots, IsRankedPartitionWork}
 use Rattle.search_engine.specs.declared.division.Division.{Division}
 use Rattle.search_engine.specs.declared.division.Division.TheVariants.{Whole, ByPivots}
-
--- the pivot of the items is one of these
-abbrev pub HasPivotAmong : List Item → List ℕ → List Item → Type 0
-HasPivotAmong order pivots items = (pivot : ℕ) × Contains pivots pivot × IsWithinPivot order pivot items
 
 -- the work of a search by these pivots, all alive: its nodes are their alive labels, and each has a part
 pub record IsPartsWork (d : Data Item) (order : List Item) (pivots : List ℕ) (work : Work) : Type 0 where

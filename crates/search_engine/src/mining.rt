@@ -10,9 +10,9 @@ ghost use Rattle.mine_model.specs.Numbered.{PatternsDiffer, AreFrequent};
 ghost use Rattle.mine_model.specs.Pivots.{IsAliveLabel};
 ghost use Rattle.mining_job.specs.Problems.{data_of};
 ghost use Rattle.mining_job.specs.Parts.{IsComplete};
-ghost use Rattle.pivot_partition.specs.Pivots.{pivots_in};
+ghost use Rattle.pivot_partition.specs.Pivots.{pivots_in, HasPivotIn};
 ghost use Rattle.dfs_growth.specs.Nodes.{Prefix, label_at};
-ghost use Rattle.search_engine.specs.Partition.{HasPivotAmong, IsPartsWork, IsWorkFor};
+ghost use Rattle.search_engine.specs.Partition.{IsPartsWork, IsWorkFor};
 ghost use Rattle.search_engine.specs.Searches.{tree_of};
 
 use super::division::Division;
@@ -83,7 +83,7 @@ pub fn mine_parts<R: Threads + Wait + Sync, G: Gate>(
     ensures once { IfOk result (λ mined. PatternsDiffer mined.rows.items) }
     ensures rows { IfOk result (λ mined. (row : Row) → Contains mined.rows.items row
         ↔ (IsFrequent (data_of job.now) row.pattern row.support
-        × HasPivotAmong job.now.ranking.order (pivots_in seeds.items) row.pattern)) }
+        × HasPivotIn job.now.ranking.order (pivots_in seeds.items) row.pattern)) }
     ensures items { IfOk result (λ mined. (row : Row) → Contains mined.rows.items row
         → AllByRecursion (λ t. t.0 < job.now.hierarchy.items) row.pattern) }
     ensures work { IfOk result (λ mined.

@@ -2,18 +2,21 @@
 use Rattle.std.proofs.Common.{◌≡◌, ℕ, ◌≤◌, ◌<◌, Bool, true, Option, Some, None, List, [], ◌∷◌, length, refl, sym, ap, ◌∙◌, subst, arith}
 use Rattle.std.specs.Prelude.{IfSome}
 use Rattle.std.specs.List.{slice_get}
+use Rattle.std.proofs.lemmas.List.{length-map}
 use Rattle.std.proofs.lemmas.Option.{same_Some, slice_get_within}
+use Rattle.mine_model.specs.declared.item.Item.{Item}
 use Rattle.mining_job.specs.declared.bound.Bound.{Bound}
 use Rattle.mining_job.specs.Problems.{Problem, IsWhole}
-use Rattle.sequence_grids.specs.Grids.{GridList}
+use Rattle.sequence_grids.specs.Grids.{GridList, items_at}
 use Rattle.stand_sums.specs.Writings.{Ranks}
 use Rattle.candidate_graph.specs.Courses.{Courses, course_in, AreStandsOn}
-use Rattle.candidate_graph.specs.Graphs.{Node, IsGraph, IsExpanded, IsWhole as IsAll, Grows}
+use Rattle.candidate_graph.specs.Graphs.{Node, points_of, IsGraph, IsExpanded, IsWhole as IsAll, Grows}
 use Rattle.place_records.specs.Records.{start_of}
 use Rattle.snapshot_project.specs.Snapshots.{IsPart}
 use Rattle.sequence_candidates.specs.declared.terrain.Terrain.{Terrain}
 use Rattle.sequence_candidates.specs.declared.terrain.AnyTerrain.{AnyTerrain}
 use Rattle.sequence_candidates.specs.declared.terrain.AnyTerrain.TheVariants.{Unknown, One, Four, Wide}
+use Rattle.sequence_candidates.specs.Candidates.{AreCandidates}
 use Rattle.sequence_candidates.specs.Terrains.{seen_first, root_at, IsTerrain, IsTerrainOf, IsBegunOn, IsBegunOver, IsOn, IsKept, AreStarts}
 use Rattle.sequence_candidates.proofs.StartLemmas.{starts-none}
 use Rattle.sequence_candidates.proofs.ExpandLemmas.{root-begun}
@@ -168,3 +171,18 @@ all-expanded nodes count few each number node there =
     let inside : number < length nodes = slice_get_within nodes number node there in
     let (other, edges, at, known) = each number (omega (arith, inside, few)) in
     (edges, subst (λ (n : Node). n.edges ≡ Some edges) (same_Some other node (sym at ∙ there)) known)
+
+-- The nodes of the sequence that was begun
+
+-- a part, and nodes, under other names
+pub begun-are : (part later : GridList) (begun : Option ℕ) (index : ℕ) (nodes others : List Node) → later ≡ part → begun ≡ Some index → others ≡ nodes
+    → IfSome begun (λ i. AreCandidates later (items_at later i) nodes) → AreCandidates part (items_at part index) others
+begun-are part later begun index nodes others same is also are =
+    let here : AreCandidates later (items_at later index) nodes = subst (λ (o : Option ℕ). IfSome o (λ i. AreCandidates later (items_at later i) nodes)) is are in
+    let there : AreCandidates part (items_at part index) nodes = subst (λ (p : GridList). AreCandidates p (items_at p index) nodes) same here in
+    subst (AreCandidates part (items_at part index)) (sym also) there
+
+pub some-nodes : (part : GridList) (items : List Item) (nodes : List Node) → AreCandidates part items nodes → 0 < length nodes
+some-nodes part items nodes are =
+    let below : 0 < length (points_of nodes) = slice_get_within (points_of nodes) 0 are.root are.root_is in
+    omega (arith, below, length-map nodes (λ (node : Node). node.at))

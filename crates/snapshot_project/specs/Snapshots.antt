@@ -5,6 +5,7 @@ use Rattle.mine_model.specs.declared.item.Item.{Item}
 use Rattle.mine_model.specs.Ranks.{AreRanked}
 use Rattle.fst_compile.specs.Transducer.{IsPath}
 use Rattle.mining_job.specs.declared.bound.Bound.{Bound}
+use Rattle.mining_job.specs.declared.part_seed.PartSeed.{PartSeed}
 use Rattle.mining_job.specs.Problems.{Problem, IsWhole, items_of}
 use Rattle.sequence_grids.specs.Grids.{GridList, Completes, Continues, IsAllowed, HoldsNeeded}
 use Rattle.snapshot_project.specs.declared.snapshot.Snapshot.{Snapshot}
@@ -107,3 +108,11 @@ pub record IsPart (part : GridList) : Type 0 where
 abbrev pub bound_of : ℕ → Option ℕ → Bound
 bound_of ranks None = record { top = ranks; need = None }
 bound_of ranks (Some pivot) = record { top = pivot; need = Some pivot }
+
+-- the part of the sequences of a seed
+abbrev pub part_for : Problem → PartSeed → GridList
+part_for problem seed = record {
+  problem = problem;
+  bound = bound_of (length problem.ranking.order) seed.pivot;
+  sequences = seed.sequences.items;
+}

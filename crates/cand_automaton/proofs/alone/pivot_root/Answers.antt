@@ -7,7 +7,8 @@ use Rattle.candidate_states.specs.Roots.{IsPivotRootOf}
 use Rattle.graph_order.specs.Orders.{AreInOrder}
 use Rattle.cand_automaton.specs.Roots.{IsRootFor}
 use Rattle.cand_automaton.specs.Wholes.{part_alone}
-use Rattle.cand_automaton.proofs.RootLemmas.{begun-are, some-graph, some-nodes}
+use Rattle.sequence_candidates.proofs.KeptLemmas.{begun-are, some-nodes}
+use Rattle.cand_automaton.proofs.RootLemmas.{some-graph}
 use Rattle.cand_automaton.proofs.AloneLemmas.{root-alone}
 use Rattle.cand_automaton.proofs.alone.pivot_root.Goals as goal
 

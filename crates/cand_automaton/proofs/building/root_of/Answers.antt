@@ -5,7 +5,8 @@ use Rattle.candidate_graph.specs.Paths.{Accepts}
 use Rattle.sequence_grids.specs.Grids.{items_at}
 use Rattle.candidate_states.specs.Roots.{IsRootOf}
 use Rattle.cand_automaton.specs.Roots.{IsRootWithin}
-use Rattle.cand_automaton.proofs.RootLemmas.{begun-are, some-graph, some-nodes, root-within}
+use Rattle.sequence_candidates.proofs.KeptLemmas.{begun-are, some-nodes}
+use Rattle.cand_automaton.proofs.RootLemmas.{some-graph, root-within}
 use Rattle.cand_automaton.proofs.building.root_of.Goals as goal
 
 pub root_state-requires-clause-graph : goal.root_state-requires-clause-graph

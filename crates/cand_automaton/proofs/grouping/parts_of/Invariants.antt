@@ -4,7 +4,7 @@ use Rattle.mining_job.specs.Problems.{data_of}
 use Rattle.mining_job.specs.Parts.{pivot_of}
 use Rattle.automaton_model.specs.Groups.{part_of}
 use Rattle.automaton_model.specs.Merges.{IsCodedBy}
-use Rattle.cand_automaton.specs.Roots.{part_for}
+use Rattle.snapshot_project.specs.Snapshots.{part_for}
 use Rattle.cand_automaton.proofs.grouping.parts_of.Given as goal
 
 abbrev pub invariant-loop-index : goal.invariant-loop-index

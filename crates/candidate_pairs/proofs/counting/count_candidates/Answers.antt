@@ -5,7 +5,8 @@ use Rattle.mining_job.specs.Problems.{data_of}
 use Rattle.sequence_grids.specs.Grids.{items_at}
 use Rattle.candidate_graph.specs.Graphs.{Node, IsWhole}
 use Rattle.candidate_pairs.specs.Paths.{HasPaths}
-use Rattle.candidate_pairs.proofs.CandidateLemmas.{told-candidates, begun-are, some-graph, some-nodes}
+use Rattle.sequence_candidates.proofs.KeptLemmas.{begun-are, some-nodes}
+use Rattle.candidate_pairs.proofs.CandidateLemmas.{told-candidates, some-graph}
 use Rattle.candidate_pairs.proofs.counting.count_candidates.Goals as goal
 
 pub count_paths-requires-clause-graph : goal.count_paths-requires-clause-graph

@@ -5,8 +5,8 @@ use Rattle.mine_model.specs.Answer.{IsFrequent}
 use Rattle.mine_model.specs.Pivots.{IsAliveLabel}
 use Rattle.mine_model.specs.PartitionWork.{IsNamedBefore}
 use Rattle.mining_job.specs.Problems.{data_of}
-use Rattle.pivot_partition.specs.Pivots.{pivots_in}
-use Rattle.search_engine.specs.Partition.{HasPivotAmong, IsPartsWork}
+use Rattle.pivot_partition.specs.Pivots.{pivots_in, HasPivotIn}
+use Rattle.search_engine.specs.Partition.{IsPartsWork}
 use Rattle.split_merge.specs.Shares.{IsInShare}
 use Rattle.desq_run.specs.Inputs.{AreFound}
 use Rattle.desq_run.specs.Parts.{IsShareWork}
@@ -28,7 +28,7 @@ returns-clause-found g c = λ names ties.
     let exact = exact_both own (pivots_in c.in_ok-seeds.seeds.items) (λ p. (1 ≤ p) × IsAliveLabel (data_of c.args.job.now) c.args.job.now.ranking.order p [])
     (IsInShare c.args.share.index c.args.share.of) c.own_seeds-own.ensures.exact c.in_ok-seeds.ensures.alive in
     if_ok (λ (mined : Mined). (row : Row) → Contains mined.rows.items row
-    ↔ (IsFrequent (data_of c.args.job.now) row.pattern row.support × HasPivotAmong c.args.job.now.ranking.order own row.pattern))
+    ↔ (IsFrequent (data_of c.args.job.now) row.pattern row.support × HasPivotIn c.args.job.now.ranking.order own row.pattern))
     (λ (mined : Mined). AreFound (IsNamedBefore names) (Some c.args.share) (data_of c.args.job.now) mined.rows.items)
     c.mine_parts.result
     (λ mined is. problem-share-rows c.args.job.now c.hierarchy.ensures.whole within names ties c.args.share own exact mined.rows.items is)

@@ -11,7 +11,8 @@ use Rattle.search_tree.specs.RankedPartition.{AreAlivePivots}
 use Rattle.search_engine.specs.Partition.{IsWorkFor}
 use Rattle.search_engine.specs.Searches.{tree_of}
 use Rattle.search_engine.proofs.PartitionLemmas.{all-parts-rows, all-parts-work}
-use Rattle.search_engine.proofs.SearchLemmas.{items-known, roots-walked, walks-work, walks-frequent, walks-within}
+use Rattle.mining_job.proofs.ItemLemmas.{items-known}
+use Rattle.search_engine.proofs.SearchLemmas.{roots-walked, walks-work, walks-frequent, walks-within}
 use Rattle.search_engine.proofs.mining.mine.Goals as goal
 
 pub mine_parts-requires-clause-alive : goal.mine_parts-requires-clause-alive

@@ -1,4 +1,5 @@
-use Rattle.search_engine.proofs.SearchLemmas.{items-known, frequent-within, walks-parts-once, walks-parts-rows, walks-parts-work}
+use Rattle.mining_job.proofs.ItemLemmas.{items-known, frequent-within}
+use Rattle.search_engine.proofs.SearchLemmas.{walks-parts-once, walks-parts-rows, walks-parts-work}
 use Rattle.search_engine.proofs.mining.mine_parts.Goals as goal
 
 pub returns-clause-once : goal.returns-clause-once
