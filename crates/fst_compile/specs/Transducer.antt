@@ -64,8 +64,8 @@ pub record IsPositionAutomaton (transducer : Transducer) (tree : Tree Item) : Ty
       → Enters transducer.labels edge
   pub edges : (from to : ℕ) → Leads transducer from to ↔ (((from ≡ 0) × First (unfold_tree tree false) 1 to)
       ⊎ Follows (unfold_tree tree false) 1 from to)
-  pub finals : (state : ℕ) → Has transducer.finals state ↔ (((state ≡ 0) × CanBeEmpty (unfold_tree tree false))
-      ⊎ Last (unfold_tree tree false) 1 state)
+  pub finals : (state : ℕ) → Has transducer.finals state
+      ↔ (((state ≡ 0) × CanBeEmpty (unfold_tree tree false)) ⊎ Last (unfold_tree tree false) 1 state)
 
 -- what the paths from the start write is what the expression generates, whatever the hierarchy
 abbrev pub IsTransducerOf : Transducer → Tree Item → Type 0

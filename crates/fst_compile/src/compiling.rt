@@ -20,7 +20,8 @@ use std::alloc::Global;
 pub fn compile(alloc: Global, expr: &Expr) -> Result<Fst, NoMemory>
     requires { unfolded_leaves (tree_of expr.now) ≤ most_leaves }
     ensures expression { IfOk result (λ transducer. tree_of transducer.expression ≡ tree_of expr.now) }
-    ensures states { IfOk result (λ transducer. length transducer.labels ≡ unfolded_leaves (tree_of expr.now)) }
+    ensures states { IfOk result (λ transducer. length transducer.labels
+        ≡ unfolded_leaves (tree_of expr.now)) }
     ensures automaton { IfOk result (λ transducer. IsPositionAutomaton transducer (tree_of expr.now)) }
     ensures paths { IfOk result (λ transducer. IsTransducerOf transducer (tree_of expr.now)) }
 {

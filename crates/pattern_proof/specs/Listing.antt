@@ -15,7 +15,8 @@ use Rattle.pattern_proof.specs.declared.listing.Lists.{Lists}
 -- the sequence with this number, counted from 0, has the pattern
 abbrev pub Has : Problem → List Item → ℕ → Type 0
 Has problem pattern place =
-    IsPatternOf problem.hierarchy.links (tree_of problem.transducer.expression) (items_of problem place) pattern
+    IsPatternOf problem.hierarchy.links (tree_of problem.transducer.expression) (items_of problem place)
+    pattern
 
 -- the list that begins with this entry, counted from 1, where 0 stands for none, has these places
 abbrev pub IsChain : List Listed → ℕ → List ℕ → Type 0

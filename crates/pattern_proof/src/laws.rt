@@ -39,8 +39,8 @@ pub fn a_good_proof_proves()
         → (entry.row.pattern ≢ [])
         × WeighAtLeast (λ items. IsPatternOf problem.hierarchy.links
         (tree_of problem.transducer.expression) items entry.row.pattern) problem.sequences entry.row.support
-        × ((n : ℕ) → HasSupport problem.hierarchy.links (tree_of problem.transducer.expression) problem.sequences
-        entry.row.pattern n → entry.row.support ≤ n) }
+        × ((n : ℕ) → HasSupport problem.hierarchy.links (tree_of problem.transducer.expression)
+        problem.sequences entry.row.pattern n → entry.row.support ≤ n) }
 {}
 
 /// At most one refusal of a proof file comes first.

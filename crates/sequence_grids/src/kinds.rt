@@ -423,7 +423,8 @@ fn enter(
     t: Item,
     scratch: &mut Scratch,
 ) -> Result<(), NoMemory>
-    requires columns { AreColumns job.now.transducer.labels columns.now.numbers.items columns.now.heads.items }
+    requires columns { AreColumns job.now.transducer.labels columns.now.numbers.items
+        columns.now.heads.items }
     requires acts { AreActs job.now bound t columns.now.heads.items
         scratch.old.acts.items (length columns.now.heads.items) }
     ensures { OnOk result (AreEntered job.now bound t (length job.now.transducer.labels + 1)
