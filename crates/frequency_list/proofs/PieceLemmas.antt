@@ -16,7 +16,7 @@ use Rattle.flat_lists.specs.Cuts.{start_of, list_at, AreCut}
 use Rattle.mine_model.specs.Limits.{most_sequences, most_weight}
 use Rattle.mine_model.specs.Database.{IsWithinLimits}
 use Rattle.mine_model.specs.Support.{Sequence, HoldsUnder, HasFrequency}
-use Rattle.mine_model.proofs.AncestryLemmas.{cut-more}
+use Rattle.flat_lists.proofs.CutLemmas.{cut-more}
 use Rattle.mine_model.proofs.FrequencyLemmas.{Counts-append}
 use Rattle.frequency_list.specs.Tallies.{IsTally, AreTallies}
 use Rattle.frequency_list.proofs.SequenceLemmas.{HasFrequency-most}

@@ -31,10 +31,6 @@ module _ (ranks : Ranks) (visit : Visit) (mask : ℕ) (is : (rank : ℕ) → Has
     (λ opening. (writes-has rank).1 ((and_parts (writes ranks rank visit) (goes_on aim rank visit.action) opening).0)),
   )
 
--- ---- with the lacking rank, and with another
-
-module _ (need rank : ℕ) (action : Action) where
-
 module _ (ranks : Ranks) (need : ℕ) (one : Visit) (unseen : one.action.unseen ≡ false) (quiet : (writes ranks need one && one.action.more) ≡ false) where
   -- nothing goes on
   pub needed-quiet : goes_further ranks (Some need) one ≡ false

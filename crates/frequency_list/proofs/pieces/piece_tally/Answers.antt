@@ -1,5 +1,5 @@
 use Rattle.std.proofs.Common.{length}
-use Rattle.mine_model.proofs.AncestryLemmas.{end_within}
+use Rattle.flat_lists.proofs.CutLemmas.{end_within}
 use Rattle.frequency_list.proofs.pieces.piece_tally.Goals as goal
 
 pub tally-requires-clause-within : goal.tally-requires-clause-within
