@@ -1,12 +1,17 @@
 //! Sets of states.
-ghost use Rattle.std.specs.Prelude.{◌≤◌};
+ghost use Rattle.std.specs.Prelude.{◌<◌, ◌≤◌};
 
+use mine_model::NoMemory;
 use state_bits::StateSet;
-use std::alloc::{AllocError, Global};
-use std::test::Fail;
+use std::alloc::Global;
 
-/// The members of a set of these states, added from the last on. States that have no place are left out.
-fn members<const W: usize>(alloc: Global, states: &[u32]) -> Result<Vec<u32>, AllocError>
+/// Whether the members of a set of the states, added from the last on, are these. States that have no place
+/// are left out.
+fn are_members<const W: usize>(
+    alloc: Global,
+    states: &[u32],
+    want: &[u32],
+) -> Result<bool, NoMemory>
     requires { W ≤ 17 }
 {
     let mut set = StateSet::<W>::new();
@@ -15,32 +20,50 @@ fn members<const W: usize>(alloc: Global, states: &[u32]) -> Result<Vec<u32>, Al
             set.add(*q);
         }
     }
-    set.iter().collect(alloc)
+    let members: Vec<u32> = set.iter().collect(alloc)?;
+    Ok(members.as_slice() == want)
+}
+
+fn keeps_borders(alloc: Global) -> Result<bool, NoMemory> {
+    let all = [0, 63, 64, 65, 127, 128, 255, 256, 1_023, 1_024, 1_087];
+    Ok(
+        are_members::<1>(alloc, &all, &all[..2])?
+            && are_members::<4>(alloc, &all, &all[..7])?
+            && are_members::<17>(alloc, &all, &all)?,
+    )
 }
 
 #[test]
-fn keeps_the_borders_of_words(rt: HostRuntime) -> Result<(), Fail> {
-    let all = [0, 63, 64, 65, 127, 128, 255, 256, 1_023, 1_024, 1_087];
-    assert_eq!(rt; members::<1>(rt.alloc(), &all)?.as_slice(), &all[..2]);
-    assert_eq!(rt; members::<4>(rt.alloc(), &all)?.as_slice(), &all[..7]);
-    assert_eq!(rt; members::<17>(rt.alloc(), &all)?.as_slice(), all.as_slice());
-    Ok(())
+fn keeps_the_borders_of_words(rt: HostRuntime) {
+    assert_eq!(rt; keeps_borders(rt.alloc()), Ok(true));
+}
+
+/// The set of two states.
+fn pair(first: u32, second: u32) -> StateSet<4>
+    requires first { first < 256 }
+    requires second { second < 256 }
+{
+    let mut set = StateSet::<4>::new();
+    set.add(first);
+    set.add(second);
+    set
+}
+
+/// Whether the sets of 63 and 64 and of 64 and 200 have the right union and the right members in common.
+fn works_on_sets() -> bool {
+    let first = pair(63, 64);
+    let second = pair(64, 200);
+    let mut common = first;
+    common.intersect_with(&second);
+    let mut all = first;
+    all.union_with(&second);
+    let has_all = all.has(63) && all.has(64) && all.has(200) && !all.has(65);
+    let has_common = common.words() == [0, 1, 0, 0].as_slice();
+    common.clear();
+    has_all && has_common && all != second && common.is_empty() && common == StateSet::new()
 }
 
 #[test]
 fn works_on_whole_sets(rt: HostRuntime) {
-    let mut first = StateSet::<4>::new();
-    first.add(63);
-    first.add(64);
-    let mut second = StateSet::<4>::new();
-    second.add(64);
-    second.add(200);
-    let mut both = first;
-    both.intersect_with(&second);
-    assert_eq!(rt; both.words(), [0, 1, 0, 0].as_slice());
-    first.union_with(&second);
-    assert!(rt; first.has(63) && first.has(64) && first.has(200) && !first.has(65));
-    assert!(rt; first != second);
-    both.clear();
-    assert!(rt; both.is_empty() && both == StateSet::new());
+    assert!(rt; works_on_sets());
 }

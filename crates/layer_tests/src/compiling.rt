@@ -9,39 +9,50 @@ use fst_compile::{Fst, State, compile, outputs};
 use mine_model::{Expr, Item, Leaf, NoMemory};
 use std::alloc::{AllocError, Global};
 use std::fmt::Write;
-use std::test::Fail;
 
-/// The edges as `from>to`, and the final states, each with a dot.
-fn text_of(alloc: Global, fst: &Fst) -> Result<String, NoMemory> {
-    let mut text = String::new(alloc);
+/// Writes the edges as `from>to`.
+fn add_edges(text: &mut String, fst: &Fst) -> Result<(), NoMemory> {
     for q in 0..fst.states() {
         for edge in fst.edges(State(q)) {
             let to = edge.to.0;
             write!(text, "{q}>{to} ")?;
         }
     }
+    Ok(())
+}
+
+/// Writes the final states, each with a dot.
+fn add_finals(text: &mut String, fst: &Fst) -> Result<(), NoMemory> {
     for q in 0..fst.states() {
         if fst.is_final(State(q)) {
             write!(text, "{q}.")?;
         }
     }
-    Ok(text)
+    Ok(())
+}
+
+/// Whether these are the edges and the final states.
+fn is_told(alloc: Global, fst: &Fst, want: &str) -> Result<bool, NoMemory> {
+    let mut text = String::new(alloc);
+    add_edges(&mut text, fst)?;
+    add_finals(&mut text, fst)?;
+    Ok(text.as_str() == want)
 }
 
 /// The same of what the expression is compiled to.
-fn compiled(alloc: Global, expr: &Expr) -> Result<String, NoMemory>
+fn is_compiled(alloc: Global, expr: &Expr, want: &str) -> Result<bool, NoMemory>
     requires { unfolded_leaves (tree_of expr.now) ≤ 1024 }
 {
     let fst = compile(alloc, expr)?;
-    text_of(alloc, &fst)
+    is_told(alloc, &fst, want)
 }
 
-/// The text of the running expression, and the leaf of its second state, where it is captured.
-fn running(alloc: Global) -> Result<(String, Option<Leaf>), NoMemory> {
+/// The same of the running expression. The leaf of its second state is captured.
+fn is_running(alloc: Global, want: &str) -> Result<bool, NoMemory> {
     let expr = expression(alloc, Shape::Climbing)?;
     let fst = compile(alloc, &expr)?;
-    let text = text_of(alloc, &fst)?;
-    Ok((text, captured_leaf(&fst, State(2))))
+    let leaf = captured_leaf(&fst, State(2));
+    Ok(is_told(alloc, &fst, want)? && leaf == Some(Leaf::Under(A)))
 }
 
 /// The leaf of a state that is captured.
@@ -53,14 +64,9 @@ fn captured_leaf(fst: &Fst, state: State) -> Option<Leaf> {
 }
 
 #[test]
-fn has_the_edges_of_the_running_expression(rt: HostRuntime) -> Result<(), Fail> {
-    let (text, leaf) = running(rt.alloc())?;
-    assert_eq!(rt;
-        text.as_str(),
-        "0>1 0>2 1>1 1>2 2>3 2>4 2>5 3>3 3>4 3>5 4>3 4>4 4>5 5>6 6>6 5.6."
-    );
-    assert_eq!(rt; leaf, Some(Leaf::Under(A)));
-    Ok(())
+fn has_the_edges_of_the_running_expression(rt: HostRuntime) {
+    let want = "0>1 0>2 1>1 1>2 2>3 2>4 2>5 3>3 3>4 3>5 4>3 4>4 4>5 5>6 6>6 5.6.";
+    assert_eq!(rt; is_running(rt.alloc(), want), Ok(true));
 }
 
 fn rep(alloc: Global, inner: Expr, least: u32, most: Option<u32>) -> Result<Expr, AllocError>
@@ -80,50 +86,64 @@ fn one() -> Expr
     Expr::Leaf(Leaf::Exact(A))
 }
 
-/// What the repetition is compiled to, as text.
-fn repeated(alloc: Global, inner: Expr, least: u32, most: Option<u32>) -> Result<String, NoMemory>
+fn maybe_one(alloc: Global) -> Result<Expr, AllocError>
+    ensures { IfOk result (λ e. unfolded_leaves (tree_of e) ≡ 1) }
+{
+    rep(alloc, one(), 0, Some(1))
+}
+
+/// Whether the repetition is compiled to this.
+fn is_repeated(
+    alloc: Global,
+    inner: Expr,
+    least: u32,
+    most: Option<u32>,
+    want: &str,
+) -> Result<bool, NoMemory>
     requires { unfolded_times least most * unfolded_leaves (tree_of inner) ≤ 1024 }
 {
     let expr = rep(alloc, inner, least, most)?;
-    compiled(alloc, &expr)
+    is_compiled(alloc, &expr, want)
+}
+
+fn are_written_out(alloc: Global) -> Result<bool, NoMemory> {
+    Ok(
+        is_repeated(alloc, one(), 0, Some(0), "0.")?
+            && is_repeated(alloc, one(), 2, Some(3), "0>1 1>2 2>3 2.3.")?
+            && is_repeated(alloc, one(), 2, None, "0>1 1>2 2>2 2.")?
+            && is_repeated(
+                alloc,
+                maybe_one(alloc)?,
+                2,
+                Some(3),
+                "0>1 0>2 0>3 1>2 1>3 2>3 0.1.2.3.",
+            )?,
+    )
 }
 
 #[test]
-fn writes_repetitions_out(rt: HostRuntime) -> Result<(), Fail> {
-    let alloc = rt.alloc();
-    assert_eq!(rt; repeated(alloc, one(), 0, Some(0))?.as_str(), "0.");
-    assert_eq!(rt;
-        repeated(alloc, one(), 2, Some(3))?.as_str(),
-        "0>1 1>2 2>3 2.3."
-    );
-    assert_eq!(rt; repeated(alloc, one(), 2, None)?.as_str(), "0>1 1>2 2>2 2.");
-    let maybe = rep(alloc, one(), 0, Some(1))?;
-    assert_eq!(rt;
-        repeated(alloc, maybe, 2, Some(3))?.as_str(),
-        "0>1 0>2 0>3 1>2 1>3 2>3 0.1.2.3."
-    );
-    Ok(())
+fn writes_repetitions_out(rt: HostRuntime) {
+    assert_eq!(rt; are_written_out(rt.alloc()), Ok(true));
 }
 
 /// `[[a?]{32}]{32}`
 fn longest(alloc: Global) -> Result<Expr, AllocError>
     ensures { IfOk result (λ e. unfolded_leaves (tree_of e) ≡ 1024) }
 {
-    let row = rep(alloc, rep(alloc, one(), 0, Some(1))?, 32, Some(32))?;
+    let row = rep(alloc, maybe_one(alloc)?, 32, Some(32))?;
     rep(alloc, row, 32, Some(32))
 }
 
-/// How many states there are of the longest expression, and how many edges lead from the start.
-fn size_of_longest(alloc: Global) -> Result<(u32, usize), NoMemory> {
+/// Whether the longest expression has so many states, and so many edges lead from the start.
+fn is_longest(alloc: Global, states: u32, edges: usize) -> Result<bool, NoMemory> {
     let expr = longest(alloc)?;
     let fst = compile(alloc, &expr)?;
-    Ok((fst.states(), fst.edges(State(0)).len()))
+    Ok(fst.states() == states && fst.edges(State(0)).len() == edges)
 }
 
 #[test]
-fn compiles_the_longest(rt: HostRuntime) -> Result<(), Fail> {
-    assert_eq!(rt; size_of_longest(rt.alloc())?, (1_025, 1_024));
-    Ok(())
+fn compiles_the_longest(rt: HostRuntime) {
+    assert_eq!(rt; is_longest(rt.alloc(), 1_025, 1_024), Ok(true));
 }
 
 /// A name with 128 stars.
@@ -137,13 +157,13 @@ fn tower(alloc: Global) -> Result<Expr, AllocError>
     Ok(tower)
 }
 
+fn is_one_name(alloc: Global) -> Result<bool, NoMemory> {
+    is_repeated(alloc, tower(alloc)?, 0, None, "0>1 1>1 0.1.")
+}
+
 #[test]
-fn compiles_many_signs_on_one_name(rt: HostRuntime) -> Result<(), Fail> {
-    assert_eq!(rt;
-        repeated(rt.alloc(), tower(rt.alloc())?, 0, None)?.as_str(),
-        "0>1 1>1 0.1."
-    );
-    Ok(())
+fn compiles_many_signs_on_one_name(rt: HostRuntime) {
+    assert_eq!(rt; is_one_name(rt.alloc()), Ok(true));
 }
 
 /// What the leaf writes on the item, where it is one and the leaf matches.
@@ -159,8 +179,8 @@ fn written(alloc: Global, leaf: Leaf, t: Item) -> Result<Option<Vec<Item>>, NoMe
     Ok(matches.then_some(out))
 }
 
-#[test]
-fn leaves_write_between_the_item_and_their_own(rt: HostRuntime) -> Result<(), Fail> {
+/// The first leaf that writes something else.
+fn first_wrong(alloc: Global) -> Result<Option<Leaf>, NoMemory> {
     let table: [(Leaf, Item, Option<&[Item]>); 10] = [
         (Leaf::Under(P), X, Some(&[X])),
         (Leaf::Under(P), Q, None),
@@ -174,8 +194,14 @@ fn leaves_write_between_the_item_and_their_own(rt: HostRuntime) -> Result<(), Fa
         (Leaf::NotExact(P), X, Some(&[X])),
     ];
     for (leaf, t, want) in table {
-        let found = written(rt.alloc(), leaf, t)?;
-        assert_eq!(rt; found.as_deref(), want, "{leaf:?}");
+        if written(alloc, leaf, t)?.as_deref() != want {
+            return Ok(Some(leaf));
+        }
     }
-    Ok(())
+    Ok(None)
+}
+
+#[test]
+fn leaves_write_between_the_item_and_their_own(rt: HostRuntime) {
+    assert_eq!(rt; first_wrong(rt.alloc()), Ok(None));
 }

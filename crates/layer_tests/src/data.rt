@@ -319,9 +319,21 @@ pub(crate) fn text_of_rows(alloc: Global, rows: &[Row]) -> Result<String, NoMemo
     Ok(text)
 }
 
+fn has_row(rows: &[Row], support: u64, items: &[Item]) -> bool {
+    for row in rows {
+        if row.support == support && row.pattern.items() == items {
+            return true;
+        }
+    }
+    false
+}
+
 /// Whether the rows are these, in any order.
 pub(crate) fn are_rows(rows: &[Row], want: Lines) -> bool {
+    for (support, items) in want {
+        if !has_row(rows, *support, items) {
+            return false;
+        }
+    }
     rows.len() == want.len()
-        && want.iter().all(|(support, items)| rows.iter().any(|row| row.support == *support
-            && row.pattern.items() == *items))
 }

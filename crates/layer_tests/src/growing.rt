@@ -11,7 +11,7 @@ use search_tree::Grown;
 use snapshot_project::{Room, begin_whole_alone};
 use std::alloc::Global;
 use std::fmt::Write;
-use std::test::Fail;
+use std::thread::Threads;
 
 /// The sequences that have a pattern; then what each of the nodes grows into that have these places
 /// among the roots, among the kids of that, and so on.
@@ -118,14 +118,14 @@ fn add_node(
     Ok(())
 }
 
+fn grown<T: Threads + Sync>(rt: &T, alloc: Global, path: &[u32]) -> Result<String, NoMemory> {
+    let job = job(rt, alloc, Shape::Climbing, &RUNNING, 1, 2)?;
+    told(alloc, &job, path)
+}
+
 // The kids of the second node are 0 3 1, 0 3 2 and 0 3 3.
 #[test]
-fn grows_the_tree_of_the_running_data(rt: HostRuntime) -> Result<(), Fail> {
-    let job = job(&rt, rt.alloc(), Shape::Climbing, &RUNNING, 1, 2)?;
-    let grown = told(rt.alloc(), &job, &[0, 0, 0, 1])?;
-    assert_eq!(rt;
-        grown.as_str(),
-        " 0 1 4; 0 +1; 0 3 +3; 0 3 1 = a1 b 3 +0; no node"
-    );
-    Ok(())
+fn grows_the_tree_of_the_running_data(rt: HostRuntime) {
+    let want = " 0 1 4; 0 +1; 0 3 +3; 0 3 1 = a1 b 3 +0; no node";
+    assert_eq!(rt; grown(&rt, rt.alloc(), &[0, 0, 0, 1]).as_deref(), Ok(want));
 }

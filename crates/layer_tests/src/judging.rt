@@ -12,7 +12,7 @@ use mine_model::{Item, NoMemory, Row};
 use mining_job::Job;
 use pattern_proof::{ProofFault, checks, read_proof};
 use std::alloc::Global;
-use std::test::Fail;
+use std::thread::Threads;
 use text_ports::{MemFile, MemFiles};
 
 /// `a1 b` twice, and `a1 c`.
@@ -74,6 +74,15 @@ pub(crate) fn are_named(rows: &[Row], names: &Names) -> bool
     true
 }
 
+/// The file `f` with this text.
+fn one_file(alloc: Global, text: &str) -> Result<MemFiles, NoMemory> {
+    let file = MemFile {
+        name: Vec::from_slice(alloc, b"f")?,
+        bytes: Vec::from_slice(alloc, text.as_bytes())?,
+    };
+    Ok(MemFiles::new(vec![in alloc; file]?, Vec::new(alloc), 5))
+}
+
 /// What is said of a proof file with this text.
 pub(crate) fn judged(
     alloc: Global,
@@ -81,10 +90,7 @@ pub(crate) fn judged(
     text: &str,
 ) -> Result<Result<u64, ProofFault>, NoMemory> {
     let names = file_names(alloc)?;
-    let name = Vec::from_slice(alloc, b"f")?;
-    let bytes = Vec::from_slice(alloc, text.as_bytes())?;
-    let held = vec![in alloc; MemFile { name, bytes }]?;
-    let mut files = MemFiles::new(held, Vec::new(alloc), 5);
+    let mut files = one_file(alloc, text)?;
     Ok(read_proof(alloc, &mut files, "f", job, &names))
 }
 
@@ -159,36 +165,61 @@ const JUDGED: &[(&str, Result<u64, ProofFault>)] = &[
     ),
 ];
 
-#[test]
-fn proofs_are_good_or_refused(rt: HostRuntime) -> Result<(), Fail> {
-    let job = job(&rt, rt.alloc(), Shape::Pair, &PAIRS, 1, 2)?;
-    for (text, wanted) in JUDGED {
-        assert_eq!(rt; judged(rt.alloc(), &job, text)?, *wanted, "{text}");
+/// The first text of which something else is said.
+fn wrong_of(alloc: Global, job: &Job) -> Result<Option<&'static str>, NoMemory> {
+    for (text, want) in JUDGED {
+        if judged(alloc, job, text)? != *want {
+            return Ok(Some(*text));
+        }
     }
-    Ok(())
+    Ok(None)
 }
 
-/// Whether the states are a path over the sequence with this number that writes `a1 b`.
-fn is_path(job: &Job, seq: u32, path: &[State]) -> bool {
-    seq < job.db().sequences() && checks(job, seq, &[A1, B], path)
+fn first_wrong<T: Threads + Sync>(rt: &T, alloc: Global) -> Result<Option<&'static str>, NoMemory> {
+    let job = job(rt, alloc, Shape::Pair, &PAIRS, 1, 2)?;
+    wrong_of(alloc, &job)
 }
 
 #[test]
-fn paths_are_checked(rt: HostRuntime) -> Result<(), Fail> {
-    let job = job(&rt, rt.alloc(), Shape::Pair, &PAIRS, 1, 2)?;
-    let good = [State(2), State(3)];
-    assert!(rt; is_path(&job, 0, &good) && is_path(&job, 1, &good));
-    assert!(rt; !is_path(&job, 2, &good) && !is_path(&job, 0, &[]));
-    assert!(rt; !is_path(&job, 0, &[State(2)]) && !is_path(&job, 0, &[State(1), State(4)]));
-    assert!(rt;
-        !is_path(&job, 0, &[State(2), State(4)]) && !is_path(&job, 0, &[State(3), State(2)])
-    );
-    assert!(rt; !checks_none(&job) && !is_path(&job, 0, &[State(2), State(4_294_967_295)]));
-    Ok(())
+fn proofs_are_good_or_refused(rt: HostRuntime) {
+    assert_eq!(rt; first_wrong(&rt, rt.alloc()), Ok(None));
 }
 
-/// Whether a path over the first sequence writes one item more.
-fn checks_none(job: &Job) -> bool {
-    let path = [State(2), State(3)];
-    job.db().sequences() > 0 && checks(job, 0, &[A1, B, B], &path)
+/// Whether the states are a path over the sequence with this number that writes the pattern.
+fn is_path(job: &Job, seq: u32, pattern: &[Item], path: &[State]) -> bool {
+    seq < job.db().sequences() && checks(job, seq, pattern, path)
+}
+
+/// The number of a sequence, a pattern, states, and whether they are a path that writes it.
+const CHECKED: &[(u32, &[Item], &[State], bool)] = &[
+    (0, &[A1, B], &[State(2), State(3)], true),
+    (1, &[A1, B], &[State(2), State(3)], true),
+    (2, &[A1, B], &[State(2), State(3)], false),
+    (0, &[A1, B], &[], false),
+    (0, &[A1, B], &[State(2)], false),
+    (0, &[A1, B], &[State(1), State(4)], false),
+    (0, &[A1, B], &[State(2), State(4)], false),
+    (0, &[A1, B], &[State(3), State(2)], false),
+    (0, &[A1, B], &[State(2), State(4_294_967_295)], false),
+    (0, &[A1, B, B], &[State(2), State(3)], false),
+];
+
+/// The number of the first states of which something else is found.
+fn wrong_path_of(job: &Job) -> Option<usize> {
+    for (number, (seq, pattern, path, want)) in CHECKED.iter().enumerate() {
+        if is_path(job, *seq, pattern, path) != *want {
+            return Some(number);
+        }
+    }
+    None
+}
+
+fn first_wrong_path<T: Threads + Sync>(rt: &T, alloc: Global) -> Result<Option<usize>, NoMemory> {
+    let job = job(rt, alloc, Shape::Pair, &PAIRS, 1, 2)?;
+    Ok(wrong_path_of(&job))
+}
+
+#[test]
+fn paths_are_checked(rt: HostRuntime) {
+    assert_eq!(rt; first_wrong_path(&rt, rt.alloc()), Ok(None));
 }

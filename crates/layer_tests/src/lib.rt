@@ -10,8 +10,6 @@ mod blocks;
 #[cfg(test)]
 mod compiling;
 #[cfg(test)]
-mod counting;
-#[cfg(test)]
 mod data;
 #[cfg(test)]
 mod frequencies;
@@ -25,6 +23,8 @@ mod judging;
 mod listing;
 #[cfg(test)]
 mod members;
+#[cfg(test)]
+mod mining;
 #[cfg(test)]
 mod packing;
 #[cfg(test)]

@@ -6,7 +6,7 @@ use candidate_gen::{CandidateList, candidates};
 use mine_model::NoMemory;
 use mining_job::Job;
 use std::alloc::Global;
-use std::test::Fail;
+use std::thread::Threads;
 
 /// The names of the candidates of the first sequence, with a comma behind each.
 fn names_of(alloc: Global, job: &Job) -> Result<String, NoMemory> {
@@ -20,14 +20,15 @@ fn names_of(alloc: Global, job: &Job) -> Result<String, NoMemory> {
     Ok(text)
 }
 
+fn first_names<T: Threads + Sync>(rt: &T, alloc: Global) -> Result<String, NoMemory> {
+    let job = job(rt, alloc, Shape::Climbing, &RUNNING, 1, 2)?;
+    names_of(alloc, &job)
+}
+
 #[test]
-fn lists_what_a_sequence_generates(rt: HostRuntime) -> Result<(), Fail> {
-    let job = job(&rt, rt.alloc(), Shape::Climbing, &RUNNING, 1, 2)?;
-    assert_eq!(rt;
-        names_of(rt.alloc(), &job)?.as_str(),
-        " a1 b, a1 d b, a1 d c b, a1 c b, a1 c d b, a1 c d c b, a1 c c b,"
-    );
-    Ok(())
+fn lists_what_a_sequence_generates(rt: HostRuntime) {
+    let want = " a1 b, a1 d b, a1 d c b, a1 c b, a1 c d b, a1 c d c b, a1 c c b,";
+    assert_eq!(rt; first_names(&rt, rt.alloc()).as_deref(), Ok(want));
 }
 
 /// The ranks that a list holds after these sequences, one after the other.
@@ -65,7 +66,7 @@ const FILLED: [(&[u32], &str); 4] = [
 ];
 
 /// The number of the first case in which the list holds something else.
-fn first_wrong(alloc: Global, job: &Job) -> Result<Option<usize>, NoMemory> {
+fn wrong_of(alloc: Global, job: &Job) -> Result<Option<usize>, NoMemory> {
     for (number, (sequences, want)) in FILLED.iter().enumerate() {
         if ranks_of(alloc, job, sequences)?.as_str() != *want {
             return Ok(Some(number));
@@ -74,9 +75,12 @@ fn first_wrong(alloc: Global, job: &Job) -> Result<Option<usize>, NoMemory> {
     Ok(None)
 }
 
+fn first_wrong<T: Threads + Sync>(rt: &T, alloc: Global) -> Result<Option<usize>, NoMemory> {
+    let job = job(rt, alloc, Shape::Climbing, &RUNNING, 1, 2)?;
+    wrong_of(alloc, &job)
+}
+
 #[test]
-fn lists_the_ranks_of_the_last_sequence_alone(rt: HostRuntime) -> Result<(), Fail> {
-    let job = job(&rt, rt.alloc(), Shape::Climbing, &RUNNING, 1, 2)?;
-    assert_eq!(rt; first_wrong(rt.alloc(), &job)?, None);
-    Ok(())
+fn lists_the_ranks_of_the_last_sequence_alone(rt: HostRuntime) {
+    assert_eq!(rt; first_wrong(&rt, rt.alloc()), Ok(None));
 }

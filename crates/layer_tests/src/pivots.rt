@@ -7,7 +7,6 @@ use mining_job::{Job, PartSeed};
 use pivot_partition::{merge_pivots, pivots_of, split, split_alone};
 use std::alloc::Global;
 use std::fmt::Write;
-use std::test::Fail;
 use std::thread::Threads;
 
 /// The pivots of each sequence, and then the parts, as text.
@@ -43,50 +42,58 @@ fn split_by<T: Threads + Sync>(
 }
 
 // With the threshold 1 also a2 and e have ranks, 6 and 7. No sequence holds A itself.
-#[test]
-fn splits_the_running_data(rt: HostRuntime) -> Result<(), Fail> {
-    let alloc = rt.alloc();
-    assert_eq!(rt;
-        split_by(&rt, alloc, Shape::Climbing, 2)?.as_str(),
-        " 3 4 5, 3,,, 3, 3: 0 1 4"
-    );
-    assert_eq!(rt;
-        split_by(&rt, alloc, Shape::Climbing, 1)?.as_str(),
-        " 3 4 5, 3 7,, 6, 3, 3: 0 1 4 4: 0 5: 0 6: 3 7: 1"
-    );
-    assert_eq!(rt;
-        split_by(&rt, alloc, Shape::Forced, 2)?.as_str(),
-        " 2, 2,, 2, 2, 2: 0 1 3 4"
-    );
-    assert_eq!(rt; split_by(&rt, alloc, Shape::Silent, 1)?.as_str(), ",,,,,");
-    Ok(())
+const SPLIT: [(Shape, u64, &str); 4] = [
+    (Shape::Climbing, 2, " 3 4 5, 3,,, 3, 3: 0 1 4"),
+    (
+        Shape::Climbing,
+        1,
+        " 3 4 5, 3 7,, 6, 3, 3: 0 1 4 4: 0 5: 0 6: 3 7: 1",
+    ),
+    (Shape::Forced, 2, " 2, 2,, 2, 2, 2: 0 1 3 4"),
+    (Shape::Silent, 1, ",,,,,"),
+];
+
+/// The number of the first shape that is split otherwise.
+fn first_wrong<T: Threads + Sync>(rt: &T, alloc: Global) -> Result<Option<usize>, NoMemory> {
+    for (number, (shape, threshold, want)) in SPLIT.iter().enumerate() {
+        if split_by(rt, alloc, *shape, (*threshold).max(1))?.as_str() != *want {
+            return Ok(Some(number));
+        }
+    }
+    Ok(None)
 }
 
-/// The parts, found by so many threads.
-fn parts_by<T: Threads + Sync>(
-    rt: &T,
-    alloc: Global,
-    job: &Job,
-    threads: u32,
-) -> Result<String, NoMemory> {
+#[test]
+fn splits_the_running_data(rt: HostRuntime) {
+    assert_eq!(rt; first_wrong(&rt, rt.alloc()), Ok(None));
+}
+
+/// The parts, as text.
+fn text_of(alloc: Global, seeds: &[PartSeed]) -> Result<String, NoMemory> {
     let mut text = String::new(alloc);
-    let seeds = split(rt, alloc, job, threads.clamp(1, 64))?;
-    add_parts(&mut text, seeds.as_slice())?;
+    add_parts(&mut text, seeds)?;
     Ok(text)
 }
 
-#[test]
-fn threads_find_the_same_parts(rt: HostRuntime) -> Result<(), Fail> {
-    let job = job(&rt, rt.alloc(), Shape::Climbing, &RUNNING, 1, 2)?;
-    for threads in [1, 2, 5, 64] {
-        let parts = parts_by(&rt, rt.alloc(), &job, threads)?;
-        assert_eq!(rt; parts.as_str(), " 3: 0 1 4", "{threads} threads");
-    }
-    Ok(())
+/// The parts of the running data, found by so many threads.
+fn parts_by<T: Threads + Sync>(rt: &T, alloc: Global, threads: u32) -> Result<String, NoMemory> {
+    let job = job(rt, alloc, Shape::Climbing, &RUNNING, 1, 2)?;
+    let seeds = split(rt, alloc, &job, threads.clamp(1, 64))?;
+    text_of(alloc, seeds.as_slice())
 }
 
-/// The merge of two lists, as text.
-fn merged(alloc: Global, first: &[u32], second: &[u32]) -> Result<String, NoMemory>
+#[test]
+fn threads_find_the_same_parts(rt: HostRuntime) {
+    for threads in [1, 2, 5, 64] {
+        assert_eq!(rt;
+            parts_by(&rt, rt.alloc(), threads).as_deref(),
+            Ok(" 3: 0 1 4")
+        );
+    }
+}
+
+/// Whether this is the merge of the two lists.
+fn is_merged(alloc: Global, first: &[u32], second: &[u32], want: &[u32]) -> Result<bool, NoMemory>
     requires first { AllPairs (λ low high. low < high) first.now }
     requires second { AllPairs (λ low high. low < high) second.now }
     requires some { first.now ≢ [] }
@@ -94,14 +101,14 @@ fn merged(alloc: Global, first: &[u32], second: &[u32]) -> Result<String, NoMemo
 {
     let mut numbers = Vec::from_slice(alloc, first)?;
     merge_pivots(&mut numbers, second)?;
-    let mut text = String::new(alloc);
-    add_numbers(&mut text, numbers.as_slice())?;
-    Ok(text)
+    Ok(numbers.as_slice() == want)
+}
+
+fn are_merged(alloc: Global) -> Result<bool, NoMemory> {
+    Ok(is_merged(alloc, &[2, 5], &[3, 4], &[3, 4, 5])? && is_merged(alloc, &[0], &[0, 7], &[0, 7])?)
 }
 
 #[test]
-fn merges_pivots(rt: HostRuntime) -> Result<(), Fail> {
-    assert_eq!(rt; merged(rt.alloc(), &[2, 5], &[3, 4])?.as_str(), " 3 4 5");
-    assert_eq!(rt; merged(rt.alloc(), &[0], &[0, 7])?.as_str(), " 0 7");
-    Ok(())
+fn merges_pivots(rt: HostRuntime) {
+    assert_eq!(rt; are_merged(rt.alloc()), Ok(true));
 }

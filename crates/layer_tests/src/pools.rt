@@ -8,7 +8,6 @@ use mine_model::NoMemory;
 use node_pool::{Seat, Task, finish, open};
 use std::alloc::Global;
 use std::sync::atomic::{AtomicU64, Ordering};
-use std::test::Fail;
 use std::thread;
 use std::thread::Threads;
 
@@ -57,52 +56,75 @@ fn steal(seats: &mut Pool, by: usize, from: u32) -> Option<u32>
     Some(seats[by].steal(from)?.label)
 }
 
-/// What the seats of a new pool answer: seat 0 puts the labels 1, 2 and so on, each other seat up to
-/// `thieves` steals from it once, and then seat 0 takes so many times. The second list has the labels that
-/// are left, rising.
-fn play(
-    alloc: Global,
-    workers: u32,
+/// Seat 0 puts the labels 1, 2 and so on, each other seat up to `thieves` steals from it once, and then seat
+/// 0 takes so many times. Adds what the steals and the takes answer, and tells whether each label was put.
+fn act(
+    seats: &mut Pool,
+    answers: &mut Vec<Option<u32>>,
     puts: u32,
     thieves: u32,
     takes: u32,
-) -> Result<(Vec<Option<u32>>, Vec<u32>), NoMemory>
-    requires { (1 ≤ workers) × (workers ≤ 64) × (thieves < workers) }
+) -> Result<bool, NoMemory>
+    requires pool { IsPool tt seats.old.items }
+    requires within { thieves < vec_len seats.old }
+    ensures pool { IsPool tt seats.new.items }
+    ensures count { vec_len seats.new ≡ vec_len seats.old }
 {
-    let mut seats = open::<Number>(alloc, workers, &())?;
-    let mut answers = Vec::new(alloc);
+    let mut are_put = true;
     'puts: for label in 0..puts {
-        if !put(&mut seats, 0, label + 1) {
-            return Err(NoMemory);
-        }
+        are_put = put(seats, 0, label + 1) && are_put;
     }
     'steals: for thief in 0..thieves {
-        answers.push(steal(&mut seats, thief as usize + 1, 0))?;
+        answers.push(steal(seats, thief as usize + 1, 0))?;
     }
     'takes: for _ in 0..takes {
-        answers.push(take(&mut seats, 0))?;
+        answers.push(take(seats, 0))?;
     }
+    Ok(are_put)
+}
+
+/// The labels that are left in a pool, rising.
+fn left_in(alloc: Global, seats: Pool) -> Result<Vec<u32>, NoMemory>
+    requires { IsPool tt seats.items }
+{
     let mut left = Vec::new(alloc);
     for task in finish(alloc, seats)? {
         left.push(task.label)?;
     }
     left.sort_unstable();
-    Ok((answers, left))
+    Ok(left)
+}
+
+/// Whether the seats of a new pool act so, and these labels are left.
+fn is_played(
+    alloc: Global,
+    workers: u32,
+    puts: u32,
+    thieves: u32,
+    takes: u32,
+    want: &[Option<u32>],
+    left: &[u32],
+) -> Result<bool, NoMemory>
+    requires { (1 ≤ workers) × (workers ≤ 64) × (thieves < workers) }
+{
+    let mut answers = Vec::new(alloc);
+    let mut seats = open::<Number>(alloc, workers, &())?;
+    let are_put = act(&mut seats, &mut answers, puts, thieves, takes)?;
+    let labels = left_in(alloc, seats)?;
+    Ok(are_put && answers.as_slice() == want && labels.as_slice() == left)
+}
+
+fn are_played(alloc: Global) -> Result<bool, NoMemory> {
+    Ok(
+        is_played(alloc, 2, 3, 1, 1, &[Some(1), Some(3)], &[2])?
+            && is_played(alloc, 1, 0, 0, 1, &[None], &[])?
+            && is_played(alloc, 3, 4, 2, 0, &[Some(1), Some(2)], &[3, 4])?,
+    )
 }
 
 #[test]
-fn the_newest_to_its_owner_and_the_oldest_to_a_thief(rt: HostRuntime) -> Result<(), Fail> {
-    let alloc = rt.alloc();
-    let (answers, left) = play(alloc, 2, 3, 1, 1)?;
-    assert_eq!(rt; answers.as_slice(), [Some(1), Some(3)].as_slice());
-    assert_eq!(rt; left.as_slice(), [2].as_slice());
-    let (answers, left) = play(alloc, 1, 0, 0, 1)?;
-    assert_eq!(rt; answers.as_slice(), [None].as_slice());
-    assert_eq!(rt; left.len(), 0);
-    let (answers, left) = play(alloc, 3, 4, 2, 0)?;
-    assert_eq!(rt; answers.as_slice(), [Some(1), Some(2)].as_slice());
-    assert_eq!(rt; left.as_slice(), [3, 4].as_slice());
-    Ok(())
+fn the_newest_to_its_owner_and_the_oldest_to_a_thief(rt: HostRuntime) {
+    assert_eq!(rt; are_played(rt.alloc()), Ok(true));
 }
 
 /// Whether a seat gets nothing from an empty deque, then the one task that its owner puts, and then nothing.
@@ -155,13 +177,13 @@ fn meetings(alloc: Global, workers: u32) -> Result<u32, NoMemory>
     Ok(met)
 }
 
+fn all_meet(alloc: Global) -> Result<bool, NoMemory> {
+    Ok(meetings(alloc, 1)? == 1 && meetings(alloc, 3)? == 9 && meetings(alloc, 64)? == 4096)
+}
+
 #[test]
-fn each_deque_answers_each_seat(rt: HostRuntime) -> Result<(), Fail> {
-    let alloc = rt.alloc();
-    assert_eq!(rt; meetings(alloc, 1)?, 1);
-    assert_eq!(rt; meetings(alloc, 3)?, 9);
-    assert_eq!(rt; meetings(alloc, 64)?, 4096);
-    Ok(())
+fn each_deque_answers_each_seat(rt: HostRuntime) {
+    assert_eq!(rt; all_meet(rt.alloc()), Ok(true));
 }
 
 const TASKS: u32 = 10_000;
@@ -227,28 +249,43 @@ fn shifts<R: Threads + Sync>(rt: &R, seats: &mut [Seat<Number>], seen: &[AtomicU
     thread::for_each_mut(rt, seats, 4, &|_, seat| shift(seat, seen));
 }
 
-/// How often each task comes out of a pool of four workers.
-fn counts<R: Threads + Sync>(rt: &R, alloc: Global) -> Result<Vec<u64>, NoMemory> {
+/// What counts so many tasks.
+fn none_seen(alloc: Global, tasks: u32) -> Result<Vec<AtomicU64>, NoMemory> {
     let mut seen = Vec::new(alloc);
-    for _ in 0..2 * TASKS {
+    for _ in 0..tasks {
         seen.push(AtomicU64::new(0))?;
     }
+    Ok(seen)
+}
+
+/// Counts each task that comes out of a pool of four workers.
+fn work_off<R: Threads + Sync>(rt: &R, alloc: Global, seen: &[AtomicU64]) -> Result<(), NoMemory> {
     let mut seats = open::<Number>(alloc, 4, &())?;
-    shifts(rt, seats.as_mut_slice(), seen.as_slice());
+    shifts(rt, seats.as_mut_slice(), seen);
     for task in finish(alloc, seats)? {
-        count(seen.as_slice(), task.label);
+        count(seen, task.label);
     }
-    let mut times = Vec::new(alloc);
-    for each in seen {
-        times.push(each.into_inner())?;
+    Ok(())
+}
+
+/// The first task that comes out never or more than once.
+fn first_wrong(seen: &[AtomicU64]) -> Option<usize> {
+    for (label, times) in seen.iter().enumerate() {
+        if times.load(Ordering::SeqCst) != 1 {
+            return Some(label);
+        }
     }
-    Ok(times)
+    None
+}
+
+/// The same of 20,000 tasks.
+fn first_wrong_of_all<R: Threads + Sync>(rt: &R, alloc: Global) -> Result<Option<usize>, NoMemory> {
+    let seen = none_seen(alloc, 2 * TASKS)?;
+    work_off(rt, alloc, seen.as_slice())?;
+    Ok(first_wrong(seen.as_slice()))
 }
 
 #[test]
-fn each_task_comes_out_once(rt: HostRuntime) -> Result<(), Fail> {
-    let times = counts(&rt, rt.alloc())?;
-    assert_eq!(rt; times.len(), 20_000);
-    assert!(rt; times.iter().all(|n| *n == 1));
-    Ok(())
+fn each_task_comes_out_once(rt: HostRuntime) {
+    assert_eq!(rt; first_wrong_of_all(&rt, rt.alloc()), Ok(None));
 }

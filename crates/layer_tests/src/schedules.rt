@@ -8,7 +8,6 @@ use pool_schedule::{Event, Machine, Posted, run_schedule, step};
 use search_tree::{Grow, Grown, Label};
 use std::alloc::Global;
 use std::fmt::Write;
-use std::test::Fail;
 
 /// The numbers of a label.
 type Numbers = Vec<u32>;
@@ -148,14 +147,19 @@ fn told(alloc: Global, workers: u32, choices: &[u64]) -> Result<String, NoMemory
     text_of(alloc, &posted)
 }
 
+fn are_in_depth(alloc: Global) -> Result<bool, NoMemory> {
+    Ok(
+        told(alloc, 3, &[])?.as_str() == IN_DEPTH
+            && told(alloc, 64, &[])?.as_str() == IN_DEPTH
+            && told(alloc, 1, &[0; 1_000])?.as_str() == IN_DEPTH
+            && told(alloc, 3, &[1])?.as_str() == IN_DEPTH,
+    )
+}
+
 // By the choice 1 the second worker steals the root. Choices that are left over are ignored.
 #[test]
-fn one_worker_posts_in_depth(rt: HostRuntime) -> Result<(), Fail> {
-    assert_eq!(rt; told(rt.alloc(), 3, &[])?.as_str(), IN_DEPTH);
-    assert_eq!(rt; told(rt.alloc(), 64, &[])?.as_str(), IN_DEPTH);
-    assert_eq!(rt; told(rt.alloc(), 1, &[0; 1_000])?.as_str(), IN_DEPTH);
-    assert_eq!(rt; told(rt.alloc(), 3, &[1])?.as_str(), IN_DEPTH);
-    Ok(())
+fn one_worker_posts_in_depth(rt: HostRuntime) {
+    assert_eq!(rt; are_in_depth(rt.alloc()), Ok(true));
 }
 
 /// Events of two workers, and whether each is enabled after those before it.
@@ -186,7 +190,6 @@ fn first_wrong(alloc: Global) -> Result<Option<usize>, NoMemory> {
 }
 
 #[test]
-fn an_event_is_enabled_or_not(rt: HostRuntime) -> Result<(), Fail> {
-    assert_eq!(rt; first_wrong(rt.alloc())?, None);
-    Ok(())
+fn an_event_is_enabled_or_not(rt: HostRuntime) {
+    assert_eq!(rt; first_wrong(rt.alloc()), Ok(None));
 }

@@ -9,7 +9,7 @@ use sequence_grids::whole_alphabet;
 use snapshot_project::{Grown, NextRank, Part, Room, Snapshots, begin, grow, support};
 use std::alloc::Global;
 use std::fmt::Write;
-use std::test::Fail;
+use std::thread::Threads;
 
 /// What is told of the prefix with these ranks, in the part of the pivot, where longer prefixes must reach
 /// this threshold.
@@ -163,14 +163,19 @@ fn text_of<'a>(
     requires known { IfSome room.old.part (λ known. known ≡ part.now) }
     requires projected { (ranks : List ℕ) × IsProjected part.now least ranks snapshots.now }
 {
-    let mut text = format!(in alloc; "{}:", support(part, snapshots))?;
     let grown = grow(alloc, part, snapshots, least, room)?;
-    for next in &grown.next {
-        write!(text, " {} {} {}", next.rank, next.weight, next.support)?;
-    }
+    let next = text_of_next(alloc, support(part, snapshots), grown.next.as_slice())?;
     let one = count_behind(alloc, part, snapshots, 1, least, room)?;
     let two = count_behind(alloc, part, snapshots, 2, least, room)?;
-    write!(text, ", {one} {two}")?;
+    Ok(format!(in alloc; "{next}, {one} {two}")?)
+}
+
+/// The support, and each rank with its weight and its support.
+fn text_of_next(alloc: Global, support: u64, next: &[NextRank]) -> Result<String, NoMemory> {
+    let mut text = format!(in alloc; "{support}:")?;
+    for next in next {
+        write!(text, " {} {} {}", next.rank, next.weight, next.support)?;
+    }
     Ok(text)
 }
 
@@ -207,7 +212,7 @@ const PREFIXES: [(Option<u32>, &[u32], u64, &str); 7] = [
 ];
 
 /// The number of the first prefix of which something else is told.
-fn first_wrong(alloc: Global, job: &Job) -> Result<Option<usize>, NoMemory> {
+fn wrong_of(alloc: Global, job: &Job) -> Result<Option<usize>, NoMemory> {
     for (number, (pivot, ranks, least, want)) in PREFIXES.iter().enumerate() {
         let asked = Asked {
             pivot: *pivot,
@@ -221,9 +226,12 @@ fn first_wrong(alloc: Global, job: &Job) -> Result<Option<usize>, NoMemory> {
     Ok(None)
 }
 
+fn first_wrong<T: Threads + Sync>(rt: &T, alloc: Global) -> Result<Option<usize>, NoMemory> {
+    let job = job(rt, alloc, Shape::Climbing, &RUNNING, 1, 2)?;
+    wrong_of(alloc, &job)
+}
+
 #[test]
-fn follows_prefixes_through_the_running_data(rt: HostRuntime) -> Result<(), Fail> {
-    let job = job(&rt, rt.alloc(), Shape::Climbing, &RUNNING, 1, 2)?;
-    assert_eq!(rt; first_wrong(rt.alloc(), &job)?, None);
-    Ok(())
+fn follows_prefixes_through_the_running_data(rt: HostRuntime) {
+    assert_eq!(rt; first_wrong(&rt, rt.alloc()), Ok(None));
 }

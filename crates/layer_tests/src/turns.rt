@@ -1,6 +1,6 @@
 //! A list of amounts under a lock.
-ghost use Rattle.std.specs.Prelude.{◌≡◌, ℕ, ◌<◌, List, [], ◌∷◌, length, map, All, IfOk, vec_len};
-ghost use Rattle.turn_lock.specs.Passes.{IsPassOf, AreAllPasses};
+ghost use Rattle.std.specs.Prelude.{◌≡◌, ℕ, ◌<◌, ◌≤◌, List, [], ◌∷◌, length, map, All, IfOk, vec_len};
+ghost use Rattle.turn_lock.specs.Passes.{pass_count, IsPassOf, AreAllPasses};
 
 use mine_model::NoMemory;
 use std::alloc::Global;
@@ -79,22 +79,42 @@ fn change_at<C: Change<Amounts>>(
     lock.change(rt, pass, change)
 }
 
+/// Makes four changes by two passes, of which the third is refused, and tells whether it was.
+fn change_all(
+    rt: &impl Wait,
+    lock: &TurnLock<Amounts>,
+    passes: &mut [Pass<Amounts>],
+) -> Result<bool, NoMemory>
+    requires all { AreAllPasses lock.now passes.old }
+    requires two { pass_count lock.now ≡ 2 }
+    ensures all { AreAllPasses lock.now passes.new }
+{
+    change_at(rt, lock, passes, 0, &mut Add(5))?;
+    change_at(rt, lock, passes, 1, &mut Add(7))?;
+    let is_refused = change_at(rt, lock, passes, 1, &mut Refuse).is_err();
+    change_at(rt, lock, passes, 0, &mut Add(9))?;
+    Ok(is_refused)
+}
+
+fn no_amounts(alloc: Global) -> Amounts
+    ensures { result ≡ [] }
+{
+    Amounts {
+        added: Vec::new(alloc),
+    }
+}
+
+/// Whether the third change is refused, and the others stand in their order.
+fn are_in_order(rt: &impl Wait, alloc: Global) -> Result<bool, NoMemory> {
+    let (lock, mut passes) = TurnLock::new(alloc, no_amounts(alloc), 2)?;
+    let is_refused = change_all(rt, &lock, passes.as_mut_slice());
+    let amounts = lock.close(passes);
+    Ok(is_refused? && amounts.added.as_slice() == [(0, 5), (1, 7), (0, 9)].as_slice())
+}
+
 #[test]
 fn changes_stand_in_their_order(rt: HostRuntime) {
-    let empty = Amounts {
-        added: Vec::new(rt.alloc()),
-    };
-    let (lock, mut passes) = TurnLock::new(rt.alloc(), empty, 2).expect(&rt, "memory");
-    let all = passes.as_mut_slice();
-    change_at(&rt, &lock, all, 0, &mut Add(5)).expect(&rt, "memory");
-    change_at(&rt, &lock, all, 1, &mut Add(7)).expect(&rt, "memory");
-    assert!(rt; change_at(&rt, &lock, all, 1, &mut Refuse).is_err());
-    change_at(&rt, &lock, all, 0, &mut Add(9)).expect(&rt, "memory");
-    let amounts = lock.close(passes);
-    assert_eq!(rt;
-        amounts.added.as_slice(),
-        [(0, 5), (1, 7), (0, 9)].as_slice()
-    );
+    assert_eq!(rt; are_in_order(&rt, rt.alloc()), Ok(true));
 }
 
 /// A change that rests before it adds its amount.
@@ -195,44 +215,41 @@ fn counts_up(amounts: &[(u32, u64)], number: u32, count: u64) -> bool {
     next == count
 }
 
+/// Whether so many passes added the numbers below `count`, each in order, and nothing else.
+fn all_count_up(amounts: &[(u32, u64)], passes: u32, count: u64) -> bool {
+    for number in 0..passes {
+        if !counts_up(amounts, number, count) {
+            return false;
+        }
+    }
+    amounts.len() as u64 == u64::from(passes).saturating_mul(count)
+}
+
+/// Whether so many threads count up, each in its order.
+fn threads_count_up<R: Threads + Wait + Clock + Sync>(
+    rt: &R,
+    alloc: Global,
+    passes: u32,
+    count: u64,
+    rest: Duration,
+) -> Result<bool, NoMemory>
+    requires { 1 ≤ passes }
+{
+    let (lock, all) = TurnLock::new(alloc, no_amounts(alloc), passes)?;
+    let all = count_in_threads(rt, alloc, &lock, all, count, rest)?;
+    let amounts = lock.close(all);
+    Ok(all_count_up(amounts.added.as_slice(), passes, count))
+}
+
 #[test]
 fn threads_add_each_in_its_order(rt: HostRuntime) {
-    let empty = Amounts {
-        added: Vec::new(rt.alloc()),
-    };
-    let (lock, passes) = TurnLock::new(rt.alloc(), empty, 8).expect(&rt, "memory");
-    let passes = count_in_threads(&rt, rt.alloc(), &lock, passes, 1000, Duration::ZERO).expect(
-        &rt, "memory",
-    );
-    let amounts = lock.close(passes);
-    assert_eq!(rt; amounts.added.len(), 8000);
-    let mut sum: u64 = 0;
-    for (_, amount) in &amounts.added {
-        sum = sum.wrapping_add(*amount);
-    }
-    assert_eq!(rt; sum, 3_996_000);
-    for number in 0..8 {
-        assert!(rt;
-            counts_up(amounts.added.as_slice(), number, 1000),
-            "pass {number}"
-        );
-    }
+    let is_right = threads_count_up(&rt, rt.alloc(), 8, 1000, Duration::ZERO);
+    assert_eq!(rt; is_right, Ok(true));
 }
 
 // While one change takes two seconds, two more wait: they look again, and sleep no longer than it takes.
 #[test]
 fn waiters_look_again_after_long_turns(rt: HostRuntime) {
-    let empty = Amounts {
-        added: Vec::new(rt.alloc()),
-    };
-    let (lock, passes) = TurnLock::new(rt.alloc(), empty, 3).expect(&rt, "memory");
-    let rest = Duration::from_secs(2);
-    let passes = count_in_threads(&rt, rt.alloc(), &lock, passes, 1, rest).expect(&rt, "memory");
-    let amounts = lock.close(passes);
-    for number in 0..3 {
-        assert!(rt;
-            counts_up(amounts.added.as_slice(), number, 1),
-            "pass {number}"
-        );
-    }
+    let is_right = threads_count_up(&rt, rt.alloc(), 3, 1, Duration::from_secs(2));
+    assert_eq!(rt; is_right, Ok(true));
 }

@@ -2,10 +2,9 @@
 
 ghost use Rattle.std.specs.Prelude.{[], ◌∷◌};
 
-use mine_model::Item;
+use mine_model::{Item, NoMemory};
 use patex_parser::{FindName, NameUse, PatexFault, parse, resolve};
 use std::alloc::{AllocError, Global};
-use std::test::Fail;
 
 // Texts, and the tree as which each reads or its refusal, as they are printed.
 const READINGS: &[(&str, &str)] = &[
@@ -60,13 +59,19 @@ fn read_as(alloc: Global, text: &str) -> Result<String, AllocError> {
     }
 }
 
-#[test]
-fn reads_or_refuses(rt: HostRuntime) -> Result<(), Fail> {
+// The first text that reads otherwise.
+fn first_misread(alloc: Global) -> Result<Option<&'static str>, NoMemory> {
     for (text, wanted) in READINGS {
-        let found = read_as(rt.alloc(), text)?;
-        assert_eq!(rt; found.as_str(), *wanted, "{text}");
+        if read_as(alloc, text)?.as_str() != *wanted {
+            return Ok(Some(*text));
+        }
     }
-    Ok(())
+    Ok(None)
+}
+
+#[test]
+fn reads_or_refuses(rt: HostRuntime) {
+    assert_eq!(rt; first_misread(rt.alloc()), Ok(None));
 }
 
 // The names of a text, each with its column.
@@ -88,18 +93,31 @@ fn are_uses(found: &[NameUse], wanted: &[(u32, &str)]) -> bool {
     found.len() == wanted.len()
 }
 
+// Whether the names of the text are these.
+fn has_uses(alloc: Global, text: &str, wanted: &[(u32, &str)]) -> bool {
+    match parse(alloc, text.as_bytes()) {
+        Ok(parsed) => are_uses(parsed.uses.as_slice(), wanted),
+        Err(_) => false,
+    }
+}
+
 #[test]
-fn keeps_the_uses_of_names(rt: HostRuntime) -> Result<(), Fail> {
-    let parsed = parse(
-        rt.alloc(),
-        "(é) 'b''c'* ! ''='''' a-b@c/d:e#f%g&h_9".as_bytes(),
-    )?;
-    assert!(rt; are_uses(parsed.uses.as_slice(), USES));
-    Ok(())
+fn keeps_the_uses_of_names(rt: HostRuntime) {
+    let text = "(é) 'b''c'* ! ''='''' a-b@c/d:e#f%g&h_9";
+    assert!(rt; has_uses(rt.alloc(), text, USES));
 }
 
 // A text's front, how often it stands, its middle, its back, how often it stands, and the refusal.
-const LIMITS: &[(&str, usize, &str, &str, usize, Option<PatexFault>)] = &[
+type Limit = (
+    &'static str,
+    usize,
+    &'static str,
+    &'static str,
+    usize,
+    Option<PatexFault>,
+);
+
+const LIMITS: &[Limit] = &[
     ("", 0, "''", "", 0, None),
     ("", 0, "[a{32}]{32}", "", 0, None),
     ("", 0, "a{1024}", "", 0, None),
@@ -178,13 +196,26 @@ fn repeated(
     format!(in alloc; "{front}{middle}{back}")
 }
 
-#[test]
-fn counts_to_the_limits(rt: HostRuntime) -> Result<(), Fail> {
-    for (front, times, middle, back, back_times, fault) in LIMITS {
-        let text = repeated(rt.alloc(), front, *times, middle, back, *back_times)?;
-        assert_eq!(rt; parse(rt.alloc(), text.as_bytes()).err(), *fault, "{text}");
+// Whether the text is refused so.
+fn is_refused(alloc: Global, limit: Limit) -> Result<bool, NoMemory> {
+    let (front, times, middle, back, back_times, fault) = limit;
+    let text = repeated(alloc, front, times, middle, back, back_times)?;
+    Ok(parse(alloc, text.as_bytes()).err() == fault)
+}
+
+// The number of the first text that is refused otherwise.
+fn first_beyond(alloc: Global) -> Result<Option<usize>, NoMemory> {
+    for (number, limit) in LIMITS.iter().enumerate() {
+        if !is_refused(alloc, *limit)? {
+            return Ok(Some(number));
+        }
     }
-    Ok(())
+    Ok(None)
+}
+
+#[test]
+fn counts_to_the_limits(rt: HostRuntime) {
+    assert_eq!(rt; first_beyond(rt.alloc()), Ok(None));
 }
 
 /// The names `x`, `a` and `b`.
@@ -225,11 +256,17 @@ fn found_as(alloc: Global, text: &str) -> Result<String, AllocError> {
     format!(in alloc; "{found:?}")
 }
 
-#[test]
-fn finds_the_items_of_names(rt: HostRuntime) -> Result<(), Fail> {
+// The first text whose names are found to be others.
+fn first_misfound(alloc: Global) -> Result<Option<&'static str>, NoMemory> {
     for (text, wanted) in FOUND {
-        let found = found_as(rt.alloc(), text)?;
-        assert_eq!(rt; found.as_str(), *wanted, "{text}");
+        if found_as(alloc, text)?.as_str() != *wanted {
+            return Ok(Some(*text));
+        }
     }
-    Ok(())
+    Ok(None)
+}
+
+#[test]
+fn finds_the_items_of_names(rt: HostRuntime) {
+    assert_eq!(rt; first_misfound(rt.alloc()), Ok(None));
 }

@@ -5,21 +5,29 @@ ghost use Rattle.std.specs.Prelude.{◌<◌};
 use super::one_file::one_file;
 use item_hierarchy::{close, read};
 use item_names::Names;
-use mine_model::{Fault, Hierarchy, Item};
+use mine_model::{Fault, Hierarchy, Item, NoMemory};
 use std::alloc::{AllocError, Global};
-use std::test::Fail;
+use text_ports::MemFiles;
+
+/// The hierarchy of these files, with these names, or why there is none.
+fn closed(alloc: Global, files: &mut MemFiles, names: &mut Names) -> Result<Hierarchy, Fault> {
+    match read(alloc, files, "f", names) {
+        Ok(edges) => close(alloc, edges, names).map_err(Fault::from),
+        Err(fault) => Err(Fault::from(fault)),
+    }
+}
 
 /// The hierarchy of a file with these bytes, or why there is none.
-fn hierarchy_of(alloc: Global, bytes: Vec<u8>, cut: usize) -> Result<Result<Hierarchy, Fault>, Fail>
+fn hierarchy_of(
+    alloc: Global,
+    bytes: &[u8],
+    cut: usize,
+) -> Result<Result<Hierarchy, Fault>, NoMemory>
     requires { 0 < cut }
 {
     let mut names = Names::new(alloc)?;
     let mut files = one_file(alloc, bytes, cut, &[])?;
-    let hierarchy = match read(alloc, &mut files, "f", &mut names) {
-        Ok(edges) => close(alloc, edges, &names).map_err(Fault::from),
-        Err(fault) => Err(Fault::from(fault)),
-    };
-    Ok(hierarchy)
+    Ok(closed(alloc, &mut files, &mut names))
 }
 
 /// Bytes of a file, and how many items stand above the first, which is one of them.
@@ -30,15 +38,34 @@ const ROWS: &[(&str, usize)] = &[
     ("top\nb top\nb a\na b2\n", 1),
 ];
 
-#[test]
-fn rows_and_their_ancestors(rt: HostRuntime) -> Result<(), Fail> {
-    for (text, above) in ROWS {
-        let bytes = Vec::from_slice(rt.alloc(), text.as_bytes())?;
-        let hierarchy = hierarchy_of(rt.alloc(), bytes, 3)??;
-        assert!(rt; hierarchy.items() > 0);
-        assert_eq!(rt; hierarchy.ancestors(Item(0)).len(), *above, "{text}");
+/// How many items stand above the first. None where there is no item, or no hierarchy.
+fn above_first(hierarchy: &Result<Hierarchy, Fault>) -> Option<usize> {
+    match hierarchy {
+        Ok(hierarchy) if hierarchy.items() > 0 => Some(hierarchy.ancestors(Item(0)).len()),
+        _ => None,
     }
-    Ok(())
+}
+
+/// The first file with other ancestors.
+fn first_misread(alloc: Global) -> Result<Option<&'static str>, NoMemory> {
+    for (text, above) in ROWS {
+        if above_first(&hierarchy_of(alloc, text.as_bytes(), 3)?) != Some(*above) {
+            return Ok(Some(*text));
+        }
+    }
+    Ok(None)
+}
+
+#[test]
+fn rows_and_their_ancestors(rt: HostRuntime) {
+    assert_eq!(rt; first_misread(rt.alloc()), Ok(None));
+}
+
+/// Why a file with these bytes is refused, or None.
+fn refusal_of(alloc: Global, bytes: &[u8], cut: usize) -> Result<Option<Fault>, NoMemory>
+    requires { 0 < cut }
+{
+    Ok(hierarchy_of(alloc, bytes, cut)?.err())
 }
 
 const CYCLES: &[(&str, Fault)] = &[
@@ -49,34 +76,47 @@ const CYCLES: &[(&str, Fault)] = &[
     ("a b\nb a\nc c", Fault::Cycle { line: 2 }),
 ];
 
-#[test]
-fn the_first_line_with_a_cycle(rt: HostRuntime) -> Result<(), Fail> {
+/// The first file that is refused for another reason.
+fn first_other_cycle(alloc: Global) -> Result<Option<&'static str>, NoMemory> {
     for (text, fault) in CYCLES {
-        let bytes = Vec::from_slice(rt.alloc(), text.as_bytes())?;
-        let refused = hierarchy_of(rt.alloc(), bytes, 3)?.err();
-        assert_eq!(rt; refused, Some(*fault), "{text}");
+        if refusal_of(alloc, text.as_bytes(), 3)? != Some(*fault) {
+            return Ok(Some(*text));
+        }
     }
-    Ok(())
+    Ok(None)
 }
 
 #[test]
-fn items_that_are_added_have_no_parents(rt: HostRuntime) -> Result<(), Fail> {
-    let bytes = Vec::from_slice(rt.alloc(), b"x y")?;
-    let mut hierarchy = hierarchy_of(rt.alloc(), bytes, 9)??;
+fn the_first_line_with_a_cycle(rt: HostRuntime) {
+    assert_eq!(rt; first_other_cycle(rt.alloc()), Ok(None));
+}
+
+/// Whether the hierarchy of an item and one above it is right once a third is added.
+fn is_covered(hierarchy: &mut Hierarchy) -> Result<bool, NoMemory> {
     hierarchy.cover(3)?;
-    assert_eq!(rt; hierarchy.items(), 3);
-    let first = [Item(0), Item(1)];
-    assert_eq!(rt; hierarchy.ancestors(Item(0)), first.as_slice());
-    assert_eq!(rt; hierarchy.ancestors(Item(2)), [Item(2)].as_slice());
-    assert!(rt; hierarchy.is_above(Item(0), Item(1)));
-    assert!(rt; !hierarchy.is_above(Item(1), Item(0)));
-    Ok(())
+    Ok(
+        hierarchy.items() == 3
+            && hierarchy.ancestors(Item(0)) == [Item(0), Item(1)].as_slice()
+            && hierarchy.ancestors(Item(2)) == [Item(2)].as_slice()
+            && hierarchy.is_above(Item(0), Item(1))
+            && !hierarchy.is_above(Item(1), Item(0)),
+    )
+}
+
+fn is_covered_when_read(alloc: Global) -> Result<bool, NoMemory> {
+    match hierarchy_of(alloc, b"x y", 9)? {
+        Ok(mut hierarchy) => is_covered(&mut hierarchy),
+        Err(_) => Ok(false),
+    }
+}
+
+#[test]
+fn items_that_are_added_have_no_parents(rt: HostRuntime) {
+    assert_eq!(rt; is_covered_when_read(rt.alloc()), Ok(true));
 }
 
 /// A file in which each item up to this one stands below the next, with more behind.
-fn chain(alloc: Global, last: u32, more: &str) -> Result<Vec<u8>, AllocError>
-    requires { last < 2000000 }
-{
+fn chain(alloc: Global, last: u32, more: &str) -> Result<String, AllocError> {
     let mut text = String::new(alloc);
     for k in 1..last {
         let above = k + 1;
@@ -84,7 +124,7 @@ fn chain(alloc: Global, last: u32, more: &str) -> Result<Vec<u8>, AllocError>
         text.push_str(line.as_str())?;
     }
     text.push_str(more)?;
-    Ok(text.into_bytes())
+    Ok(text)
 }
 
 /// The last item of a chain, what stands behind it, and why the file is refused.
@@ -99,13 +139,18 @@ const CHAINS: &[(u32, &str, Option<Fault>)] = &[
     ),
 ];
 
-#[test]
-fn as_many_ancestors_as_may_be(rt: HostRuntime) -> Result<(), Fail> {
-    for (last, more, fault) in CHAINS {
-        assert!(rt; *last < 2_000_000);
-        let bytes = chain(rt.alloc(), *last, more)?;
-        let refused = hierarchy_of(rt.alloc(), bytes, 4_096)?.err();
-        assert_eq!(rt; refused, *fault, "{last}");
+/// The number of the first chain that is refused otherwise.
+fn first_other_chain(alloc: Global) -> Result<Option<usize>, NoMemory> {
+    for (number, (last, more, fault)) in CHAINS.iter().enumerate() {
+        let text = chain(alloc, *last, more)?;
+        if refusal_of(alloc, text.as_bytes(), 4_096)? != *fault {
+            return Ok(Some(number));
+        }
     }
-    Ok(())
+    Ok(None)
+}
+
+#[test]
+fn as_many_ancestors_as_may_be(rt: HostRuntime) {
+    assert_eq!(rt; first_other_chain(rt.alloc()), Ok(None));
 }

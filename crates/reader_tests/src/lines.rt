@@ -3,8 +3,8 @@
 ghost use Rattle.std.specs.Prelude.{◌<◌};
 
 use super::one_file::one_file;
+use mine_model::NoMemory;
 use std::alloc::{AllocError, Global};
-use std::test::Fail;
 use text_ports::TextFault::BadByte;
 use text_ports::{LineVisitor, Span, TextFault, read_lines};
 
@@ -42,7 +42,7 @@ fn shown_of(
 ) -> Result<(Outcome, Vec<u8>), AllocError>
     requires { 0 < cut }
 {
-    let mut files = one_file(alloc, Vec::from_slice(alloc, bytes)?, cut, fails)?;
+    let mut files = one_file(alloc, bytes, cut, fails)?;
     let mut visitor = Shown {
         text: Vec::new(alloc),
     };
@@ -79,24 +79,49 @@ const LINES: &[(&[u8], Outcome, &str)] = &[
     ),
 ];
 
-#[test]
-fn lines_and_fields_or_the_first_bad_byte(rt: HostRuntime) -> Result<(), Fail> {
-    for (bytes, outcome, text) in LINES {
-        for cut in 1..8 {
-            let (found, told) = shown_of(rt.alloc(), bytes, cut, &[])?;
-            assert_eq!(rt; found, *outcome, "{bytes:?}");
-            assert_eq!(rt; told.as_slice(), text.as_bytes(), "{bytes:?}");
+/// Whether the outcome for a file of these bytes, and what is shown of its lines, are these.
+fn is_shown(
+    alloc: Global,
+    bytes: &[u8],
+    cut: usize,
+    outcome: Outcome,
+    text: &str,
+) -> Result<bool, NoMemory>
+    requires { 0 < cut }
+{
+    let (found, shown) = shown_of(alloc, bytes, cut, &[])?;
+    Ok(found == outcome && shown.as_slice() == text.as_bytes())
+}
+
+/// The number of the first file of which something else is shown.
+fn first_misread(alloc: Global, cut: usize) -> Result<Option<usize>, NoMemory>
+    requires { 0 < cut }
+{
+    for (number, (bytes, outcome, text)) in LINES.iter().enumerate() {
+        if !is_shown(alloc, bytes, cut, *outcome, text)? {
+            return Ok(Some(number));
         }
     }
-    Ok(())
+    Ok(None)
+}
+
+#[test]
+fn lines_and_fields_or_the_first_bad_byte(rt: HostRuntime) {
+    for cut in 1..8 {
+        assert_eq!(rt; first_misread(rt.alloc(), cut), Ok(None));
+    }
+}
+
+/// Whether a file of 16,385 bytes is read where this call fails.
+fn is_read(alloc: Global, fail: u64) -> Result<bool, NoMemory> {
+    let (outcome, _) = shown_of(alloc, &[b' '; 16_385], 65_536, &[fail])?;
+    Ok(outcome.is_ok())
 }
 
 // A call opens the file, two read it, and one finds its end.
 #[test]
-fn a_file_is_read_by_as_few_calls_as_its_size_asks(rt: HostRuntime) -> Result<(), Fail> {
+fn a_file_is_read_by_as_few_calls_as_its_size_asks(rt: HostRuntime) {
     for fail in 1..6u64 {
-        let (outcome, _) = shown_of(rt.alloc(), &[b' '; 16_385], 65_536, &[fail])?;
-        assert_eq!(rt; outcome.is_ok(), fail == 5, "{fail}");
+        assert_eq!(rt; is_read(rt.alloc(), fail), Ok(fail == 5));
     }
-    Ok(())
 }

@@ -1,37 +1,63 @@
 //! Names and their numbers.
 
 use item_names::{Names, NamesFault};
-use mine_model::Item;
+use mine_model::{Item, NoMemory};
 use std::alloc::{AllocError, Global};
-use std::test::Fail;
 use text_ports::Span;
 
-#[test]
-fn a_name_keeps_its_number(rt: HostRuntime) -> Result<(), Fail> {
-    let mut names = Names::new(rt.alloc())?;
-    assert_eq!(rt; names.intern(b"x")?, Item(0));
-    assert_eq!(rt; names.intern(b"y")?, Item(1));
-    assert_eq!(rt; names.intern(b"x")?, Item(0));
-    assert_eq!(rt; names.intern(b"")?, Item(2));
-    assert_eq!(rt; names.find(b"y"), Some(Item(1)));
-    assert_eq!(rt; names.find(b"z"), None);
-    assert_eq!(rt; names.count(), 3);
-    assert_eq!(rt; names.text(Item(1)), b"y".as_slice());
-    assert_eq!(rt; names.text(Item(2)), b"".as_slice());
-    Ok(())
+/// Whether the numbers of these names are theirs.
+fn are_numbered(names: &mut Names, wanted: &[(&[u8], u32)]) -> bool {
+    for (name, number) in wanted {
+        if names.intern(name) != Ok(Item(*number)) {
+            return false;
+        }
+    }
+    true
+}
+
+fn keeps_numbers(names: &mut Names) -> bool {
+    are_numbered(names, &[(b"x", 0), (b"y", 1), (b"x", 0), (b"", 2)])
+        && names.find(b"y") == Some(Item(1))
+        && names.find(b"z") == None
+        && names.count() == 3
+        && names.text(Item(1)) == b"y".as_slice()
+        && names.text(Item(2)) == b"".as_slice()
+}
+
+fn new_names_keep_numbers(alloc: Global) -> Result<bool, NoMemory> {
+    let mut names = Names::new(alloc)?;
+    Ok(keeps_numbers(&mut names))
 }
 
 #[test]
-fn holds_as_many_names_as_it_says(rt: HostRuntime) -> Result<(), Fail> {
-    let mut names = Names::new(rt.alloc())?;
-    for number in 0..1_048_576u32 {
+fn a_name_keeps_its_number(rt: HostRuntime) {
+    assert_eq!(rt; new_names_keep_numbers(rt.alloc()), Ok(true));
+}
+
+/// The first number whose bytes are not given it as a name, of so many.
+fn first_other(names: &mut Names, count: u32) -> Option<u32> {
+    for number in 0..count {
         if names.intern(&number.to_le_bytes()) != Ok(Item(number)) {
-            assert!(rt; false, "name {number}");
+            return Some(number);
         }
     }
-    assert_eq!(rt; names.intern(b"one more"), Err(NamesFault::TooMany));
-    assert_eq!(rt; names.count(), 1_048_576);
-    Ok(())
+    None
+}
+
+fn is_full_at(names: &mut Names, count: u32) -> bool {
+    first_other(names, count).is_none()
+        && names.intern(b"one more") == Err(NamesFault::TooMany)
+        && names.count() == count
+}
+
+fn new_names_are_full_at(alloc: Global, count: u32) -> Result<bool, NoMemory> {
+    let mut names = Names::new(alloc)?;
+    Ok(is_full_at(&mut names, count))
+}
+
+#[test]
+fn holds_as_many_names_as_it_says(rt: HostRuntime) {
+    assert_eq!(rt; new_names_are_full_at(rt.alloc(), 1_048_576), Ok(true));
 }
 
 /// The numbers below 10,000 that make, with an `n` before them, names whose searches all begin at one slot,
@@ -48,20 +74,41 @@ fn of_crowd(alloc: Global, number: u32) -> Result<String, AllocError> {
     format!(in alloc; "n{number}")
 }
 
+/// Whether the name is new, and then gets this number.
+fn is_given(names: &mut Names, name: &str, number: u32) -> bool {
+    names.find(name.as_bytes()) == None && names.intern(name.as_bytes()) == Ok(Item(number))
+}
+
+/// The first number of the crowd that its name is not given.
+fn first_misgiven(alloc: Global, names: &mut Names) -> Result<Option<u32>, AllocError> {
+    for number in 0..38u32 {
+        if !is_given(names, of_crowd(alloc, number)?.as_str(), number) {
+            return Ok(Some(number));
+        }
+    }
+    Ok(None)
+}
+
+/// The first number of the crowd by which its name is not found.
+fn first_misfound(alloc: Global, names: &Names) -> Result<Option<u32>, AllocError> {
+    for number in 0..38u32 {
+        if names.find(of_crowd(alloc, number)?.as_bytes()) != Some(Item(number)) {
+            return Ok(Some(number));
+        }
+    }
+    Ok(None)
+}
+
+fn tells_apart(alloc: Global) -> Result<bool, NoMemory> {
+    let mut names = Names::new(alloc)?;
+    let is_given = first_misgiven(alloc, &mut names)?.is_none();
+    let is_found = first_misfound(alloc, &names)?.is_none();
+    Ok(is_given && is_found && names.find(b"n") == None)
+}
+
 #[test]
-fn names_that_begin_at_one_slot_are_told_apart(rt: HostRuntime) -> Result<(), Fail> {
-    let mut names = Names::new(rt.alloc())?;
-    for number in 0..38u32 {
-        let name = of_crowd(rt.alloc(), number)?;
-        assert_eq!(rt; names.find(name.as_bytes()), None, "{name}");
-        assert_eq!(rt; names.intern(name.as_bytes())?, Item(number), "{name}");
-    }
-    for number in 0..38u32 {
-        let name = of_crowd(rt.alloc(), number)?;
-        assert_eq!(rt; names.find(name.as_bytes()), Some(Item(number)), "{name}");
-    }
-    assert_eq!(rt; names.find(b"n"), None);
-    Ok(())
+fn names_that_begin_at_one_slot_are_told_apart(rt: HostRuntime) {
+    assert_eq!(rt; tells_apart(rt.alloc()), Ok(true));
 }
 
 // Fields of 16 bytes, of one, of 17, and the first again.
@@ -72,14 +119,21 @@ const FIELDS: &[Span] = &[
     Span { from: 37, to: 53 },
 ];
 
-#[test]
-fn fields_get_numbers_in_their_order(rt: HostRuntime) -> Result<(), Fail> {
-    let mut names = Names::new(rt.alloc())?;
-    let mut items = Vec::new(rt.alloc());
+/// Whether the fields get the numbers 0, 1, 2 and 0.
+fn numbers_fields(names: &mut Names, items: &mut Vec<Item>) -> bool {
     let text = b"0123456789abcdef x 0123456789abcdefg 0123456789abcdef";
-    names.intern_fields(text, FIELDS, &mut items)?;
     let wanted = [Item(0), Item(1), Item(2), Item(0)];
-    assert_eq!(rt; items.as_slice(), wanted.as_slice());
-    assert_eq!(rt; names.count(), 3);
-    Ok(())
+    names.intern_fields(text, FIELDS, items).is_ok()
+        && items.as_slice() == wanted.as_slice()
+        && names.count() == 3
+}
+
+fn new_names_number_fields(alloc: Global) -> Result<bool, NoMemory> {
+    let mut names = Names::new(alloc)?;
+    Ok(numbers_fields(&mut names, &mut Vec::new(alloc)))
+}
+
+#[test]
+fn fields_get_numbers_in_their_order(rt: HostRuntime) {
+    assert_eq!(rt; new_names_number_fields(rt.alloc()), Ok(true));
 }

@@ -8,13 +8,16 @@ use text_ports::{MemFile, MemFiles};
 /// The file `f` with these bytes. A read gives at most `cut` of them, and the calls in `fails` fail.
 pub(crate) fn one_file(
     alloc: Global,
-    bytes: Vec<u8>,
+    bytes: &[u8],
     cut: usize,
     fails: &[u64],
 ) -> Result<MemFiles, AllocError>
     requires { 0 < cut }
 {
-    let name = Vec::from_slice(alloc, b"f")?;
-    let files = vec![in alloc; MemFile { name, bytes }]?;
+    let file = MemFile {
+        name: Vec::from_slice(alloc, b"f")?,
+        bytes: Vec::from_slice(alloc, bytes)?,
+    };
+    let files = vec![in alloc; file]?;
     Ok(MemFiles::new(files, Vec::from_slice(alloc, fails)?, cut))
 }

@@ -1,8 +1,8 @@
 //! The objects that stand for files and streams.
 
+use mine_model::NoMemory;
 use std::alloc::{AllocError, Global};
 use std::io::{ErrorKind, Write};
-use std::test::Fail;
 use std::{fs, io};
 use text_ports::{
     DiskFiles, Failed, Files, MemFile, MemFiles, MemSink, Sink, StdSink, SureFiles, SureSink,
@@ -23,23 +23,52 @@ fn two_of_a_name(alloc: Global) -> Result<MemFiles, AllocError> {
     Ok(MemFiles::new(files, vec![in alloc; 1, 4, 10]?, 2))
 }
 
+/// A call of files: a name that is opened, or a read into a buffer, and what it answers.
+type Call<'a> = (Option<&'a str>, Result<usize, Failed>);
+
+/// What a call answers. One that opens a file answers no byte.
+fn answer<F: Files>(files: &mut F, name: Option<&str>, buffer: &mut [u8]) -> Result<usize, Failed> {
+    match name {
+        Some(name) => files.open(name).map(|_| 0),
+        None => files.read(buffer),
+    }
+}
+
+/// The number of the first call that answers something else.
+fn first_other<F: Files>(files: &mut F, calls: &[Call], buffer: &mut [u8]) -> Option<usize> {
+    for (number, (name, wanted)) in calls.iter().enumerate() {
+        if answer(files, *name, buffer) != *wanted {
+            return Some(number);
+        }
+    }
+    None
+}
+
+const IN_MEMORY: &[Call] = &[
+    (Some("rows"), Err(Failed)),
+    (Some("rows"), Ok(0)),
+    (None, Ok(2)),
+    (None, Err(Failed)),
+    (None, Ok(1)),
+    (None, Ok(0)),
+    (Some("absent"), Err(Failed)),
+    (None, Ok(0)),
+    (Some("rows"), Ok(0)),
+    (Some("rows"), Err(Failed)),
+    (None, Ok(0)),
+];
+
+/// Whether each call answers that, and what the reads leave in a buffer is right.
+fn is_read_in_memory(alloc: Global) -> Result<bool, NoMemory> {
+    let mut files = two_of_a_name(alloc)?;
+    let mut buffer = [0; 4];
+    let other = first_other(&mut files, IN_MEMORY, &mut buffer);
+    Ok(other == None && buffer == [b'c', b'b', 0, 0])
+}
+
 #[test]
-fn files_in_memory_fail_where_they_are_told_to(rt: HostRuntime) -> Result<(), Fail> {
-    let mut files = two_of_a_name(rt.alloc())?;
-    let mut buffer = [0u8; 4];
-    assert_eq!(rt; files.open("rows"), Err(Failed));
-    assert_eq!(rt; files.open("rows"), Ok(()));
-    assert_eq!(rt; files.read(&mut buffer), Ok(2));
-    assert_eq!(rt; files.read(&mut buffer), Err(Failed));
-    assert_eq!(rt; files.read(&mut buffer), Ok(1));
-    assert_eq!(rt; buffer, [b'c', b'b', 0, 0]);
-    assert_eq!(rt; files.read(&mut buffer), Ok(0));
-    assert_eq!(rt; files.open("absent"), Err(Failed));
-    assert_eq!(rt; files.read(&mut buffer), Ok(0));
-    assert_eq!(rt; files.open("rows"), Ok(()));
-    assert_eq!(rt; files.open("rows"), Err(Failed));
-    assert_eq!(rt; files.read(&mut buffer), Ok(0));
-    Ok(())
+fn files_in_memory_fail_where_they_are_told_to(rt: HostRuntime) {
+    assert_eq!(rt; is_read_in_memory(rt.alloc()), Ok(true));
 }
 
 const CALLS: &[(&str, Result<usize, Failed>, &str)] = &[
@@ -50,53 +79,80 @@ const CALLS: &[(&str, Result<usize, Failed>, &str)] = &[
     ("fg", Err(Failed), "abcde"),
 ];
 
-#[test]
-fn a_sink_in_memory_is_cut_fails_and_is_full(rt: HostRuntime) -> Result<(), Fail> {
-    let mut sink = MemSink::new(rt.alloc(), 5, 3, vec![in rt.alloc(); 2]?)?;
-    for (piece, outcome, held) in CALLS {
-        assert_eq!(rt; sink.write(piece.as_bytes()), *outcome);
-        assert_eq!(rt; sink.bytes(), held.as_bytes());
+/// The number of the first call after which the sink answered or holds something else.
+fn first_miswritten(sink: &mut MemSink) -> Option<usize> {
+    for (number, (piece, outcome, held)) in CALLS.iter().enumerate() {
+        if sink.write(piece.as_bytes()) != *outcome || sink.bytes() != held.as_bytes() {
+            return Some(number);
+        }
     }
-    Ok(())
+    None
+}
+
+fn write_in_memory(alloc: Global) -> Result<Option<usize>, NoMemory> {
+    let mut sink = MemSink::new(alloc, 5, 3, vec![in alloc; 2]?)?;
+    Ok(first_miswritten(&mut sink))
 }
 
 #[test]
-fn a_text_is_written_in_pieces(rt: HostRuntime) -> Result<(), Fail> {
-    let mut sink = MemSink::new(rt.alloc(), 5, 2, vec![in rt.alloc(); 4]?)?;
-    assert_eq!(rt; write_all(&mut sink, b"abc"), Ok(()));
-    assert_eq!(rt; write_all(&mut sink, b"defg"), Err(Failed));
-    assert_eq!(rt; sink.bytes(), b"abcde".as_slice());
-    Ok(())
+fn a_sink_in_memory_is_cut_fails_and_is_full(rt: HostRuntime) {
+    assert_eq!(rt; write_in_memory(rt.alloc()), Ok(None));
+}
+
+/// Whether a text is written whole, and the next one as far as the sink takes it.
+fn is_cut(sink: &mut MemSink) -> bool {
+    write_all(sink, b"abc") == Ok(())
+        && write_all(sink, b"defg") == Err(Failed)
+        && sink.bytes() == b"abcde".as_slice()
+}
+
+fn is_written_in_pieces(alloc: Global) -> Result<bool, NoMemory> {
+    let mut sink = MemSink::new(alloc, 5, 2, vec![in alloc; 4]?)?;
+    Ok(is_cut(&mut sink))
 }
 
 #[test]
-fn sure_ones_never_fail(rt: HostRuntime) -> Result<(), Fail> {
-    assert_eq!(rt; SureSink.write(b"abc"), Ok(3));
-    let file = named(rt.alloc(), "f", "x")?;
-    let mut files = SureFiles::new(vec![in rt.alloc(); file]?, 1);
-    let mut buffer = [0u8; 2];
-    assert_eq!(rt; files.open("f"), Ok(()));
-    assert_eq!(rt; files.read(&mut buffer), Ok(1));
-    assert_eq!(rt; files.open("absent"), Ok(()));
-    assert_eq!(rt; files.read(&mut buffer), Ok(0));
-    Ok(())
+fn a_text_is_written_in_pieces(rt: HostRuntime) {
+    assert_eq!(rt; is_written_in_pieces(rt.alloc()), Ok(true));
+}
+
+const SURE: &[Call] = &[
+    (Some("f"), Ok(0)),
+    (None, Ok(1)),
+    (Some("absent"), Ok(0)),
+    (None, Ok(0)),
+];
+
+fn read_surely(alloc: Global) -> Result<Option<usize>, NoMemory> {
+    let file = named(alloc, "f", "x")?;
+    let mut files = SureFiles::new(vec![in alloc; file]?, 1);
+    Ok(first_other(&mut files, SURE, &mut [0; 2]))
 }
 
 #[test]
-fn the_disk_is_read_with_no_buffer_between(rt: HostRuntime) -> Result<(), Fail> {
-    let mut buffer = [0u8; 4096];
-    fs::write(&rt, "ports_long.txt", [b'x'; 5000].as_slice())?;
+fn sure_ones_never_fail(rt: HostRuntime) {
+    let is_written = SureSink.write(b"abc") == Ok(3);
+    assert!(rt; is_written && read_surely(rt.alloc()) == Ok(None));
+}
+
+const ON_DISK: &[Call] = &[
+    (None, Ok(0)),
+    (Some("ports_long.txt"), Ok(0)),
+    (None, Ok(4096)),
+    (None, Ok(904)),
+    (None, Ok(0)),
+    (Some("ports_absent.txt"), Err(Failed)),
+    (None, Ok(0)),
+    (Some("-"), Ok(0)),
+];
+
+#[test]
+fn the_disk_is_read_with_no_buffer_between(rt: HostRuntime) {
+    let is_made = fs::write(&rt, "ports_long.txt", [b'x'; 5000].as_slice()).is_ok();
     let mut files = DiskFiles::new(&rt);
-    assert_eq!(rt; files.read(&mut buffer), Ok(0));
-    assert_eq!(rt; files.open("ports_long.txt"), Ok(()));
-    assert_eq!(rt; files.read(&mut buffer), Ok(4096));
-    assert_eq!(rt; files.read(&mut buffer), Ok(904));
-    assert_eq!(rt; files.read(&mut buffer), Ok(0));
-    assert_eq!(rt; files.open("ports_absent.txt"), Err(Failed));
-    assert_eq!(rt; files.read(&mut buffer), Ok(0));
-    assert_eq!(rt; files.open("-"), Ok(()));
-    fs::remove_file(&rt, "ports_long.txt")?;
-    Ok(())
+    let other = first_other(&mut files, ON_DISK, &mut [0; 4096]);
+    let is_gone = fs::remove_file(&rt, "ports_long.txt").is_ok();
+    assert!(rt; is_made && is_gone && other == None);
 }
 
 /// Is interrupted so many times at a write and so many times at a flush. It takes at most so many bytes of a
@@ -142,17 +198,25 @@ const STREAMS: &[(u32, u32, usize, bool, Result<usize, Failed>)] = &[
     (0, 0, 1, true, Err(Failed)),
 ];
 
-#[test]
-fn an_interrupted_call_is_made_again(rt: HostRuntime) {
-    for (writes, flushes, takes, is_lost, outcome) in STREAMS {
+/// The number of the first stream to which a write answers something else.
+fn first_other_stream() -> Option<usize> {
+    for (number, (writes, flushes, takes, is_lost, outcome)) in STREAMS.iter().enumerate() {
         let mut sink = StdSink::new(Stream {
             writes: *writes,
             flushes: *flushes,
             takes: *takes,
             is_lost: *is_lost,
         });
-        assert_eq!(rt; sink.write(b"abc"), *outcome, "{writes} {flushes} {takes}");
+        if sink.write(b"abc") != *outcome {
+            return Some(number);
+        }
     }
-    assert_eq!(rt; StdSink::out(&rt).write(b"\n"), Ok(1));
-    assert_eq!(rt; StdSink::err(&rt).write(b"\n"), Ok(1));
+    None
+}
+
+#[test]
+fn an_interrupted_call_is_made_again(rt: HostRuntime) {
+    let out = StdSink::out(&rt).write(b"\n");
+    let err = StdSink::err(&rt).write(b"\n");
+    assert!(rt; first_other_stream() == None && out == Ok(1) && err == Ok(1));
 }

@@ -4,20 +4,19 @@ ghost use Rattle.std.specs.Prelude.{◌<◌};
 
 use super::one_file::one_file;
 use item_names::Names;
-use mine_model::{Db, Item};
+use mine_model::{Db, Item, NoMemory};
 use sequence_reader::SequenceFault::{
     BadByte, BadWeight, TooLarge, TooLong, TooManyItems, TooManySequences,
 };
 use sequence_reader::{SequenceFault, read};
 use std::alloc::{AllocError, Global};
-use std::test::Fail;
 use std::thread::Threads;
 
 /// The sequences of a file with these bytes, or why there are none. The call with this number fails.
 fn sequences_of<R: Threads + Sync>(
     rt: &R,
     alloc: Global,
-    bytes: Vec<u8>,
+    bytes: &[u8],
     weighted: bool,
     cut: usize,
     fail: u64,
@@ -29,46 +28,100 @@ fn sequences_of<R: Threads + Sync>(
     Ok(read(rt, 1, alloc, &mut files, "f", weighted, names))
 }
 
-#[test]
-fn sequences_by_the_numbers_of_their_names(rt: HostRuntime) -> Result<(), Fail> {
-    let mut names = Names::new(rt.alloc())?;
-    names.intern(b"top")?;
-    let bytes = Vec::from_slice(rt.alloc(), b"b a b\n\n3 top\r\nc")?;
-    let db = sequences_of(&rt, rt.alloc(), bytes, false, 2, 0, &mut names)??;
-    assert_eq!(rt; db.sequences(), 4);
-    let items = [Item(1), Item(2), Item(1)];
-    assert_eq!(rt; db.sequence(0), items.as_slice());
-    assert_eq!(rt; db.sequence(1), [].as_slice());
-    assert_eq!(rt; db.sequence(2), [Item(3), Item(0)].as_slice());
-    assert_eq!(rt; db.weight(2), 1);
-    assert_eq!(rt; names.count(), 5);
-    Ok(())
+/// Weights and sequences.
+type Lines<'a> = &'a [(u64, &'a [Item])];
+
+/// Whether these are the sequences, with their weights.
+fn are_lines(db: &Db, lines: Lines) -> bool {
+    let mut number = 0;
+    for (weight, items) in lines {
+        if number >= db.sequences() {
+            return false;
+        }
+        if db.weight(number) != *weight || db.sequence(number) != *items {
+            return false;
+        }
+        number += 1;
+    }
+    number == db.sequences()
 }
 
+fn hold(found: &Result<Db, SequenceFault>, lines: Lines) -> bool {
+    match found {
+        Ok(db) => are_lines(db, lines),
+        Err(_) => false,
+    }
+}
+
+/// Whether a file with this text has these sequences, and there are so many names with `top`, which is the
+/// first.
+fn reads_as<R: Threads + Sync>(
+    rt: &R,
+    alloc: Global,
+    text: &str,
+    weighted: bool,
+    lines: Lines,
+    count: u32,
+) -> Result<bool, NoMemory> {
+    let mut names = Names::new(alloc)?;
+    let is_first = names.intern(b"top").is_ok();
+    let found = sequences_of(rt, alloc, text.as_bytes(), weighted, 2, 0, &mut names)?;
+    Ok(is_first && hold(&found, lines) && names.count() == count)
+}
+
+/// A file, whether its lines have weights, its sequences, and how many names there are with `top`.
+const READ: &[(&str, bool, Lines, u32)] = &[
+    (
+        "b a b\n\n3 top\r\nc",
+        false,
+        &[
+            (1, &[Item(1), Item(2), Item(1)]),
+            (1, &[]),
+            (1, &[Item(3), Item(0)]),
+            (1, &[Item(4)]),
+        ],
+        5,
+    ),
+    (
+        "7\n002 a\n 1000000000 a 2\n",
+        true,
+        &[
+            (7, &[]),
+            (2, &[Item(1)]),
+            (1_000_000_000, &[Item(1), Item(2)]),
+        ],
+        3,
+    ),
+];
+
+/// The first file that reads otherwise.
+fn first_misread<R: Threads + Sync>(
+    rt: &R,
+    alloc: Global,
+) -> Result<Option<&'static str>, NoMemory> {
+    for (text, weighted, lines, count) in READ {
+        if !reads_as(rt, alloc, text, *weighted, lines, *count)? {
+            return Ok(Some(*text));
+        }
+    }
+    Ok(None)
+}
+
+// Weights are no names.
 #[test]
-fn weights_are_no_names(rt: HostRuntime) -> Result<(), Fail> {
-    let mut names = Names::new(rt.alloc())?;
-    let bytes = Vec::from_slice(rt.alloc(), b"7\n002 a\n 1000000000 a 2\n")?;
-    let db = sequences_of(&rt, rt.alloc(), bytes, true, 3, 0, &mut names)??;
-    assert_eq!(rt; db.sequences(), 3);
-    assert_eq!(rt; db.sequence(0), [].as_slice());
-    assert_eq!(rt; db.weight(0), 7);
-    assert_eq!(rt; db.weight(1), 2);
-    assert_eq!(rt; db.sequence(2), [Item(0), Item(1)].as_slice());
-    assert_eq!(rt; db.weight(2), 1_000_000_000);
-    assert_eq!(rt; names.count(), 2);
-    Ok(())
+fn sequences_by_the_numbers_of_their_names(rt: HostRuntime) {
+    assert_eq!(rt; first_misread(&rt, rt.alloc()), Ok(None));
 }
 
 /// Why a file with these bytes is refused, or None.
 fn refusal<R: Threads + Sync>(
     rt: &R,
     alloc: Global,
-    bytes: Vec<u8>,
+    bytes: &[u8],
     weighted: bool,
     cut: usize,
     fail: u64,
-) -> Result<Option<SequenceFault>, Fail>
+) -> Result<Option<SequenceFault>, NoMemory>
     requires { 0 < cut }
 {
     let mut names = Names::new(alloc)?;
@@ -101,33 +154,36 @@ const REFUSED: &[(&str, bool, Option<SequenceFault>)] = &[
     ("a\r\r\n", false, Some(BadByte { line: 1, column: 2 })),
 ];
 
-#[test]
-fn bad_weights_and_bytes(rt: HostRuntime) -> Result<(), Fail> {
+/// The first lines that are refused otherwise.
+fn first_misjudged<R: Threads + Sync>(
+    rt: &R,
+    alloc: Global,
+) -> Result<Option<&'static str>, NoMemory> {
     for (text, weighted, fault) in REFUSED {
-        let bytes = Vec::from_slice(rt.alloc(), text.as_bytes())?;
-        assert_eq!(rt;
-            refusal(&rt, rt.alloc(), bytes, *weighted, 2, 0)?,
-            *fault,
-            "{text}"
-        );
+        if refusal(rt, alloc, text.as_bytes(), *weighted, 2, 0)? != *fault {
+            return Ok(Some(*text));
+        }
     }
-    Ok(())
+    Ok(None)
+}
+
+#[test]
+fn bad_weights_and_bytes(rt: HostRuntime) {
+    assert_eq!(rt; first_misjudged(&rt, rt.alloc()), Ok(None));
+}
+
+/// Whether a file is refused, and for that reason, where this call fails.
+fn is_read_fault<R: Threads + Sync>(rt: &R, alloc: Global, fail: u64) -> Result<bool, NoMemory> {
+    let fault = refusal(rt, alloc, b"a b\nc", false, 9, fail)?;
+    Ok(fault == Some(SequenceFault::ReadFault))
 }
 
 // A call opens the file, one reads it, and one finds its end.
 #[test]
-fn a_failed_read_is_told(rt: HostRuntime) -> Result<(), Fail> {
+fn a_failed_read_is_told(rt: HostRuntime) {
     for fail in 1..5u64 {
-        let bytes = Vec::from_slice(rt.alloc(), b"a b\nc")?;
-        let fault = refusal(&rt, rt.alloc(), bytes, false, 9, fail)?;
-        let wanted = if fail < 4 {
-            Some(SequenceFault::ReadFault)
-        } else {
-            None
-        };
-        assert_eq!(rt; fault, wanted, "{fail}");
+        assert_eq!(rt; is_read_fault(&rt, rt.alloc(), fail), Ok(fail < 4));
     }
-    Ok(())
 }
 
 /// The front of a file, a text that is repeated behind it, how often, whether its lines have weights, and why
@@ -163,14 +219,20 @@ fn repeated(alloc: Global, front: &str, text: &str, times: usize) -> Result<Vec<
     Ok(bytes)
 }
 
-#[test]
-fn the_most_sequences_items_and_bytes(rt: HostRuntime) -> Result<(), Fail> {
-    for (front, text, times, weighted, fault) in LIMITS {
-        let bytes = repeated(rt.alloc(), front, text, *times)?;
-        let found = refusal(&rt, rt.alloc(), bytes, *weighted, 65_536, 0)?;
-        assert_eq!(rt; found, *fault, "{times} times {text:?}");
+/// The number of the first file that is refused otherwise.
+fn first_beyond<R: Threads + Sync>(rt: &R, alloc: Global) -> Result<Option<usize>, NoMemory> {
+    for (number, (front, text, times, weighted, fault)) in LIMITS.iter().enumerate() {
+        let bytes = repeated(alloc, front, text, *times)?;
+        if refusal(rt, alloc, bytes.as_slice(), *weighted, 65_536, 0)? != *fault {
+            return Ok(Some(number));
+        }
     }
-    Ok(())
+    Ok(None)
+}
+
+#[test]
+fn the_most_sequences_items_and_bytes(rt: HostRuntime) {
+    assert_eq!(rt; first_beyond(&rt, rt.alloc()), Ok(None));
 }
 
 /// So many different names of four bytes, each on a line.
@@ -185,15 +247,25 @@ fn many_names(alloc: Global, count: u32) -> Result<Vec<u8>, AllocError> {
     Ok(bytes)
 }
 
+/// Why a file of so many names is refused, or None.
+fn refusal_of_names<R: Threads + Sync>(
+    rt: &R,
+    alloc: Global,
+    count: u32,
+) -> Result<Option<SequenceFault>, NoMemory> {
+    let bytes = many_names(alloc, count)?;
+    refusal(rt, alloc, bytes.as_slice(), false, 65_536, 0)
+}
+
+fn holds_the_most_names<R: Threads + Sync>(rt: &R, alloc: Global) -> Result<bool, NoMemory> {
+    let beyond = TooManyItems { line: 1_048_577 };
+    Ok(
+        refusal_of_names(rt, alloc, 1_048_576)? == None
+            && refusal_of_names(rt, alloc, 1_048_577)? == Some(beyond),
+    )
+}
+
 #[test]
-fn the_most_names(rt: HostRuntime) -> Result<(), Fail> {
-    let bytes = many_names(rt.alloc(), 1_048_576)?;
-    assert_eq!(rt; refusal(&rt, rt.alloc(), bytes, false, 65_536, 0)?, None);
-    let bytes = many_names(rt.alloc(), 1_048_577)?;
-    let fault = TooManyItems { line: 1_048_577 };
-    assert_eq!(rt;
-        refusal(&rt, rt.alloc(), bytes, false, 65_536, 0)?,
-        Some(fault)
-    );
-    Ok(())
+fn the_most_names(rt: HostRuntime) {
+    assert_eq!(rt; holds_the_most_names(&rt, rt.alloc()), Ok(true));
 }

@@ -1,11 +1,11 @@
 //! Words, and the command that they say.
 
 use command_line::read_words;
+use mine_model::NoMemory;
 use std::alloc::Global;
-use std::test::Fail;
 
 /// The command that the words say, which stand with one blank between them, as it is printed.
-fn said(alloc: Global, text: &str) -> Result<String, Fail> {
+fn said(alloc: Global, text: &str) -> Result<String, NoMemory> {
     let mut words = Vec::new(alloc);
     for word in text.split(' ') {
         words.push(String::from_str(alloc, word)?)?;
@@ -110,11 +110,17 @@ const COMMANDS: &[(&str, &str)] = &[
     ("--support 2 --merge --check p f", "None"),
 ];
 
-#[test]
-fn words_say_a_command_or_none(rt: HostRuntime) -> Result<(), Fail> {
+/// The first words that say something else.
+fn first_missaid(alloc: Global) -> Result<Option<&'static str>, NoMemory> {
     for (text, wanted) in COMMANDS {
-        let found = said(rt.alloc(), text)?;
-        assert_eq!(rt; found.as_str(), *wanted, "{text}");
+        if said(alloc, text)?.as_str() != *wanted {
+            return Ok(Some(*text));
+        }
     }
-    Ok(())
+    Ok(None)
+}
+
+#[test]
+fn words_say_a_command_or_none(rt: HostRuntime) {
+    assert_eq!(rt; first_missaid(rt.alloc()), Ok(None));
 }

@@ -1,8 +1,10 @@
 //! Each engine with one worker and with several, simulated or not, and the counted work that it tells.
 
-use super::runs::{ANSWER, Case, HIERARCHY, SEQUENCES, first_wrong, leaves};
+use super::runs::{ANSWER, Case, HIERARCHY, Left, SEQUENCES, first_wrong_by, leaves, of_sequences};
+use mine_model::NoMemory;
 use std::alloc::Global;
-use std::test::Fail;
+use std::sync::Wait;
+use std::thread::Threads;
 
 /// Three runs of the running example: its work is that of a whole search and of a split one, since all
 /// patterns have one pivot.
@@ -33,27 +35,28 @@ const RUNNING: &[Case] = &[
     ),
 ];
 
+const SEARCHES: &[&str] = &[
+    "--stats",
+    "--stats --workers=1",
+    "--stats --engine=dfs --workers=64",
+    "--stats --engine=pivot",
+    "--stats --engine=pivot --workers=1",
+    "--stats --engine=pivot --workers=64",
+    "--stats --simulate=7",
+    "--stats --engine=dfs --simulate=0 --workers=1",
+    "--stats --engine=dfs --simulate=18446744073709551615",
+    "--stats --engine=dfs --simulate=007 --workers=64",
+    "--stats --engine=pivot --simulate=7",
+    "--stats --engine=pivot --simulate=0 --workers=1",
+    "--stats --engine=pivot --simulate=18446744073709551615 --workers=64",
+];
+
 #[test]
-fn any_workers_and_any_order_of_steps_give_the_same_answer(rt: HostRuntime) -> Result<(), Fail> {
-    for before in [
-        "--stats",
-        "--stats --workers=1",
-        "--stats --engine=dfs --workers=64",
-        "--stats --engine=pivot",
-        "--stats --engine=pivot --workers=1",
-        "--stats --engine=pivot --workers=64",
-        "--stats --simulate=7",
-        "--stats --engine=dfs --simulate=0 --workers=1",
-        "--stats --engine=dfs --simulate=18446744073709551615",
-        "--stats --engine=dfs --simulate=007 --workers=64",
-        "--stats --engine=pivot --simulate=7",
-        "--stats --engine=pivot --simulate=0 --workers=1",
-        "--stats --engine=pivot --simulate=18446744073709551615 --workers=64",
-    ] {
-        let wrong = first_wrong(&rt, rt.alloc(), before, RUNNING)?;
-        assert_eq!(rt; wrong, None, "{before}");
-    }
-    Ok(())
+fn any_workers_and_any_order_of_steps_give_the_same_answer(rt: HostRuntime) {
+    assert_eq!(rt;
+        first_wrong_by(&rt, rt.alloc(), SEARCHES, RUNNING),
+        Ok(None)
+    );
 }
 
 // A prefix that is no pattern of its own; two edges that write at one place; places that many silent paths
@@ -126,13 +129,11 @@ const GROWN: &[Case] = &[
     ),
 ];
 
+const GROWTHS: &[&str] = &["--stats", "--stats --engine=dfs --simulate=3"];
+
 #[test]
-fn finds_what_prefixes_grow_into(rt: HostRuntime) -> Result<(), Fail> {
-    for before in ["--stats", "--stats --engine=dfs --simulate=3"] {
-        let wrong = first_wrong(&rt, rt.alloc(), before, GROWN)?;
-        assert_eq!(rt; wrong, None, "{before}");
-    }
-    Ok(())
+fn finds_what_prefixes_grow_into(rt: HostRuntime) {
+    assert_eq!(rt; first_wrong_by(&rt, rt.alloc(), GROWTHS, GROWN), Ok(None));
 }
 
 // Two pivots; patterns that are all empty; a pivot that no sequence holds, as it is written for what stands
@@ -222,16 +223,14 @@ const SPLIT: &[Case] = &[
     ),
 ];
 
+const SPLITS: &[&str] = &[
+    "--stats --engine=pivot",
+    "--stats --engine=pivot --simulate=3",
+];
+
 #[test]
-fn splits_by_pivots(rt: HostRuntime) -> Result<(), Fail> {
-    for before in [
-        "--stats --engine=pivot",
-        "--stats --engine=pivot --simulate=3",
-    ] {
-        let wrong = first_wrong(&rt, rt.alloc(), before, SPLIT)?;
-        assert_eq!(rt; wrong, None, "{before}");
-    }
-    Ok(())
+fn splits_by_pivots(rt: HostRuntime) {
+    assert_eq!(rt; first_wrong_by(&rt, rt.alloc(), SPLITS, SPLIT), Ok(None));
 }
 
 // Of weights 5, 3 and 1 the `c` has less than 5 in all, and the `b` has 5: the lines have the candidates `a`
@@ -263,26 +262,15 @@ const COUNTED: &[Case] = &[
     ),
 ];
 
-#[test]
-fn any_number_of_workers_counts_the_same(rt: HostRuntime) -> Result<(), Fail> {
-    for before in [
-        "--stats --engine=count",
-        "--stats --engine=count --workers=1",
-        "--stats --engine=count --workers=64",
-    ] {
-        let wrong = first_wrong(&rt, rt.alloc(), before, COUNTED)?;
-        assert_eq!(rt; wrong, None, "{before}");
-    }
-    Ok(())
-}
+const COUNTS: &[&str] = &[
+    "--stats --engine=count",
+    "--stats --engine=count --workers=1",
+    "--stats --engine=count --workers=64",
+];
 
-/// So many lines of an `a` and a `b`.
-fn pairs_of_items(alloc: Global, count: u32) -> Result<String, Fail> {
-    let mut lines = String::new(alloc);
-    for _ in 0..count {
-        lines.push_str("a b\n")?;
-    }
-    Ok(lines)
+#[test]
+fn any_number_of_workers_counts_the_same(rt: HostRuntime) {
+    assert_eq!(rt; first_wrong_by(&rt, rt.alloc(), COUNTS, COUNTED), Ok(None));
 }
 
 /// Words, the answer on 300 lines of an `a` and a `b`, and the number of candidates: the lines are two
@@ -305,25 +293,36 @@ const BLOCKS: &[(&str, &str, &str)] = &[
     ),
 ];
 
-#[test]
-fn more_sequences_than_a_block_holds_are_all_counted(rt: HostRuntime) -> Result<(), Fail> {
-    let alloc = rt.alloc();
-    let lines = pairs_of_items(alloc, 300)?;
+/// The first words that leave something else on the lines.
+fn first_wrong_on<R: Threads + Wait + Sync>(
+    rt: &R,
+    alloc: Global,
+    lines: &str,
+) -> Result<Option<&'static str>, NoMemory> {
     for (words, out, err) in BLOCKS {
-        let bytes = lines.as_bytes();
-        let is_right = leaves(
-            &rt,
-            alloc,
-            words,
-            b"",
-            bytes,
-            0,
-            out.as_bytes(),
-            err.as_bytes(),
-        )?;
-        assert!(rt; is_right, "{words}");
+        let left = Left {
+            status: 0,
+            out,
+            err,
+        };
+        if !leaves(rt, alloc, words, of_sequences(lines), left)? {
+            return Ok(Some(*words));
+        }
     }
-    Ok(())
+    Ok(None)
+}
+
+fn first_wrong_of_blocks<R: Threads + Wait + Sync>(
+    rt: &R,
+    alloc: Global,
+) -> Result<Option<&'static str>, NoMemory> {
+    let lines = "a b\n".repeat(alloc, 300)?;
+    first_wrong_on(rt, alloc, lines.as_str())
+}
+
+#[test]
+fn more_sequences_than_a_block_holds_are_all_counted(rt: HostRuntime) {
+    assert_eq!(rt; first_wrong_of_blocks(&rt, rt.alloc()), Ok(None));
 }
 
 // Two sets with one pivot, one of which two sequences have; equal sequences with a set for each of two
@@ -396,15 +395,13 @@ const SETS: &[Case] = &[
     ),
 ];
 
+const SET_COUNTS: &[&str] = &[
+    "--stats --engine=cand",
+    "--stats --engine=cand --workers=1",
+    "--stats --engine=cand --workers=64",
+];
+
 #[test]
-fn any_number_of_workers_counts_the_same_sets(rt: HostRuntime) -> Result<(), Fail> {
-    for before in [
-        "--stats --engine=cand",
-        "--stats --engine=cand --workers=1",
-        "--stats --engine=cand --workers=64",
-    ] {
-        let wrong = first_wrong(&rt, rt.alloc(), before, SETS)?;
-        assert_eq!(rt; wrong, None, "{before}");
-    }
-    Ok(())
+fn any_number_of_workers_counts_the_same_sets(rt: HostRuntime) {
+    assert_eq!(rt; first_wrong_by(&rt, rt.alloc(), SET_COUNTS, SETS), Ok(None));
 }

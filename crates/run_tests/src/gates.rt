@@ -1,11 +1,10 @@
 //! Runs through a gate that holds the first worker until the second has passed: both work.
 
-use super::runs::{NO_FAULTS, leaves_through};
-use mine_model::Gate;
+use super::runs::{Left, NO_FAULTS, leaves_through, of_sequences};
+use mine_model::{Gate, NoMemory};
 use std::alloc::Global;
 use std::sync::Wait;
 use std::sync::atomic::{AtomicU64, Ordering};
-use std::test::Fail;
 use std::thread;
 use std::thread::Threads;
 
@@ -66,33 +65,45 @@ fn is_shared<R: Threads + Wait + Sync>(
     out: &str,
     held: u64,
     passes: u64,
-) -> Result<bool, Fail> {
+) -> Result<bool, NoMemory> {
     let gate = SecondFirst::new(held);
-    let lines = lines.as_bytes();
-    let out = out.as_bytes();
-    let is_left = leaves_through(rt, alloc, words, b"", lines, NO_FAULTS, &gate, 0, out, b"")?;
-    Ok(
-        is_left
-            && gate.passes.load(Ordering::SeqCst) == passes
-            && gate.given_up.load(Ordering::SeqCst) == 0,
-    )
+    let left = Left {
+        status: 0,
+        out,
+        err: "",
+    };
+    let is_left = leaves_through(
+        rt,
+        alloc,
+        words,
+        of_sequences(lines),
+        NO_FAULTS,
+        &gate,
+        left,
+    );
+    let is_passed = gate.passes.load(Ordering::SeqCst) == passes
+        && gate.given_up.load(Ordering::SeqCst) == 0;
+    Ok(is_left? && is_passed)
+}
+
+fn is_shared_by_blocks<R: Threads + Wait + Sync>(rt: &R, alloc: Global) -> Result<bool, NoMemory> {
+    let lines = "a b\n".repeat(alloc, 512)?;
+    let words = "--support=512 --engine=count --workers=2 (a)(b) f";
+    is_shared(rt, alloc, words, lines.as_str(), "512\ta b\n", 0, 2)
 }
 
 // 512 sequences are two blocks.
 #[test]
-fn a_second_worker_counts_while_the_first_is_held(rt: HostRuntime) -> Result<(), Fail> {
-    let lines = "a b\n".repeat(rt.alloc(), 512)?;
-    let words = "--support=512 --engine=count --workers=2 (a)(b) f";
-    assert!(rt; is_shared(&rt, rt.alloc(), words, lines.as_str(), "512\ta b\n", 0, 2)?);
-    Ok(())
+fn a_second_worker_counts_while_the_first_is_held(rt: HostRuntime) {
+    assert_eq!(rt; is_shared_by_blocks(&rt, rt.alloc()), Ok(true));
 }
 
 // Each of the two items is the pivot of one part.
 #[test]
-fn a_second_worker_has_a_part_while_the_first_is_held(rt: HostRuntime) -> Result<(), Fail> {
+fn a_second_worker_has_a_part_while_the_first_is_held(rt: HostRuntime) {
     let words = "--support=1 --engine=cand --workers=2 (.) f";
-    assert!(rt; is_shared(&rt, rt.alloc(), words, "a\nb\n", "1\ta\n1\tb\n", 0, 2)?);
-    Ok(())
+    let is_shared = is_shared(&rt, rt.alloc(), words, "a\nb\n", "1\ta\n1\tb\n", 0, 2);
+    assert_eq!(rt; is_shared, Ok(true));
 }
 
 /// Lines, each twice, and the rows of the patterns that they generate by `(.)[(.)|.]`.
@@ -103,7 +114,7 @@ struct Pairs {
 }
 
 /// Adds the line of the `x` and the `y` with this number.
-fn push_pair(alloc: Global, pairs: &mut Pairs, number: &str) -> Result<(), Fail> {
+fn push_pair(alloc: Global, pairs: &mut Pairs, number: &str) -> Result<(), NoMemory> {
     let lines = format!(in alloc; "x{number} y{number}\nx{number} y{number}\n")?;
     let rows = format!(in alloc; "2\tx{number}\n2\tx{number} y{number}\n")?;
     pairs.lines.push_str(lines.as_str())?;
@@ -118,7 +129,7 @@ const NUMBERS: &[&str] = &[
     "38", "39", "4", "5", "6", "7", "8", "9",
 ];
 
-fn forty_pairs(alloc: Global) -> Result<Pairs, Fail> {
+fn forty_pairs(alloc: Global) -> Result<Pairs, NoMemory> {
     let mut pairs = Pairs {
         lines: String::new(alloc),
         rows: String::new(alloc),
@@ -143,21 +154,30 @@ const SHARED: &[(&str, u64, u64)] = &[
     ("--support=2 --engine=pivot --simulate=7 (.)[(.)|.] f", 0, 0),
 ];
 
-#[test]
-fn a_second_worker_steals_while_the_first_is_held(rt: HostRuntime) -> Result<(), Fail> {
-    let pairs = forty_pairs(rt.alloc())?;
+/// The first words by which the work on the pairs is not shared so.
+fn first_unshared<R: Threads + Wait + Sync>(
+    rt: &R,
+    alloc: Global,
+    pairs: &Pairs,
+) -> Result<Option<&'static str>, NoMemory> {
     for (words, held, passes) in SHARED {
-        let lines = pairs.lines.as_str();
-        let is_right = is_shared(
-            &rt,
-            rt.alloc(),
-            words,
-            lines,
-            pairs.rows.as_str(),
-            *held,
-            *passes,
-        )?;
-        assert!(rt; is_right, "{words}");
+        let (lines, rows) = (pairs.lines.as_str(), pairs.rows.as_str());
+        if !is_shared(rt, alloc, words, lines, rows, *held, *passes)? {
+            return Ok(Some(*words));
+        }
     }
-    Ok(())
+    Ok(None)
+}
+
+fn first_unshared_of_forty<R: Threads + Wait + Sync>(
+    rt: &R,
+    alloc: Global,
+) -> Result<Option<&'static str>, NoMemory> {
+    let pairs = forty_pairs(alloc)?;
+    first_unshared(rt, alloc, &pairs)
+}
+
+#[test]
+fn a_second_worker_steals_while_the_first_is_held(rt: HostRuntime) {
+    assert_eq!(rt; first_unshared_of_forty(&rt, rt.alloc()), Ok(None));
 }

@@ -1,12 +1,10 @@
 //! Limits that are met exactly, and by one more.
 
-ghost use Rattle.std.specs.Prelude.{◌<◌};
-
-use super::runs::{Faults, NO_FAULTS, leaves, leaves_through};
-use mine_model::OpenGate;
+use super::runs::{Faults, Held, Left, NO_FAULTS, leaves, leaves_with, of_sequences};
+use mine_model::NoMemory;
 use std::alloc::Global;
+use std::fmt::Write;
 use std::sync::Wait;
-use std::test::Fail;
 use std::thread::Threads;
 
 /// Whether the expression writes the whole line, which is of one item many times with a blank behind each, by
@@ -16,104 +14,146 @@ fn writes_all<R: Threads + Wait + Sync>(
     alloc: Global,
     expression: &str,
     line: &str,
-) -> Result<bool, Fail> {
-    let words = format!(in alloc; "--support 1 {expression} f")?;
+) -> Result<bool, NoMemory> {
     let items = line.trim_end();
+    let words = format!(in alloc; "--support 1 {expression} f")?;
     let answer = format!(in alloc; "1\t{items}\n")?;
     let one_write = Faults {
         out: 2,
         ..NO_FAULTS
     };
-    leaves_through(
+    let left = Left {
+        status: 0,
+        out: answer.as_str(),
+        err: "",
+    };
+    leaves_with(
         rt,
         alloc,
         words.as_str(),
-        b"",
-        line.as_bytes(),
+        of_sequences(line),
         one_write,
-        &OpenGate,
-        0,
-        answer.as_bytes(),
-        b"",
+        left,
     )
+}
+
+/// Whether `(a){count}` writes the first so many items of the line.
+fn writes_first<R: Threads + Wait + Sync>(
+    rt: &R,
+    alloc: Global,
+    line: &str,
+    count: u32,
+) -> Result<bool, NoMemory> {
+    let expression = format!(in alloc; "(a){{{count}}}")?;
+    let items = line.get(..2 * count as usize).unwrap_or(line);
+    writes_all(rt, alloc, expression.as_str(), items)
+}
+
+/// The first number of leaves whose expression does not write as many items of the line.
+fn first_unwritten<R: Threads + Wait + Sync>(
+    rt: &R,
+    alloc: Global,
+    line: &str,
+) -> Result<Option<u32>, NoMemory> {
+    for count in 1..1025u32 {
+        if !writes_first(rt, alloc, line, count)? {
+            return Ok(Some(count));
+        }
+    }
+    Ok(None)
+}
+
+fn first_unmined<R: Threads + Wait + Sync>(rt: &R, alloc: Global) -> Result<Option<u32>, NoMemory> {
+    let line = "a ".repeat(alloc, 1_024)?;
+    first_unwritten(rt, alloc, line.as_str())
 }
 
 // An expression of each number of leaves, on as many items.
 #[test]
-fn every_number_of_leaves_is_mined(rt: HostRuntime) -> Result<(), Fail> {
-    let alloc = rt.alloc();
-    let mut line = String::new(alloc);
-    for count in 1..1025u32 {
-        line.push_str("a ")?;
-        let expression = format!(in alloc; "(a){{{count}}}")?;
-        assert!(rt;
-            writes_all(&rt, alloc, expression.as_str(), line.as_str())?,
-            "{count}"
-        );
-    }
-    Ok(())
+fn every_number_of_leaves_is_mined(rt: HostRuntime) {
+    assert_eq!(rt; first_unmined(&rt, rt.alloc()), Ok(None));
 }
 
 /// A text, how often it stands in the expression, and how many items it writes of as many: the longest row of
 /// leaves, and an answer of 60,002 bytes.
 const WRITTEN: &[(&str, usize, usize)] = &[("(.)", 1_024, 1_024), ("(a)*", 1, 30_000)];
 
-#[test]
-fn a_long_answer_is_one_write(rt: HostRuntime) -> Result<(), Fail> {
+/// The first text that does not write its items.
+fn first_unwritten_text<R: Threads + Wait + Sync>(
+    rt: &R,
+    alloc: Global,
+) -> Result<Option<&'static str>, NoMemory> {
     for (text, times, items) in WRITTEN {
-        let expression = text.repeat(rt.alloc(), *times)?;
-        let line = "a ".repeat(rt.alloc(), *items)?;
-        assert!(rt;
-            writes_all(&rt, rt.alloc(), expression.as_str(), line.as_str())?,
-            "{text}"
-        );
+        let expression = text.repeat(alloc, *times)?;
+        let line = "a ".repeat(alloc, *items)?;
+        if !writes_all(rt, alloc, expression.as_str(), line.as_str())? {
+            return Ok(Some(*text));
+        }
     }
-    Ok(())
+    Ok(None)
 }
 
-/// The rows of all rows of up to so many items, the shorter ones first.
-fn all_rows(alloc: Global, count: u32) -> Result<String, Fail> {
-    let mut rows = String::new(alloc);
-    let mut row = String::from_str(alloc, "1\t")?;
+#[test]
+fn a_long_answer_is_one_write(rt: HostRuntime) {
+    assert_eq!(rt; first_unwritten_text(&rt, rt.alloc()), Ok(None));
+}
+
+/// Adds the rows of all rows of up to so many items, the shorter ones first. The last row is left.
+fn add_rows(rows: &mut String, row: &mut String, count: u32) -> Result<(), NoMemory> {
     for _ in 0..count {
         row.push_str("a")?;
         rows.push_str(row.as_str())?;
         rows.push_str("\n")?;
         row.push_str(" ")?;
     }
-    Ok(rows)
-}
-
-// 90,900 bytes.
-#[test]
-fn a_longer_answer_is_whole(rt: HostRuntime) -> Result<(), Fail> {
-    let alloc = rt.alloc();
-    let line = "a ".repeat(alloc, 300)?;
-    let rows = all_rows(alloc, 300)?;
-    assert_eq!(rt; rows.len(), 90_900);
-    let words = "--support 1 (.)*.* f";
-    assert!(rt;
-        leaves(
-            &rt,
-            alloc,
-            words,
-            b"",
-            line.as_bytes(),
-            0,
-            rows.as_bytes(),
-            b""
-        )?
-    );
     Ok(())
 }
 
-// 4,090 concatenations in a row, inside a repetition that is there no time.
+/// Whether all rows of a line are its answer, of so many bytes.
+fn is_whole<R: Threads + Wait + Sync>(
+    rt: &R,
+    alloc: Global,
+    items: u32,
+    bytes: usize,
+) -> Result<bool, NoMemory> {
+    let line = "a ".repeat(alloc, items as usize)?;
+    let mut row = String::from_str(alloc, "1\t")?;
+    let mut rows = String::new(alloc);
+    add_rows(&mut rows, &mut row, items)?;
+    let left = Left {
+        status: 0,
+        out: rows.as_str(),
+        err: "",
+    };
+    let held = of_sequences(line.as_str());
+    Ok(leaves(rt, alloc, "--support 1 (.)*.* f", held, left)? && rows.len() == bytes)
+}
+
 #[test]
-fn the_deepest_expression_is_walked(rt: HostRuntime) -> Result<(), Fail> {
-    let leaves_in_a_row = ".".repeat(rt.alloc(), 4_091)?;
-    let words = format!(in rt.alloc(); "--support 1 [{leaves_in_a_row}]{{0}} f")?;
-    assert!(rt; leaves(&rt, rt.alloc(), words.as_str(), b"", b"a\n", 0, b"", b"")?);
-    Ok(())
+fn a_longer_answer_is_whole(rt: HostRuntime) {
+    assert_eq!(rt; is_whole(&rt, rt.alloc(), 300, 90_900), Ok(true));
+}
+
+/// Whether so many concatenations in a row, inside a repetition that is there no time, are read.
+fn is_walked<R: Threads + Wait + Sync>(
+    rt: &R,
+    alloc: Global,
+    leaf_count: usize,
+) -> Result<bool, NoMemory> {
+    let leaves_in_a_row = ".".repeat(alloc, leaf_count)?;
+    let words = format!(in alloc; "--support 1 [{leaves_in_a_row}]{{0}} f")?;
+    let left = Left {
+        status: 0,
+        out: "",
+        err: "",
+    };
+    leaves(rt, alloc, words.as_str(), of_sequences("a\n"), left)
+}
+
+// 4,090 concatenations.
+#[test]
+fn the_deepest_expression_is_walked(rt: HostRuntime) {
+    assert_eq!(rt; is_walked(&rt, rt.alloc(), 4_091), Ok(true));
 }
 
 /// A text, how often it stands in the file of sequences, the status, and the message.
@@ -146,55 +186,73 @@ const FILES: &[(&str, usize, u8, &str)] = &[
     ),
 ];
 
-#[test]
-fn a_file_is_as_long_as_it_may_be(rt: HostRuntime) -> Result<(), Fail> {
-    for (text, times, status, err) in FILES {
-        let file = text.repeat(rt.alloc(), *times)?;
-        let bytes = file.as_bytes();
-        let words = "--support 1 .* f";
-        let is_right = leaves(
-            &rt,
-            rt.alloc(),
-            words,
-            b"",
-            bytes,
-            *status,
-            b"",
-            err.as_bytes(),
-        )?;
-        assert!(rt; is_right, "{times} times {text:?}");
+/// Whether no answer, and this message, is left of sequences of which no pattern is asked.
+fn is_refused<R: Threads + Wait + Sync>(
+    rt: &R,
+    alloc: Global,
+    sequences: &str,
+    status: u8,
+    err: &str,
+) -> Result<bool, NoMemory> {
+    let left = Left {
+        status,
+        out: "",
+        err,
+    };
+    leaves(rt, alloc, "--support 1 .* f", of_sequences(sequences), left)
+}
+
+/// The number of the first file of which something else is left.
+fn first_wrong_file<R: Threads + Wait + Sync>(
+    rt: &R,
+    alloc: Global,
+) -> Result<Option<usize>, NoMemory> {
+    for (number, (text, times, status, err)) in FILES.iter().enumerate() {
+        let file = text.repeat(alloc, *times)?;
+        if !is_refused(rt, alloc, file.as_str(), *status, err)? {
+            return Ok(Some(number));
+        }
     }
-    Ok(())
+    Ok(None)
+}
+
+#[test]
+fn a_file_is_as_long_as_it_may_be(rt: HostRuntime) {
+    assert_eq!(rt; first_wrong_file(&rt, rt.alloc()), Ok(None));
 }
 
 /// So many different names, each on a line.
-fn many_names(alloc: Global, count: u32) -> Result<String, Fail> {
+fn many_names(alloc: Global, count: u32) -> Result<String, NoMemory> {
     let mut lines = String::new(alloc);
     for number in 0..count {
-        let line = format!(in alloc; "{number}\n")?;
-        lines.push_str(line.as_str())?;
+        writeln!(lines, "{number}")?;
     }
     Ok(lines)
 }
 
+/// Whether a file of so many names is refused with this message.
+fn are_too_many<R: Threads + Wait + Sync>(
+    rt: &R,
+    alloc: Global,
+    count: u32,
+    err: &str,
+) -> Result<bool, NoMemory> {
+    let names = many_names(alloc, count)?;
+    is_refused(rt, alloc, names.as_str(), 4, err)
+}
+
 #[test]
-fn a_file_has_as_many_names_as_it_may(rt: HostRuntime) -> Result<(), Fail> {
-    let names = many_names(rt.alloc(), 1_048_577)?;
-    let bytes = names.as_bytes();
-    let err = b"desq: sequences: line 1048577: more than 1048576 items\n";
-    assert!(rt; leaves(&rt, rt.alloc(), "--support 1 .* f", b"", bytes, 4, b"", err)?);
-    Ok(())
+fn a_file_has_as_many_names_as_it_may(rt: HostRuntime) {
+    let err = "desq: sequences: line 1048577: more than 1048576 items\n";
+    assert_eq!(rt; are_too_many(&rt, rt.alloc(), 1_048_577, err), Ok(true));
 }
 
 /// A file in which each item up to this one stands below the next.
-fn chain(alloc: Global, last: u32) -> Result<String, Fail>
-    requires { last < 2000000 }
-{
+fn chain(alloc: Global, last: u32) -> Result<String, NoMemory> {
     let mut lines = String::new(alloc);
     for k in 1..last {
         let above = k + 1;
-        let line = format!(in alloc; "i{k} i{above}\n")?;
-        lines.push_str(line.as_str())?;
+        writeln!(lines, "i{k} i{above}")?;
     }
     Ok(lines)
 }
@@ -210,18 +268,37 @@ const CHAINS: &[(u32, u8, &str, &str)] = &[
     ),
 ];
 
-#[test]
-fn a_hierarchy_is_as_high_as_it_may_be(rt: HostRuntime) -> Result<(), Fail> {
-    for (last, status, out, err) in CHAINS {
-        assert!(rt; *last < 2_000_000);
-        let links = chain(rt.alloc(), *last)?;
-        let above = links.as_bytes();
-        let words = "--support 1 --hierarchy h (i8191^=) f";
-        let (out, err) = (out.as_bytes(), err.as_bytes());
-        assert!(rt;
-            leaves(&rt, rt.alloc(), words, above, b"i1\n", *status, out, err)?,
-            "{last}"
-        );
+/// The number of the first chain of which something else is left.
+fn first_wrong_chain<R: Threads + Wait + Sync>(
+    rt: &R,
+    alloc: Global,
+) -> Result<Option<usize>, NoMemory> {
+    for (number, (last, status, out, err)) in CHAINS.iter().enumerate() {
+        let links = chain(alloc, *last)?;
+        let held = Held {
+            hierarchy: links.as_str(),
+            sequences: "i1\n",
+            proof: "",
+        };
+        let left = Left {
+            status: *status,
+            out,
+            err,
+        };
+        if !leaves(
+            rt,
+            alloc,
+            "--support 1 --hierarchy h (i8191^=) f",
+            held,
+            left,
+        )? {
+            return Ok(Some(number));
+        }
     }
-    Ok(())
+    Ok(None)
+}
+
+#[test]
+fn a_hierarchy_is_as_high_as_it_may_be(rt: HostRuntime) {
+    assert_eq!(rt; first_wrong_chain(&rt, rt.alloc()), Ok(None));
 }

@@ -1,72 +1,58 @@
 //! Files and sinks that fail, at each of their calls in turn.
 
-use super::runs::{ANSWER, Faults, HIERARCHY, NO_FAULTS, SEQUENCES, leaves_through};
-use mine_model::OpenGate;
+use super::runs::{
+    ANSWER, FailedCalls, Faults, HIERARCHY, Held, Left, RUNNING, SEQUENCES, first_wrong_read,
+    first_wrong_write, leaves_with,
+};
+use mine_model::NoMemory;
 use std::alloc::Global;
 use std::sync::Wait;
-use std::test::Fail;
 use std::thread::Threads;
 
 const WORDS: &str = "--support 2 --hierarchy h .*(A)[(.^)|.]*(b).* f";
 
-/// Whether the running example leaves this with these faults.
-fn ends<R: Threads + Wait + Sync>(
-    rt: &R,
-    alloc: Global,
-    faults: Faults,
-    status: u8,
-    out: &str,
-    err: &str,
-) -> Result<bool, Fail> {
-    leaves_through(
-        rt,
-        alloc,
-        WORDS,
-        HIERARCHY.as_bytes(),
-        SEQUENCES.as_bytes(),
-        faults,
-        &OpenGate,
-        status,
-        out.as_bytes(),
-        err.as_bytes(),
-    )
-}
-
 // Five calls are those of the hierarchy, and fifteen those of the sequences: each file is opened once, and
 // not read behind its end.
+const READS: &[FailedCalls] = &[
+    (
+        1,
+        5,
+        Left {
+            status: 5,
+            out: "",
+            err: "desq: hierarchy: read fault\n",
+        },
+    ),
+    (
+        6,
+        20,
+        Left {
+            status: 5,
+            out: "",
+            err: "desq: sequences: read fault\n",
+        },
+    ),
+    (
+        21,
+        21,
+        Left {
+            status: 0,
+            out: ANSWER,
+            err: "",
+        },
+    ),
+];
+
 #[test]
-fn a_read_that_fails_names_its_file(rt: HostRuntime) -> Result<(), Fail> {
-    for call in 1..=21u64 {
-        let faults = Faults {
-            files: call,
-            cut: 4,
-            ..NO_FAULTS
-        };
-        let (status, out, err) = match call {
-            1..=5 => (5, "", "desq: hierarchy: read fault\n"),
-            6..=20 => (5, "", "desq: sequences: read fault\n"),
-            _ => (0, ANSWER, ""),
-        };
-        assert!(rt; ends(&rt, rt.alloc(), faults, status, out, err)?, "{call}");
-    }
-    Ok(())
+fn a_read_that_fails_names_its_file(rt: HostRuntime) {
+    let wrong = first_wrong_read(&rt, rt.alloc(), WORDS, RUNNING, 4, READS);
+    assert_eq!(rt; wrong, Ok(None));
 }
 
 #[test]
-fn a_write_that_fails_leaves_the_first_bytes(rt: HostRuntime) -> Result<(), Fail> {
-    for (before, _) in ANSWER.as_bytes().iter().enumerate() {
-        let faults = Faults {
-            out: before as u64 + 1,
-            cut: 1,
-            ..NO_FAULTS
-        };
-        let out = ANSWER.get(..before).unwrap_or(ANSWER);
-        assert!(rt;
-            ends(&rt, rt.alloc(), faults, 6, out, "desq: write fault\n")?,
-            "{before}"
-        );
-    }
-    Ok(())
+fn a_write_that_fails_leaves_the_first_bytes(rt: HostRuntime) {
+    let wrong = first_wrong_write(&rt, rt.alloc(), WORDS, RUNNING, ANSWER);
+    assert_eq!(rt; wrong, Ok(None));
 }
 
 /// Words, the hierarchy and the sequences, which calls of the files, of out and of err fail, how many bytes a
@@ -171,22 +157,30 @@ const FAILING: &[Failing] = &[
     ),
 ];
 
-#[test]
-fn faults_are_told_in_their_order(rt: HostRuntime) -> Result<(), Fail> {
-    for (words, hierarchy, sequences, faults, status, out, err) in FAILING {
-        let is_right = leaves_through(
-            &rt,
-            rt.alloc(),
-            words,
-            hierarchy.as_bytes(),
-            sequences.as_bytes(),
-            *faults,
-            &OpenGate,
-            *status,
-            out.as_bytes(),
-            err.as_bytes(),
-        )?;
-        assert!(rt; is_right, "{words}");
+/// The number of the first case that leaves something else.
+fn first_wrong<R: Threads + Wait + Sync>(rt: &R, alloc: Global) -> Result<Option<usize>, NoMemory> {
+    for (number, (words, hierarchy, sequences, faults, status, out, err)) in FAILING
+        .iter()
+        .enumerate()
+    {
+        let held = Held {
+            hierarchy,
+            sequences,
+            proof: "",
+        };
+        let left = Left {
+            status: *status,
+            out,
+            err,
+        };
+        if !leaves_with(rt, alloc, words, held, *faults, left)? {
+            return Ok(Some(number));
+        }
     }
-    Ok(())
+    Ok(None)
+}
+
+#[test]
+fn faults_are_told_in_their_order(rt: HostRuntime) {
+    assert_eq!(rt; first_wrong(&rt, rt.alloc()), Ok(None));
 }

@@ -1,10 +1,9 @@
 //! Proofs of answers, and their check.
 
-use super::runs::{Faults, Held, NO_FAULTS, leaves_on};
-use mine_model::OpenGate;
+use super::runs::{FailedCalls, Held, Left, first_wrong_read, first_wrong_write, leaves};
+use mine_model::NoMemory;
 use std::alloc::Global;
 use std::sync::Wait;
-use std::test::Fail;
 use std::thread::Threads;
 
 const MINED: &str = "a b\na b\na c\n";
@@ -16,34 +15,13 @@ const CHECKS: &str = "--support 2 --check p .*(a)(b).* f";
 
 const PROOF: &str = "2\ta b\n\t1 2 3\n\t2 2 3\n";
 
-/// Whether a run by the words leaves this on these sequences and this proof.
-fn leaves<R: Threads + Wait + Sync>(
-    rt: &R,
-    alloc: Global,
-    words: &str,
-    sequences: &str,
-    proof: &str,
-    faults: Faults,
-    status: u8,
-    out: &str,
-    err: &str,
-) -> Result<bool, Fail> {
-    let held = Held {
-        hierarchy: b"a a\n",
-        sequences: sequences.as_bytes(),
-        proof: proof.as_bytes(),
-    };
-    leaves_on(
-        rt,
-        alloc,
-        words,
-        held,
-        faults,
-        &OpenGate,
-        status,
-        out.as_bytes(),
-        err.as_bytes(),
-    )
+/// The files with these sequences and this proof. The hierarchy is refused.
+fn held(sequences: &'static str, proof: &'static str) -> Held<'static> {
+    Held {
+        hierarchy: "a a\n",
+        sequences,
+        proof,
+    }
 }
 
 /// Words, the sequences and the proof, and what a run leaves.
@@ -153,86 +131,89 @@ const CASES: &[Checked] = &[
     ),
 ];
 
-#[test]
-fn proofs_are_written_and_checked(rt: HostRuntime) -> Result<(), Fail> {
-    for (words, sequences, proof, status, out, err) in CASES {
-        let is_right = leaves(
-            &rt,
-            rt.alloc(),
-            words,
-            sequences,
-            proof,
-            NO_FAULTS,
-            *status,
+/// The number of the first case that leaves something else.
+fn first_wrong<R: Threads + Wait + Sync>(rt: &R, alloc: Global) -> Result<Option<usize>, NoMemory> {
+    for (number, (words, sequences, proof, status, out, err)) in CASES.iter().enumerate() {
+        let left = Left {
+            status: *status,
             out,
             err,
-        )?;
-        assert!(rt; is_right, "{words} on {proof}");
+        };
+        if !leaves(rt, alloc, words, held(sequences, proof), left)? {
+            return Ok(Some(number));
+        }
     }
-    for engine in ["count", "dfs", "pivot", "cand"] {
-        let words = format!(in rt.alloc(); "{PROVES} --engine {engine}")?;
-        let is_right = leaves(
-            &rt,
-            rt.alloc(),
-            words.as_str(),
-            MINED,
-            "",
-            NO_FAULTS,
-            0,
-            PROOF,
-            "",
-        )?;
-        assert!(rt; is_right, "{engine}");
-    }
-    Ok(())
+    Ok(None)
 }
 
-// Three calls read the sequences, and three the proof: it is opened once, and not read behind its end. Each
-// write that fails leaves the first bytes of the proof.
 #[test]
-fn faults_round_proofs_are_told(rt: HostRuntime) -> Result<(), Fail> {
-    for call in 3..=7u64 {
-        let faults = Faults {
-            files: call,
-            ..NO_FAULTS
-        };
-        let (status, out, err) = match call {
-            3 => (5, "", "desq: sequences: read fault\n"),
-            4..=6 => (5, "", "desq: proof: read fault\n"),
-            _ => (0, "checked 1 rows\n", ""),
-        };
-        let is_right = leaves(
-            &rt,
-            rt.alloc(),
-            CHECKS,
-            MINED,
-            PROOF,
-            faults,
-            status,
-            out,
-            err,
-        )?;
-        assert!(rt; is_right, "{call}");
+fn proofs_are_written_and_checked(rt: HostRuntime) {
+    assert_eq!(rt; first_wrong(&rt, rt.alloc()), Ok(None));
+}
+
+/// The first engine that does not write the proof.
+fn first_without_proof<R: Threads + Wait + Sync>(
+    rt: &R,
+    alloc: Global,
+) -> Result<Option<&'static str>, NoMemory> {
+    let left = Left {
+        status: 0,
+        out: PROOF,
+        err: "",
+    };
+    for engine in ["count", "dfs", "pivot", "cand"] {
+        let words = format!(in alloc; "{PROVES} --engine {engine}")?;
+        if !leaves(rt, alloc, words.as_str(), held(MINED, ""), left)? {
+            return Ok(Some(engine));
+        }
     }
-    for (before, _) in PROOF.as_bytes().iter().enumerate() {
-        let faults = Faults {
-            out: before as u64 + 1,
-            cut: 1,
-            ..NO_FAULTS
-        };
-        let out = PROOF.get(..before).unwrap_or(PROOF);
-        let is_right = leaves(
-            &rt,
-            rt.alloc(),
-            PROVES,
-            MINED,
-            "",
-            faults,
-            6,
-            out,
-            "desq: write fault\n",
-        )?;
-        assert!(rt; is_right, "{before}");
-    }
-    Ok(())
+    Ok(None)
+}
+
+#[test]
+fn each_engine_writes_the_proof(rt: HostRuntime) {
+    assert_eq!(rt; first_without_proof(&rt, rt.alloc()), Ok(None));
+}
+
+// Three calls read the sequences, and three the proof: it is opened once, and not read behind its end.
+const READS: &[FailedCalls] = &[
+    (
+        3,
+        3,
+        Left {
+            status: 5,
+            out: "",
+            err: "desq: sequences: read fault\n",
+        },
+    ),
+    (
+        4,
+        6,
+        Left {
+            status: 5,
+            out: "",
+            err: "desq: proof: read fault\n",
+        },
+    ),
+    (
+        7,
+        7,
+        Left {
+            status: 0,
+            out: "checked 1 rows\n",
+            err: "",
+        },
+    ),
+];
+
+#[test]
+fn a_read_that_fails_is_told(rt: HostRuntime) {
+    let wrong = first_wrong_read(&rt, rt.alloc(), CHECKS, held(MINED, PROOF), 100_000, READS);
+    assert_eq!(rt; wrong, Ok(None));
+}
+
+#[test]
+fn a_write_that_fails_is_told(rt: HostRuntime) {
+    let wrong = first_wrong_write(&rt, rt.alloc(), PROVES, held(MINED, ""), PROOF);
+    assert_eq!(rt; wrong, Ok(None));
 }

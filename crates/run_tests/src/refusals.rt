@@ -1,7 +1,6 @@
 //! What is refused: words, expressions, rules and files.
 
 use super::runs::{Case, first_wrong};
-use std::test::Fail;
 
 const USAGE: &str = "desq: usage: desq --support N [options] EXPR [FILE]\n";
 
@@ -101,7 +100,6 @@ const REFUSED: &[Case] = &[
 ];
 
 #[test]
-fn the_first_refusal_is_told(rt: HostRuntime) -> Result<(), Fail> {
-    assert_eq!(rt; first_wrong(&rt, rt.alloc(), "--stats", REFUSED)?, None);
-    Ok(())
+fn the_first_refusal_is_told(rt: HostRuntime) {
+    assert_eq!(rt; first_wrong(&rt, rt.alloc(), "--stats", REFUSED), Ok(None));
 }

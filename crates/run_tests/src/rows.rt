@@ -1,7 +1,6 @@
 //! Answers, with and without a hierarchy, weights, an expression.
 
-use super::runs::{ANSWER, Case, HIERARCHY, SEQUENCES, first_wrong};
-use std::test::Fail;
+use super::runs::{ANSWER, Case, HIERARCHY, SEQUENCES, first_wrong_by};
 
 const ANSWERS: &[Case] = &[
     (
@@ -86,16 +85,14 @@ const ANSWERS: &[Case] = &[
     ),
 ];
 
+const ENGINES: &[&str] = &[
+    "--engine=count",
+    "--engine=dfs",
+    "--engine=pivot",
+    "--engine=cand",
+];
+
 #[test]
-fn each_engine_gives_the_answer(rt: HostRuntime) -> Result<(), Fail> {
-    for engine in [
-        "--engine=count",
-        "--engine=dfs",
-        "--engine=pivot",
-        "--engine=cand",
-    ] {
-        let wrong = first_wrong(&rt, rt.alloc(), engine, ANSWERS)?;
-        assert_eq!(rt; wrong, None, "{engine}");
-    }
-    Ok(())
+fn each_engine_gives_the_answer(rt: HostRuntime) {
+    assert_eq!(rt; first_wrong_by(&rt, rt.alloc(), ENGINES, ANSWERS), Ok(None));
 }

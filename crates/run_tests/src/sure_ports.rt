@@ -3,14 +3,13 @@
 
 ghost use Rattle.std.specs.Prelude.{◌≢◌, ◌<◌};
 
-use super::runs::{SEQUENCES, words_of};
+use super::runs::{SEQUENCES, file, words_of};
 use desq_run::run;
-use mine_model::{Gate, OpenGate};
+use mine_model::{Gate, NoMemory, OpenGate};
 use std::alloc::Global;
 use std::sync::Wait;
-use std::test::Fail;
 use std::thread::Threads;
-use text_ports::{MemFile, Sink, SureFiles, SureSink};
+use text_ports::{Sink, SureFiles, SureSink};
 
 /// A run over files that never fail. No fault of reading ends it.
 fn run_over_sure_files<R: Threads + Wait + Sync, O: Sink, E: Sink, G: Gate>(
@@ -42,39 +41,40 @@ fn run_into_a_sure_sink<R: Threads + Wait + Sync, E: Sink, G: Gate>(
     run(rt, alloc, words, files, out, err, gate)
 }
 
-fn sequences(alloc: Global) -> Result<SureFiles, Fail> {
-    let file = MemFile {
-        name: Vec::from_slice(alloc, b"f")?,
-        bytes: Vec::from_slice(alloc, SEQUENCES.as_bytes())?,
-    };
+fn sequences(alloc: Global) -> Result<SureFiles, NoMemory> {
+    let file = file(alloc, b"f", SEQUENCES.as_bytes())?;
     Ok(SureFiles::new(vec![in alloc; file]?, 7))
 }
 
-#[test]
-fn ports_that_never_fail_end_no_run(rt: HostRuntime) -> Result<(), Fail> {
-    let alloc = rt.alloc();
+/// What a run over files that never fail ends with.
+fn status_over_files<R: Threads + Wait + Sync>(
+    rt: &R,
+    alloc: Global,
+    words: &[String],
+) -> Result<u8, NoMemory> {
+    let mut files = sequences(alloc)?;
+    let (out, err) = (&mut SureSink, &mut SureSink);
+    Ok(run_over_sure_files(rt, alloc, words, &mut files, out, err, &OpenGate))
+}
+
+/// What a run into a sink that never fails ends with.
+fn status_into_sink<R: Threads + Wait + Sync>(
+    rt: &R,
+    alloc: Global,
+    words: &[String],
+) -> Result<u8, NoMemory> {
+    let mut files = sequences(alloc)?;
+    let (out, err) = (&mut SureSink, &mut SureSink);
+    Ok(run_into_a_sure_sink(rt, alloc, words, &mut files, out, err, &OpenGate))
+}
+
+fn statuses<R: Threads + Wait + Sync>(rt: &R, alloc: Global) -> Result<(u8, u8), NoMemory> {
     let words = words_of(alloc, "--support 2 .*(b) f")?;
-    let mut files = sequences(alloc)?;
-    let status = run_over_sure_files(
-        &rt,
-        alloc,
-        words.as_slice(),
-        &mut files,
-        &mut SureSink,
-        &mut SureSink,
-        &OpenGate,
-    );
-    assert_eq!(rt; status, 0);
-    let mut files = sequences(alloc)?;
-    let status = run_into_a_sure_sink(
-        &rt,
-        alloc,
-        words.as_slice(),
-        &mut files,
-        &mut SureSink,
-        &mut SureSink,
-        &OpenGate,
-    );
-    assert_eq!(rt; status, 0);
-    Ok(())
+    let over = status_over_files(rt, alloc, words.as_slice())?;
+    Ok((over, status_into_sink(rt, alloc, words.as_slice())?))
+}
+
+#[test]
+fn ports_that_never_fail_end_no_run(rt: HostRuntime) {
+    assert_eq!(rt; statuses(&rt, rt.alloc()), Ok((0, 0)));
 }

@@ -1,7 +1,7 @@
 use Rattle.std.proofs.Common.{List, subst}
 use Rattle.std.specs.List.{Contains}
 use Rattle.mine_model.specs.declared.row.Row.{Row}
-use Rattle.layer_tests.proofs.proving.written.Goals as goal
+use Rattle.layer_tests.proofs.proving.is_written.Goals as goal
 
 pub new-requires-clause-frequent : goal.new-requires-clause-frequent
 new-requires-clause-frequent c = λ row has.
