@@ -1,6 +1,7 @@
 //! Sets of states.
 ghost use Rattle.std.specs.Prelude.{◌<◌, ◌≤◌};
 
+use super::facts::first_false;
 use mine_model::NoMemory;
 use state_bits::StateSet;
 use std::alloc::Global;
@@ -24,18 +25,20 @@ fn are_members<const W: usize>(
     Ok(members.as_slice() == want)
 }
 
-fn keeps_borders(alloc: Global) -> Result<bool, NoMemory> {
+/// The number of the first set, of one word, of four and of seventeen, with other members.
+fn first_wrong(alloc: Global) -> Result<Option<usize>, NoMemory> {
     let all = [0, 63, 64, 65, 127, 128, 255, 256, 1_023, 1_024, 1_087];
-    Ok(
-        are_members::<1>(alloc, &all, &all[..2])?
-            && are_members::<4>(alloc, &all, &all[..7])?
-            && are_members::<17>(alloc, &all, &all)?,
-    )
+    let facts = [
+        are_members::<1>(alloc, &all, &all[..2])?,
+        are_members::<4>(alloc, &all, &all[..7])?,
+        are_members::<17>(alloc, &all, &all)?,
+    ];
+    Ok(first_false(&facts))
 }
 
 #[test]
 fn keeps_the_borders_of_words(rt: HostRuntime) {
-    assert_eq!(rt; keeps_borders(rt.alloc()), Ok(true));
+    assert_eq!(rt; first_wrong(rt.alloc()), Ok(None));
 }
 
 /// The set of two states.
@@ -49,21 +52,31 @@ fn pair(first: u32, second: u32) -> StateSet<4>
     set
 }
 
-/// Whether the sets of 63 and 64 and of 64 and 200 have the right union and the right members in common.
-fn works_on_sets() -> bool {
+/// Of the sets of 63 and 64 and of 64 and 200, their union and the members that they have in common: the
+/// number of the first wrong fact.
+fn wrong_fact() -> Option<usize> {
     let first = pair(63, 64);
     let second = pair(64, 200);
     let mut common = first;
     common.intersect_with(&second);
     let mut all = first;
     all.union_with(&second);
-    let has_all = all.has(63) && all.has(64) && all.has(200) && !all.has(65);
-    let has_common = common.words() == [0, 1, 0, 0].as_slice();
+    let is_common = common.words() == [0, 1, 0, 0].as_slice();
     common.clear();
-    has_all && has_common && all != second && common.is_empty() && common == StateSet::new()
+    let facts = [
+        all.has(63),
+        all.has(64),
+        all.has(200),
+        !all.has(65),
+        is_common,
+        all != second,
+        common.is_empty(),
+        common == StateSet::new(),
+    ];
+    first_false(&facts)
 }
 
 #[test]
 fn works_on_whole_sets(rt: HostRuntime) {
-    assert!(rt; works_on_sets());
+    assert_eq!(rt; wrong_fact(), None);
 }

@@ -1,5 +1,5 @@
 //! The candidates of blocks of 256 sequences.
-ghost use Rattle.std.specs.Prelude.{◌*◌, ◌<◌, ◌≤◌, length};
+ghost use Rattle.std.specs.Prelude.{◌*◌, ◌<◌, length};
 
 use super::data::{C, Lines, RUNNING, Shape, job};
 use count_shards::{BlockCounts, count_block};
@@ -26,48 +26,40 @@ fn pairs_of(alloc: Global, job: &Job) -> Result<(u64, u64), NoMemory> {
     pairs_with(&mut counts, 1)
 }
 
-/// Whether these are the pairs on the job of the expression and these lines, each so many times.
-fn are_pairs<T: Threads + Sync>(
-    rt: &T,
-    alloc: Global,
-    shape: Shape,
-    lines: Lines,
-    times: u32,
-    threshold: u64,
-    want: (u64, u64),
-) -> Result<bool, NoMemory>
-    requires { 1 ≤ threshold }
-{
-    let job = job(rt, alloc, shape, lines, times, threshold)?;
-    Ok(pairs_of(alloc, &job)? == want)
-}
+/// The expression, the lines and how often each stands, the threshold, and the pairs of the two blocks.
+type Case = (Shape, Lines<'static>, u32, u64, (u64, u64));
 
-// Sixty of each of the running sequences: the last 44 of the fifth are in the second block.
-#[test]
-fn counts_the_candidates_of_a_block(rt: HostRuntime) {
-    let are_counted = are_pairs(
-        &rt,
-        rt.alloc(),
-        Shape::Climbing,
-        &RUNNING,
-        60,
-        61,
-        (648, 132),
-    );
-    assert_eq!(rt; are_counted, Ok(true));
-}
-
-#[test]
-fn counts_the_last_block_to_its_end(rt: HostRuntime) {
-    let lines: Lines = &[(1_000_000_000, &[C])];
-    let are_counted = are_pairs(
-        &rt,
-        rt.alloc(),
+// Sixty of each of the running sequences: the last 44 of the fifth are in the second block. The last block is
+// counted to its end.
+const COUNTED: [Case; 2] = [
+    (Shape::Climbing, &RUNNING, 60, 61, (648, 132)),
+    (
         Shape::Subsequence,
-        lines,
+        &[(1_000_000_000, &[C])],
         300,
         1,
         (256, 44),
-    );
-    assert_eq!(rt; are_counted, Ok(true));
+    ),
+];
+
+/// Whether these are the pairs of the case.
+fn is_counted<T: Threads + Sync>(rt: &T, alloc: Global, case: Case) -> Result<bool, NoMemory> {
+    let (shape, lines, times, threshold, want) = case;
+    let job = job(rt, alloc, shape, lines, times, threshold.max(1))?;
+    Ok(pairs_of(alloc, &job)? == want)
+}
+
+/// The number of the first case of which other pairs are counted.
+fn first_wrong<T: Threads + Sync>(rt: &T, alloc: Global) -> Result<Option<usize>, NoMemory> {
+    for (number, case) in COUNTED.iter().enumerate() {
+        if !is_counted(rt, alloc, *case)? {
+            return Ok(Some(number));
+        }
+    }
+    Ok(None)
+}
+
+#[test]
+fn counts_the_candidates_of_blocks(rt: HostRuntime) {
+    assert_eq!(rt; first_wrong(&rt, rt.alloc()), Ok(None));
 }

@@ -5,6 +5,7 @@ ghost use Rattle.mine_model.specs.Expression.{named_by, unfolded_leaves, unfolde
 ghost use Rattle.mine_model.specs.Numbered.{tree_of, leaf_of};
 
 use super::data::{A, P, Q, R, Shape, X, expression, hierarchy};
+use super::facts::first_false;
 use fst_compile::{Fst, State, compile, outputs};
 use mine_model::{Expr, Item, Leaf, NoMemory};
 use std::alloc::{AllocError, Global};
@@ -47,12 +48,16 @@ fn is_compiled(alloc: Global, expr: &Expr, want: &str) -> Result<bool, NoMemory>
     is_told(alloc, &fst, want)
 }
 
-/// The same of the running expression. The leaf of its second state is captured.
-fn is_running(alloc: Global, want: &str) -> Result<bool, NoMemory> {
+/// The running expression is compiled to this, and the leaf of its second state is captured. The number of
+/// the first wrong fact.
+fn wrong_fact(alloc: Global, want: &str) -> Result<Option<usize>, NoMemory> {
     let expr = expression(alloc, Shape::Climbing)?;
     let fst = compile(alloc, &expr)?;
-    let leaf = captured_leaf(&fst, State(2));
-    Ok(is_told(alloc, &fst, want)? && leaf == Some(Leaf::Under(A)))
+    let facts = [
+        is_told(alloc, &fst, want)?,
+        captured_leaf(&fst, State(2)) == Some(Leaf::Under(A)),
+    ];
+    Ok(first_false(&facts))
 }
 
 /// The leaf of a state that is captured.
@@ -66,7 +71,7 @@ fn captured_leaf(fst: &Fst, state: State) -> Option<Leaf> {
 #[test]
 fn has_the_edges_of_the_running_expression(rt: HostRuntime) {
     let want = "0>1 0>2 1>1 1>2 2>3 2>4 2>5 3>3 3>4 3>5 4>3 4>4 4>5 5>6 6>6 5.6.";
-    assert_eq!(rt; is_running(rt.alloc(), want), Ok(true));
+    assert_eq!(rt; wrong_fact(rt.alloc(), want), Ok(None));
 }
 
 fn rep(alloc: Global, inner: Expr, least: u32, most: Option<u32>) -> Result<Expr, AllocError>
@@ -106,24 +111,21 @@ fn is_repeated(
     is_compiled(alloc, &expr, want)
 }
 
-fn are_written_out(alloc: Global) -> Result<bool, NoMemory> {
-    Ok(
-        is_repeated(alloc, one(), 0, Some(0), "0.")?
-            && is_repeated(alloc, one(), 2, Some(3), "0>1 1>2 2>3 2.3.")?
-            && is_repeated(alloc, one(), 2, None, "0>1 1>2 2>2 2.")?
-            && is_repeated(
-                alloc,
-                maybe_one(alloc)?,
-                2,
-                Some(3),
-                "0>1 0>2 0>3 1>2 1>3 2>3 0.1.2.3.",
-            )?,
-    )
+/// The number of the first repetition that is compiled to something else.
+fn wrong_repetition(alloc: Global) -> Result<Option<usize>, NoMemory> {
+    let of_four = "0>1 0>2 0>3 1>2 1>3 2>3 0.1.2.3.";
+    let facts = [
+        is_repeated(alloc, one(), 0, Some(0), "0.")?,
+        is_repeated(alloc, one(), 2, Some(3), "0>1 1>2 2>3 2.3.")?,
+        is_repeated(alloc, one(), 2, None, "0>1 1>2 2>2 2.")?,
+        is_repeated(alloc, maybe_one(alloc)?, 2, Some(3), of_four)?,
+    ];
+    Ok(first_false(&facts))
 }
 
 #[test]
 fn writes_repetitions_out(rt: HostRuntime) {
-    assert_eq!(rt; are_written_out(rt.alloc()), Ok(true));
+    assert_eq!(rt; wrong_repetition(rt.alloc()), Ok(None));
 }
 
 /// `[[a?]{32}]{32}`

@@ -12,6 +12,8 @@ mod compiling;
 #[cfg(test)]
 mod data;
 #[cfg(test)]
+mod facts;
+#[cfg(test)]
 mod frequencies;
 #[cfg(test)]
 mod grids;

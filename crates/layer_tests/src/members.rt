@@ -1,5 +1,6 @@
 //! Counts of members.
 
+use super::facts::first_false;
 use member_counts::MemberCounts;
 use mine_model::NoMemory;
 use state_bits::StateSet;
@@ -40,19 +41,20 @@ fn some_counts(counts: &MemberCounts<4>) -> [u64; 5] {
     ]
 }
 
-/// Whether a thousand sets are counted, and then three.
-fn counts_twice(counts: &mut MemberCounts<4>) -> Result<bool, NoMemory> {
+/// A thousand sets are counted, and then three. The number of the first that are counted otherwise.
+fn first_miscounted(counts: &mut MemberCounts<4>) -> Result<Option<usize>, NoMemory> {
     give(counts, 1_000)?;
     let are_many = some_counts(counts) == [1_000, 500, 334, 0, 10];
     counts.clear();
     give(counts, 3)?;
-    Ok(are_many && some_counts(counts) == [3, 2, 1, 0, 1])
+    let are_few = some_counts(counts) == [3, 2, 1, 0, 1];
+    Ok(first_false(&[are_many, are_few]))
 }
 
 #[test]
 fn counts_the_sets_of_each_member(rt: HostRuntime) {
     let mut counts = MemberCounts::<4>::new(rt.alloc());
-    assert_eq!(rt; counts_twice(&mut counts), Ok(true));
+    assert_eq!(rt; first_miscounted(&mut counts), Ok(None));
 }
 
 /// Whether these members reach the threshold.
@@ -66,21 +68,23 @@ fn are_reaching(
     Ok(members.as_slice() == want)
 }
 
-/// Whether the right members of a thousand sets reach each threshold, and none of no set.
-fn finds_members(alloc: Global, counts: &mut MemberCounts<4>) -> Result<bool, NoMemory> {
+/// Of the members that reach a threshold, none of no set, and the right ones of a thousand: the number of the
+/// first wrong fact.
+fn wrong_fact(alloc: Global, counts: &mut MemberCounts<4>) -> Result<Option<usize>, NoMemory> {
     let is_none = counts.reaching(1).is_empty();
     give(counts, 1_000)?;
-    Ok(
-        is_none
-            && are_reaching(alloc, counts, 334, &[0, 63, 64])?
-            && are_reaching(alloc, counts, 335, &[0, 63])?
-            && counts.reaching(1_001).is_empty()
-            && counts.reaching(u64::MAX).is_empty(),
-    )
+    let facts = [
+        is_none,
+        are_reaching(alloc, counts, 334, &[0, 63, 64])?,
+        are_reaching(alloc, counts, 335, &[0, 63])?,
+        counts.reaching(1_001).is_empty(),
+        counts.reaching(u64::MAX).is_empty(),
+    ];
+    Ok(first_false(&facts))
 }
 
 #[test]
 fn finds_the_members_that_reach_a_threshold(rt: HostRuntime) {
     let mut counts = MemberCounts::<4>::new(rt.alloc());
-    assert_eq!(rt; finds_members(rt.alloc(), &mut counts), Ok(true));
+    assert_eq!(rt; wrong_fact(rt.alloc(), &mut counts), Ok(None));
 }

@@ -176,24 +176,28 @@ fn first_wrong<R: Threads + Wait + Sync>(
     Ok(None)
 }
 
+/// The first number of workers that finds something else, and the number of the first such case.
+fn wrong_workers<R: Threads + Wait + Sync>(
+    rt: &R,
+    alloc: Global,
+    engine: Engine,
+) -> Result<Option<(u32, usize)>, NoMemory> {
+    for workers in [1, 2, 4, 64] {
+        if let Some(number) = first_wrong(rt, alloc, engine, workers)? {
+            return Ok(Some((workers, number)));
+        }
+    }
+    Ok(None)
+}
+
 #[test]
 fn candidates_find_the_frequent_patterns(rt: HostRuntime) {
-    for workers in [1, 2, 4, 64] {
-        assert_eq!(rt;
-            first_wrong(&rt, rt.alloc(), Engine::Count, workers),
-            Ok(None)
-        );
-    }
+    assert_eq!(rt; wrong_workers(&rt, rt.alloc(), Engine::Count), Ok(None));
 }
 
 #[test]
 fn sets_find_the_frequent_patterns(rt: HostRuntime) {
-    for workers in [1, 2, 4, 64] {
-        assert_eq!(rt;
-            first_wrong(&rt, rt.alloc(), Engine::Cand, workers),
-            Ok(None)
-        );
-    }
+    assert_eq!(rt; wrong_workers(&rt, rt.alloc(), Engine::Cand), Ok(None));
 }
 
 /// How often each of four workers passed for each of its first two rounds, and how often anybody else did.
@@ -245,7 +249,8 @@ impl Gate for Passed {
 fn each_block_passes_the_gate_once(rt: HostRuntime) {
     let gate = Passed::new();
     let is_found = is_found(&rt, rt.alloc(), Engine::Count, MANY, 4, &gate);
-    assert!(rt; is_found == Ok(true) && gate.are([[1, 1], [1, 1], [1, 0], [1, 0]]));
+    assert_eq!(rt; is_found, Ok(true));
+    assert!(rt; gate.are([[1, 1], [1, 1], [1, 0], [1, 0]]));
 }
 
 // Each worker has one part.
@@ -253,5 +258,6 @@ fn each_block_passes_the_gate_once(rt: HostRuntime) {
 fn each_part_passes_the_gate_once(rt: HostRuntime) {
     let gate = Passed::new();
     let is_found = is_found(&rt, rt.alloc(), Engine::Cand, TWO, 2, &gate);
-    assert!(rt; is_found == Ok(true) && gate.are([[1, 0], [1, 0], [0, 0], [0, 0]]));
+    assert_eq!(rt; is_found, Ok(true));
+    assert!(rt; gate.are([[1, 0], [1, 0], [0, 0], [0, 0]]));
 }

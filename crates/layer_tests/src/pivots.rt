@@ -2,6 +2,7 @@
 ghost use Rattle.std.specs.Prelude.{◌≢◌, ◌<◌, ◌≤◌, [], AllPairs};
 
 use super::data::{RUNNING, Shape, add_numbers, job};
+use super::facts::first_false;
 use mine_model::NoMemory;
 use mining_job::{Job, PartSeed};
 use pivot_partition::{merge_pivots, pivots_of, split, split_alone};
@@ -82,14 +83,21 @@ fn parts_by<T: Threads + Sync>(rt: &T, alloc: Global, threads: u32) -> Result<St
     text_of(alloc, seeds.as_slice())
 }
 
+const THREADS: [u32; 4] = [1, 2, 5, 64];
+
+/// The place of the first of these numbers of threads that finds other parts.
+fn wrong_threads<T: Threads + Sync>(rt: &T, alloc: Global) -> Result<Option<usize>, NoMemory> {
+    for (number, threads) in THREADS.iter().enumerate() {
+        if parts_by(rt, alloc, *threads)?.as_str() != " 3: 0 1 4" {
+            return Ok(Some(number));
+        }
+    }
+    Ok(None)
+}
+
 #[test]
 fn threads_find_the_same_parts(rt: HostRuntime) {
-    for threads in [1, 2, 5, 64] {
-        assert_eq!(rt;
-            parts_by(&rt, rt.alloc(), threads).as_deref(),
-            Ok(" 3: 0 1 4")
-        );
-    }
+    assert_eq!(rt; wrong_threads(&rt, rt.alloc()), Ok(None));
 }
 
 /// Whether this is the merge of the two lists.
@@ -104,11 +112,16 @@ fn is_merged(alloc: Global, first: &[u32], second: &[u32], want: &[u32]) -> Resu
     Ok(numbers.as_slice() == want)
 }
 
-fn are_merged(alloc: Global) -> Result<bool, NoMemory> {
-    Ok(is_merged(alloc, &[2, 5], &[3, 4], &[3, 4, 5])? && is_merged(alloc, &[0], &[0, 7], &[0, 7])?)
+/// The number of the first lists with another merge.
+fn wrong_merge(alloc: Global) -> Result<Option<usize>, NoMemory> {
+    let facts = [
+        is_merged(alloc, &[2, 5], &[3, 4], &[3, 4, 5])?,
+        is_merged(alloc, &[0], &[0, 7], &[0, 7])?,
+    ];
+    Ok(first_false(&facts))
 }
 
 #[test]
 fn merges_pivots(rt: HostRuntime) {
-    assert_eq!(rt; are_merged(rt.alloc()), Ok(true));
+    assert_eq!(rt; wrong_merge(rt.alloc()), Ok(None));
 }

@@ -4,6 +4,7 @@ ghost use Rattle.std.specs.Prelude.{length, slice_get, vec_len};
 ghost use Rattle.node_pool.specs.Pool.{seat_ground, IsWholePool, SameSeat};
 ghost use Rattle.layer_tests.specs.Pools.{IsPool, SameSeats};
 
+use super::facts::first_false;
 use mine_model::NoMemory;
 use node_pool::{Seat, Task, finish, open};
 use std::alloc::Global;
@@ -114,17 +115,19 @@ fn is_played(
     Ok(are_put && answers.as_slice() == want && labels.as_slice() == left)
 }
 
-fn are_played(alloc: Global) -> Result<bool, NoMemory> {
-    Ok(
-        is_played(alloc, 2, 3, 1, 1, &[Some(1), Some(3)], &[2])?
-            && is_played(alloc, 1, 0, 0, 1, &[None], &[])?
-            && is_played(alloc, 3, 4, 2, 0, &[Some(1), Some(2)], &[3, 4])?,
-    )
+/// The number of the first pool that is played otherwise.
+fn wrong_play(alloc: Global) -> Result<Option<usize>, NoMemory> {
+    let facts = [
+        is_played(alloc, 2, 3, 1, 1, &[Some(1), Some(3)], &[2])?,
+        is_played(alloc, 1, 0, 0, 1, &[None], &[])?,
+        is_played(alloc, 3, 4, 2, 0, &[Some(1), Some(2)], &[3, 4])?,
+    ];
+    Ok(first_false(&facts))
 }
 
 #[test]
 fn the_newest_to_its_owner_and_the_oldest_to_a_thief(rt: HostRuntime) {
-    assert_eq!(rt; are_played(rt.alloc()), Ok(true));
+    assert_eq!(rt; wrong_play(rt.alloc()), Ok(None));
 }
 
 /// Whether a seat gets nothing from an empty deque, then the one task that its owner puts, and then nothing.
@@ -177,13 +180,19 @@ fn meetings(alloc: Global, workers: u32) -> Result<u32, NoMemory>
     Ok(met)
 }
 
-fn all_meet(alloc: Global) -> Result<bool, NoMemory> {
-    Ok(meetings(alloc, 1)? == 1 && meetings(alloc, 3)? == 9 && meetings(alloc, 64)? == 4096)
+/// The number of the first pool, of one seat, of three and of 64, in which not all pairs meet.
+fn wrong_meeting(alloc: Global) -> Result<Option<usize>, NoMemory> {
+    let facts = [
+        meetings(alloc, 1)? == 1,
+        meetings(alloc, 3)? == 9,
+        meetings(alloc, 64)? == 4096,
+    ];
+    Ok(first_false(&facts))
 }
 
 #[test]
 fn each_deque_answers_each_seat(rt: HostRuntime) {
-    assert_eq!(rt; all_meet(rt.alloc()), Ok(true));
+    assert_eq!(rt; wrong_meeting(rt.alloc()), Ok(None));
 }
 
 const TASKS: u32 = 10_000;

@@ -3,6 +3,7 @@ ghost use Rattle.std.specs.Prelude.{◌≡◌, ◌≤◌, IfOk, Some, [], ◌∷
 ghost use Rattle.layer_tests.specs.Trees.{row_at, small_ranks as the_small_ranks};
 
 use super::data::add_numbers;
+use super::facts::first_false;
 use mine_model::{Item, NoMemory, Pattern, Row};
 use pool_schedule::{Event, Machine, Posted, run_schedule, step};
 use search_tree::{Grow, Grown, Label};
@@ -147,19 +148,29 @@ fn told(alloc: Global, workers: u32, choices: &[u64]) -> Result<String, NoMemory
     text_of(alloc, &posted)
 }
 
-fn are_in_depth(alloc: Global) -> Result<bool, NoMemory> {
-    Ok(
-        told(alloc, 3, &[])?.as_str() == IN_DEPTH
-            && told(alloc, 64, &[])?.as_str() == IN_DEPTH
-            && told(alloc, 1, &[0; 1_000])?.as_str() == IN_DEPTH
-            && told(alloc, 3, &[1])?.as_str() == IN_DEPTH,
-    )
+/// Whether so many workers post the small tree in depth by these choices.
+fn is_in_depth(alloc: Global, workers: u32, choices: &[u64]) -> Result<bool, NoMemory>
+    requires some { 1 ≤ workers }
+    requires few { workers ≤ 64 }
+{
+    Ok(told(alloc, workers, choices)?.as_str() == IN_DEPTH)
 }
 
-// By the choice 1 the second worker steals the root. Choices that are left over are ignored.
+/// The number of the first schedule that is not in depth. By the choice 1 the second worker steals the root.
+/// Choices that are left over are ignored.
+fn first_other(alloc: Global) -> Result<Option<usize>, NoMemory> {
+    let facts = [
+        is_in_depth(alloc, 3, &[])?,
+        is_in_depth(alloc, 64, &[])?,
+        is_in_depth(alloc, 1, &[0; 1_000])?,
+        is_in_depth(alloc, 3, &[1])?,
+    ];
+    Ok(first_false(&facts))
+}
+
 #[test]
 fn one_worker_posts_in_depth(rt: HostRuntime) {
-    assert_eq!(rt; are_in_depth(rt.alloc()), Ok(true));
+    assert_eq!(rt; first_other(rt.alloc()), Ok(None));
 }
 
 /// Events of two workers, and whether each is enabled after those before it.

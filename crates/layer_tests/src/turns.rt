@@ -2,6 +2,7 @@
 ghost use Rattle.std.specs.Prelude.{◌≡◌, ℕ, ◌<◌, ◌≤◌, List, [], ◌∷◌, length, map, All, IfOk, vec_len};
 ghost use Rattle.turn_lock.specs.Passes.{pass_count, IsPassOf, AreAllPasses};
 
+use super::facts::first_false;
 use mine_model::NoMemory;
 use std::alloc::Global;
 use std::marker::Model;
@@ -104,17 +105,18 @@ fn no_amounts(alloc: Global) -> Amounts
     }
 }
 
-/// Whether the third change is refused, and the others stand in their order.
-fn are_in_order(rt: &impl Wait, alloc: Global) -> Result<bool, NoMemory> {
+/// The third change is refused, and the others stand in their order. The number of the first wrong fact.
+fn wrong_fact(rt: &impl Wait, alloc: Global) -> Result<Option<usize>, NoMemory> {
     let (lock, mut passes) = TurnLock::new(alloc, no_amounts(alloc), 2)?;
     let is_refused = change_all(rt, &lock, passes.as_mut_slice());
     let amounts = lock.close(passes);
-    Ok(is_refused? && amounts.added.as_slice() == [(0, 5), (1, 7), (0, 9)].as_slice())
+    let are_in_order = amounts.added.as_slice() == [(0, 5), (1, 7), (0, 9)].as_slice();
+    Ok(first_false(&[is_refused?, are_in_order]))
 }
 
 #[test]
 fn changes_stand_in_their_order(rt: HostRuntime) {
-    assert_eq!(rt; are_in_order(&rt, rt.alloc()), Ok(true));
+    assert_eq!(rt; wrong_fact(&rt, rt.alloc()), Ok(None));
 }
 
 /// A change that rests before it adds its amount.
@@ -215,41 +217,43 @@ fn counts_up(amounts: &[(u32, u64)], number: u32, count: u64) -> bool {
     next == count
 }
 
-/// Whether so many passes added the numbers below `count`, each in order, and nothing else.
-fn all_count_up(amounts: &[(u32, u64)], passes: u32, count: u64) -> bool {
+/// The first of so many passes that did not add the numbers below `count`, in order; their number where more
+/// was added.
+fn first_other(amounts: &[(u32, u64)], passes: u32, count: u64) -> Option<usize> {
     for number in 0..passes {
         if !counts_up(amounts, number, count) {
-            return false;
+            return Some(number as usize);
         }
     }
-    amounts.len() as u64 == u64::from(passes).saturating_mul(count)
+    let are_all = amounts.len() as u64 == u64::from(passes).saturating_mul(count);
+    (!are_all).then_some(passes as usize)
 }
 
-/// Whether so many threads count up, each in its order.
-fn threads_count_up<R: Threads + Wait + Clock + Sync>(
+/// The same of threads that count up, each in its order.
+fn first_other_thread<R: Threads + Wait + Clock + Sync>(
     rt: &R,
     alloc: Global,
     passes: u32,
     count: u64,
     rest: Duration,
-) -> Result<bool, NoMemory>
+) -> Result<Option<usize>, NoMemory>
     requires { 1 ≤ passes }
 {
     let (lock, all) = TurnLock::new(alloc, no_amounts(alloc), passes)?;
     let all = count_in_threads(rt, alloc, &lock, all, count, rest)?;
     let amounts = lock.close(all);
-    Ok(all_count_up(amounts.added.as_slice(), passes, count))
+    Ok(first_other(amounts.added.as_slice(), passes, count))
 }
 
 #[test]
 fn threads_add_each_in_its_order(rt: HostRuntime) {
-    let is_right = threads_count_up(&rt, rt.alloc(), 8, 1000, Duration::ZERO);
-    assert_eq!(rt; is_right, Ok(true));
+    let other = first_other_thread(&rt, rt.alloc(), 8, 1000, Duration::ZERO);
+    assert_eq!(rt; other, Ok(None));
 }
 
 // While one change takes two seconds, two more wait: they look again, and sleep no longer than it takes.
 #[test]
 fn waiters_look_again_after_long_turns(rt: HostRuntime) {
-    let is_right = threads_count_up(&rt, rt.alloc(), 3, 1, Duration::from_secs(2));
-    assert_eq!(rt; is_right, Ok(true));
+    let other = first_other_thread(&rt, rt.alloc(), 3, 1, Duration::from_secs(2));
+    assert_eq!(rt; other, Ok(None));
 }

@@ -3,6 +3,7 @@
 ghost use Rattle.std.specs.Prelude.{◌≤◌};
 ghost use Rattle.gap_front.specs.Embedding.{most_gap, most_rule_length};
 
+use super::facts::first_false;
 use gap_front::{GapRule, expression};
 use mine_model::NoMemory;
 use std::alloc::Global;
@@ -24,15 +25,15 @@ fn leaves_of(max_gap: u32, max_length: u32) -> u64
 
 #[test]
 fn counts_the_leaves(rt: HostRuntime) {
-    let found = [
-        leaves_of(1000, 1),
-        leaves_of(0, 5),
-        leaves_of(509, 3),
-        leaves_of(510, 3),
-        leaves_of(1000, 4),
-        leaves_of(1000, 1000),
+    let facts = [
+        leaves_of(1000, 1) == 3,
+        leaves_of(0, 5) == 7,
+        leaves_of(509, 3) == 1023,
+        leaves_of(510, 3) == 1025,
+        leaves_of(1000, 4) == 3006,
+        leaves_of(1000, 1000) == 1_000_002,
     ];
-    assert_eq!(rt; found, [3, 7, 1023, 1025, 3006, 1_000_002]);
+    assert_eq!(rt; first_false(&facts), None);
 }
 
 // The expression of two to four items and gaps of up to seven, as it is printed.

@@ -2,6 +2,7 @@
 
 ghost use Rattle.std.specs.Prelude.{◌<◌};
 
+use super::facts::first_false;
 use super::one_file::one_file;
 use item_hierarchy::{close, read};
 use item_names::Names;
@@ -91,28 +92,30 @@ fn the_first_line_with_a_cycle(rt: HostRuntime) {
     assert_eq!(rt; first_other_cycle(rt.alloc()), Ok(None));
 }
 
-/// Whether the hierarchy of an item and one above it is right once a third is added.
-fn is_covered(hierarchy: &mut Hierarchy) -> Result<bool, NoMemory> {
+/// The number of the first wrong fact of the hierarchy of an item and one above it, once a third is added.
+fn wrong_fact(hierarchy: &mut Hierarchy) -> Result<Option<usize>, NoMemory> {
     hierarchy.cover(3)?;
-    Ok(
-        hierarchy.items() == 3
-            && hierarchy.ancestors(Item(0)) == [Item(0), Item(1)].as_slice()
-            && hierarchy.ancestors(Item(2)) == [Item(2)].as_slice()
-            && hierarchy.is_above(Item(0), Item(1))
-            && !hierarchy.is_above(Item(1), Item(0)),
-    )
+    let facts = [
+        hierarchy.items() == 3,
+        hierarchy.ancestors(Item(0)) == [Item(0), Item(1)].as_slice(),
+        hierarchy.ancestors(Item(2)) == [Item(2)].as_slice(),
+        hierarchy.is_above(Item(0), Item(1)),
+        !hierarchy.is_above(Item(1), Item(0)),
+    ];
+    Ok(first_false(&facts))
 }
 
-fn is_covered_when_read(alloc: Global) -> Result<bool, NoMemory> {
+/// The same of a file. A number that no fact has where it is refused.
+fn wrong_fact_of_file(alloc: Global) -> Result<Option<usize>, NoMemory> {
     match hierarchy_of(alloc, b"x y", 9)? {
-        Ok(mut hierarchy) => is_covered(&mut hierarchy),
-        Err(_) => Ok(false),
+        Ok(mut hierarchy) => wrong_fact(&mut hierarchy),
+        Err(_) => Ok(Some(usize::MAX)),
     }
 }
 
 #[test]
 fn items_that_are_added_have_no_parents(rt: HostRuntime) {
-    assert_eq!(rt; is_covered_when_read(rt.alloc()), Ok(true));
+    assert_eq!(rt; wrong_fact_of_file(rt.alloc()), Ok(None));
 }
 
 /// A file in which each item up to this one stands below the next, with more behind.

@@ -1,5 +1,6 @@
 //! Shares, and the rows of outputs that are merged.
 
+use super::facts::first_false;
 use super::one_file::one_file;
 use item_names::Names;
 use mine_model::{Item, NoMemory, Row};
@@ -8,9 +9,18 @@ use std::alloc::Global;
 
 #[test]
 fn a_rank_is_in_one_share(rt: HostRuntime) {
-    assert!(rt; is_in_share(1, 1, 1) && is_in_share(1, 2, 1) && is_in_share(2, 2, 2));
-    assert!(rt; is_in_share(1, 2, 3) && is_in_share(64, 64, 64) && is_in_share(1, 64, 65));
-    assert!(rt; !is_in_share(2, 2, 1) && !is_in_share(64, 64, 65) && !is_in_share(1, 1, 0));
+    let facts = [
+        is_in_share(1, 1, 1),
+        is_in_share(1, 2, 1),
+        is_in_share(2, 2, 2),
+        is_in_share(1, 2, 3),
+        is_in_share(64, 64, 64),
+        is_in_share(1, 64, 65),
+        !is_in_share(2, 2, 1),
+        !is_in_share(64, 64, 65),
+        !is_in_share(1, 1, 0),
+    ];
+    assert_eq!(rt; first_false(&facts), None);
 }
 
 /// Reads one more file with this text, whose rows reach this threshold.
@@ -25,8 +35,12 @@ fn read_one(
     Ok(read_rows(alloc, &mut files, "f", threshold, names, held))
 }
 
-fn is_row(row: &Row, items: &[Item], support: u64) -> bool {
-    row.pattern.items() == items && row.support == support
+/// Whether the row with this number has these items and this support.
+fn is_row(rows: &[Row], number: usize, items: &[Item], support: u64) -> bool {
+    match rows.get(number) {
+        Some(row) => row.pattern.items() == items && row.support == support,
+        None => false,
+    }
 }
 
 /// The first of these texts, each in a file of its own, that is refused, and why.
@@ -44,27 +58,28 @@ fn first_refused(
     Ok(None)
 }
 
-fn are_merged(rows: &[Row]) -> bool {
-    rows.len() == 5
-        && is_row(&rows[0], &[Item(0)], 3)
-        && is_row(&rows[1], &[Item(0), Item(1)], 1)
-        && is_row(&rows[4], &[Item(2), Item(0)], 1)
-}
-
-/// Whether the rows of two files are held, in their order, and the first file is refused once it is held.
-fn are_held(alloc: Global) -> Result<bool, NoMemory> {
+/// Of the rows of two files, which are held in their order: the first file is refused once it is held. The
+/// number of the first wrong fact.
+fn wrong_fact(alloc: Global) -> Result<Option<usize>, NoMemory> {
     let mut names = Names::new(alloc)?;
     let mut held = MergedRows::new(alloc);
     let first = "3\tb\n1\tb c\n1\tc\n";
     let texts = [first, "1\ta\n1\ta b", first];
     let refused = first_refused(alloc, &texts, &mut names, &mut held)?;
     let rows = held.into_rows()?;
-    Ok(refused == Some((2, MergeFault::BadRow { line: 1 })) && are_merged(rows.as_slice()))
+    let facts = [
+        refused == Some((2, MergeFault::BadRow { line: 1 })),
+        rows.len() == 5,
+        is_row(rows.as_slice(), 0, &[Item(0)], 3),
+        is_row(rows.as_slice(), 1, &[Item(0), Item(1)], 1),
+        is_row(rows.as_slice(), 4, &[Item(2), Item(0)], 1),
+    ];
+    Ok(first_false(&facts))
 }
 
 #[test]
 fn rows_of_files_are_held_in_their_order(rt: HostRuntime) {
-    assert_eq!(rt; are_held(rt.alloc()), Ok(true));
+    assert_eq!(rt; wrong_fact(rt.alloc()), Ok(None));
 }
 
 /// Files, the threshold, and why they are refused.

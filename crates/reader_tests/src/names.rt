@@ -1,5 +1,6 @@
 //! Names and their numbers.
 
+use super::facts::first_false;
 use item_names::{Names, NamesFault};
 use mine_model::{Item, NoMemory};
 use std::alloc::{AllocError, Global};
@@ -15,49 +16,56 @@ fn are_numbered(names: &mut Names, wanted: &[(&[u8], u32)]) -> bool {
     true
 }
 
-fn keeps_numbers(names: &mut Names) -> bool {
-    are_numbered(names, &[(b"x", 0), (b"y", 1), (b"x", 0), (b"", 2)])
-        && names.find(b"y") == Some(Item(1))
-        && names.find(b"z") == None
-        && names.count() == 3
-        && names.text(Item(1)) == b"y".as_slice()
-        && names.text(Item(2)) == b"".as_slice()
+/// Whether the item with this number has this name.
+fn is_text(names: &Names, number: u32, text: &[u8]) -> bool {
+    number < names.count() && names.text(Item(number)) == text
 }
 
-fn new_names_keep_numbers(alloc: Global) -> Result<bool, NoMemory> {
+/// The number of the first wrong fact of names that are new.
+fn wrong_fact(names: &mut Names) -> Option<usize> {
+    let facts = [
+        are_numbered(names, &[(b"x", 0), (b"y", 1), (b"x", 0), (b"", 2)]),
+        names.find(b"y") == Some(Item(1)),
+        names.find(b"z") == None,
+        names.count() == 3,
+        is_text(names, 1, b"y"),
+        is_text(names, 2, b""),
+    ];
+    first_false(&facts)
+}
+
+fn wrong_fact_of_new(alloc: Global) -> Result<Option<usize>, NoMemory> {
     let mut names = Names::new(alloc)?;
-    Ok(keeps_numbers(&mut names))
+    Ok(wrong_fact(&mut names))
 }
 
 #[test]
 fn a_name_keeps_its_number(rt: HostRuntime) {
-    assert_eq!(rt; new_names_keep_numbers(rt.alloc()), Ok(true));
+    assert_eq!(rt; wrong_fact_of_new(rt.alloc()), Ok(None));
 }
 
-/// The first number whose bytes are not given it as a name, of so many.
-fn first_other(names: &mut Names, count: u32) -> Option<u32> {
+/// The first number whose bytes are not given it as a name, of so many, behind which there is room for no
+/// more.
+fn first_other(names: &mut Names, count: u32) -> Option<usize> {
     for number in 0..count {
         if names.intern(&number.to_le_bytes()) != Ok(Item(number)) {
-            return Some(number);
+            return Some(number as usize);
         }
+    }
+    if names.intern(b"one more") != Err(NamesFault::TooMany) || names.count() != count {
+        return Some(count as usize);
     }
     None
 }
 
-fn is_full_at(names: &mut Names, count: u32) -> bool {
-    first_other(names, count).is_none()
-        && names.intern(b"one more") == Err(NamesFault::TooMany)
-        && names.count() == count
-}
-
-fn new_names_are_full_at(alloc: Global, count: u32) -> Result<bool, NoMemory> {
+fn first_other_of_new(alloc: Global, count: u32) -> Result<Option<usize>, NoMemory> {
     let mut names = Names::new(alloc)?;
-    Ok(is_full_at(&mut names, count))
+    Ok(first_other(&mut names, count))
 }
 
 #[test]
 fn holds_as_many_names_as_it_says(rt: HostRuntime) {
-    assert_eq!(rt; new_names_are_full_at(rt.alloc(), 1_048_576), Ok(true));
+    assert_eq!(rt; first_other_of_new(rt.alloc(), 1_048_576), Ok(None));
 }
 
 /// The numbers below 10,000 that make, with an `n` before them, names whose searches all begin at one slot,
@@ -80,35 +88,37 @@ fn is_given(names: &mut Names, name: &str, number: u32) -> bool {
 }
 
 /// The first number of the crowd that its name is not given.
-fn first_misgiven(alloc: Global, names: &mut Names) -> Result<Option<u32>, AllocError> {
+fn first_misgiven(alloc: Global, names: &mut Names) -> Result<Option<usize>, NoMemory> {
     for number in 0..38u32 {
         if !is_given(names, of_crowd(alloc, number)?.as_str(), number) {
-            return Ok(Some(number));
+            return Ok(Some(number as usize));
         }
     }
     Ok(None)
 }
 
-/// The first number of the crowd by which its name is not found.
-fn first_misfound(alloc: Global, names: &Names) -> Result<Option<u32>, AllocError> {
+/// The first number of the crowd by which its name is not found, and 38 more; twice 38 where the front of all
+/// names is found.
+fn first_misfound(alloc: Global, names: &Names) -> Result<Option<usize>, NoMemory> {
     for number in 0..38u32 {
         if names.find(of_crowd(alloc, number)?.as_bytes()) != Some(Item(number)) {
-            return Ok(Some(number));
+            return Ok(Some(38 + number as usize));
         }
     }
-    Ok(None)
+    Ok((names.find(b"n") != None).then_some(76))
 }
 
-fn tells_apart(alloc: Global) -> Result<bool, NoMemory> {
+/// The first of these numbers, of names that are given and then found.
+fn first_mixed_up(alloc: Global) -> Result<Option<usize>, NoMemory> {
     let mut names = Names::new(alloc)?;
-    let is_given = first_misgiven(alloc, &mut names)?.is_none();
-    let is_found = first_misfound(alloc, &names)?.is_none();
-    Ok(is_given && is_found && names.find(b"n") == None)
+    let misgiven = first_misgiven(alloc, &mut names)?;
+    let misfound = first_misfound(alloc, &names)?;
+    Ok(misgiven.or(misfound))
 }
 
 #[test]
 fn names_that_begin_at_one_slot_are_told_apart(rt: HostRuntime) {
-    assert_eq!(rt; tells_apart(rt.alloc()), Ok(true));
+    assert_eq!(rt; first_mixed_up(rt.alloc()), Ok(None));
 }
 
 // Fields of 16 bytes, of one, of 17, and the first again.
@@ -119,21 +129,24 @@ const FIELDS: &[Span] = &[
     Span { from: 37, to: 53 },
 ];
 
-/// Whether the fields get the numbers 0, 1, 2 and 0.
-fn numbers_fields(names: &mut Names, items: &mut Vec<Item>) -> bool {
+/// The fields get the numbers 0, 1, 2 and 0. The number of the first wrong fact.
+fn wrong_fact_of_fields(names: &mut Names, items: &mut Vec<Item>) -> Option<usize> {
     let text = b"0123456789abcdef x 0123456789abcdefg 0123456789abcdef";
     let wanted = [Item(0), Item(1), Item(2), Item(0)];
-    names.intern_fields(text, FIELDS, items).is_ok()
-        && items.as_slice() == wanted.as_slice()
-        && names.count() == 3
+    let facts = [
+        names.intern_fields(text, FIELDS, items).is_ok(),
+        items.as_slice() == wanted.as_slice(),
+        names.count() == 3,
+    ];
+    first_false(&facts)
 }
 
-fn new_names_number_fields(alloc: Global) -> Result<bool, NoMemory> {
+fn wrong_fact_of_new_fields(alloc: Global) -> Result<Option<usize>, NoMemory> {
     let mut names = Names::new(alloc)?;
-    Ok(numbers_fields(&mut names, &mut Vec::new(alloc)))
+    Ok(wrong_fact_of_fields(&mut names, &mut Vec::new(alloc)))
 }
 
 #[test]
 fn fields_get_numbers_in_their_order(rt: HostRuntime) {
-    assert_eq!(rt; new_names_number_fields(rt.alloc()), Ok(true));
+    assert_eq!(rt; wrong_fact_of_new_fields(rt.alloc()), Ok(None));
 }

@@ -1,5 +1,6 @@
 //! The objects that stand for files and streams.
 
+use super::facts::first_false;
 use mine_model::NoMemory;
 use std::alloc::{AllocError, Global};
 use std::io::{ErrorKind, Write};
@@ -58,17 +59,18 @@ const IN_MEMORY: &[Call] = &[
     (None, Ok(0)),
 ];
 
-/// Whether each call answers that, and what the reads leave in a buffer is right.
-fn is_read_in_memory(alloc: Global) -> Result<bool, NoMemory> {
+/// The number of the first call that answers something else; 11 where the reads leave something else in a
+/// buffer.
+fn first_other_in_memory(alloc: Global) -> Result<Option<usize>, NoMemory> {
     let mut files = two_of_a_name(alloc)?;
     let mut buffer = [0; 4];
     let other = first_other(&mut files, IN_MEMORY, &mut buffer);
-    Ok(other == None && buffer == [b'c', b'b', 0, 0])
+    Ok(other.or((buffer != [b'c', b'b', 0, 0]).then_some(11)))
 }
 
 #[test]
 fn files_in_memory_fail_where_they_are_told_to(rt: HostRuntime) {
-    assert_eq!(rt; is_read_in_memory(rt.alloc()), Ok(true));
+    assert_eq!(rt; first_other_in_memory(rt.alloc()), Ok(None));
 }
 
 const CALLS: &[(&str, Result<usize, Failed>, &str)] = &[
@@ -99,21 +101,24 @@ fn a_sink_in_memory_is_cut_fails_and_is_full(rt: HostRuntime) {
     assert_eq!(rt; write_in_memory(rt.alloc()), Ok(None));
 }
 
-/// Whether a text is written whole, and the next one as far as the sink takes it.
-fn is_cut(sink: &mut MemSink) -> bool {
-    write_all(sink, b"abc") == Ok(())
-        && write_all(sink, b"defg") == Err(Failed)
-        && sink.bytes() == b"abcde".as_slice()
+/// A text is written whole, and the next one as far as the sink takes it. The number of the first wrong fact.
+fn wrong_fact(sink: &mut MemSink) -> Option<usize> {
+    let facts = [
+        write_all(sink, b"abc") == Ok(()),
+        write_all(sink, b"defg") == Err(Failed),
+        sink.bytes() == b"abcde".as_slice(),
+    ];
+    first_false(&facts)
 }
 
-fn is_written_in_pieces(alloc: Global) -> Result<bool, NoMemory> {
+fn wrong_fact_of_pieces(alloc: Global) -> Result<Option<usize>, NoMemory> {
     let mut sink = MemSink::new(alloc, 5, 2, vec![in alloc; 4]?)?;
-    Ok(is_cut(&mut sink))
+    Ok(wrong_fact(&mut sink))
 }
 
 #[test]
 fn a_text_is_written_in_pieces(rt: HostRuntime) {
-    assert_eq!(rt; is_written_in_pieces(rt.alloc()), Ok(true));
+    assert_eq!(rt; wrong_fact_of_pieces(rt.alloc()), Ok(None));
 }
 
 const SURE: &[Call] = &[
@@ -131,8 +136,8 @@ fn read_surely(alloc: Global) -> Result<Option<usize>, NoMemory> {
 
 #[test]
 fn sure_ones_never_fail(rt: HostRuntime) {
-    let is_written = SureSink.write(b"abc") == Ok(3);
-    assert!(rt; is_written && read_surely(rt.alloc()) == Ok(None));
+    assert_eq!(rt; read_surely(rt.alloc()), Ok(None));
+    assert!(rt; SureSink.write(b"abc") == Ok(3));
 }
 
 const ON_DISK: &[Call] = &[
@@ -152,7 +157,8 @@ fn the_disk_is_read_with_no_buffer_between(rt: HostRuntime) {
     let mut files = DiskFiles::new(&rt);
     let other = first_other(&mut files, ON_DISK, &mut [0; 4096]);
     let is_gone = fs::remove_file(&rt, "ports_long.txt").is_ok();
-    assert!(rt; is_made && is_gone && other == None);
+    assert_eq!(rt; other, None);
+    assert!(rt; is_made && is_gone);
 }
 
 /// Is interrupted so many times at a write and so many times at a flush. It takes at most so many bytes of a
@@ -216,7 +222,8 @@ fn first_other_stream() -> Option<usize> {
 
 #[test]
 fn an_interrupted_call_is_made_again(rt: HostRuntime) {
+    assert_eq!(rt; first_other_stream(), None);
     let out = StdSink::out(&rt).write(b"\n");
     let err = StdSink::err(&rt).write(b"\n");
-    assert!(rt; first_other_stream() == None && out == Ok(1) && err == Ok(1));
+    assert!(rt; out == Ok(1) && err == Ok(1));
 }

@@ -4,6 +4,7 @@ ghost use Rattle.std.specs.Prelude.{◌≢◌, ℕ, ◌<◌, length, slice_index
 ghost use Rattle.mine_model.specs.declared.row.Row.{Row};
 ghost use Rattle.mine_model.specs.Names.{HasName};
 
+use super::facts::first_false;
 use item_names::Names;
 use mine_model::{Item, NoMemory, Pattern, Row};
 use pattern_writer::{order, write};
@@ -178,16 +179,21 @@ fn written(
     Some((is_whole, sink.bytes().len()))
 }
 
-fn is_one_write(alloc: Global) -> Result<bool, NoMemory> {
+/// The number of the first room through which the rows of an `a` are written otherwise.
+fn first_other_room(alloc: Global) -> Result<Option<usize>, NoMemory> {
     let rows = many_rows(alloc, 6_000)?;
     let mut room = Vec::from_elem(alloc, 0, 65_536)?;
     let in_one = by_one_call(alloc, rows.as_slice(), room.as_mut_slice())?;
     let in_pieces = by_one_call(alloc, rows.as_slice(), &mut [0; 32])?;
-    Ok(in_one == Some((true, 60_000)) && in_pieces == Some((false, 32)))
+    let facts = [
+        in_one == Some((true, 60_000)),
+        in_pieces == Some((false, 32)),
+    ];
+    Ok(first_false(&facts))
 }
 
 // 60,000 bytes are one write of a room of 65,536, and pieces of 32 of a room of 32.
 #[test]
 fn a_full_room_is_one_write(rt: HostRuntime) {
-    assert_eq!(rt; is_one_write(rt.alloc()), Ok(true));
+    assert_eq!(rt; first_other_room(rt.alloc()), Ok(None));
 }

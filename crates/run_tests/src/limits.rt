@@ -42,10 +42,10 @@ fn writes_first<R: Threads + Wait + Sync>(
     rt: &R,
     alloc: Global,
     line: &str,
-    count: u32,
+    count: usize,
 ) -> Result<bool, NoMemory> {
     let expression = format!(in alloc; "(a){{{count}}}")?;
-    let items = line.get(..2 * count as usize).unwrap_or(line);
+    let items = line.get(..count.saturating_mul(2)).unwrap_or(line);
     writes_all(rt, alloc, expression.as_str(), items)
 }
 
@@ -54,8 +54,8 @@ fn first_unwritten<R: Threads + Wait + Sync>(
     rt: &R,
     alloc: Global,
     line: &str,
-) -> Result<Option<u32>, NoMemory> {
-    for count in 1..1025u32 {
+) -> Result<Option<usize>, NoMemory> {
+    for count in 1..1025 {
         if !writes_first(rt, alloc, line, count)? {
             return Ok(Some(count));
         }
@@ -63,7 +63,10 @@ fn first_unwritten<R: Threads + Wait + Sync>(
     Ok(None)
 }
 
-fn first_unmined<R: Threads + Wait + Sync>(rt: &R, alloc: Global) -> Result<Option<u32>, NoMemory> {
+fn first_unmined<R: Threads + Wait + Sync>(
+    rt: &R,
+    alloc: Global,
+) -> Result<Option<usize>, NoMemory> {
     let line = "a ".repeat(alloc, 1_024)?;
     first_unwritten(rt, alloc, line.as_str())
 }

@@ -216,7 +216,7 @@ pub(crate) fn first_wrong_by<R: Threads + Wait + Sync>(
 }
 
 /// Calls of the files, from one to another, and what is left where one of them fails.
-pub(crate) type FailedCalls = (u64, u64, Left<'static>);
+pub(crate) type FailedCalls = (usize, usize, Left<'static>);
 
 /// The first of the calls that leaves something else where it fails, and takes at most so many bytes.
 pub(crate) fn first_wrong_read<R: Threads + Wait + Sync>(
@@ -226,11 +226,11 @@ pub(crate) fn first_wrong_read<R: Threads + Wait + Sync>(
     held: Held<'_>,
     cut: usize,
     calls: &[FailedCalls],
-) -> Result<Option<u64>, NoMemory> {
+) -> Result<Option<usize>, NoMemory> {
     for (from, to, left) in calls {
         for call in *from..=*to {
             let faults = Faults {
-                files: call,
+                files: call as u64,
                 cut,
                 ..NO_FAULTS
             };
