@@ -59,10 +59,14 @@ fn read_as(alloc: Global, text: &str) -> Result<String, AllocError> {
     }
 }
 
+fn is_read_as(alloc: Global, text: &str, wanted: &str) -> Result<bool, NoMemory> {
+    Ok(read_as(alloc, text)?.as_str() == wanted)
+}
+
 // The first text that reads otherwise.
 fn first_misread(alloc: Global) -> Result<Option<&'static str>, NoMemory> {
     for (text, wanted) in READINGS {
-        if read_as(alloc, text)?.as_str() != *wanted {
+        if !is_read_as(alloc, text, wanted)? {
             return Ok(Some(*text));
         }
     }
@@ -256,10 +260,14 @@ fn found_as(alloc: Global, text: &str) -> Result<String, AllocError> {
     format!(in alloc; "{found:?}")
 }
 
+fn is_found_as(alloc: Global, text: &str, wanted: &str) -> Result<bool, NoMemory> {
+    Ok(found_as(alloc, text)?.as_str() == wanted)
+}
+
 // The first text whose names are found to be others.
 fn first_misfound(alloc: Global) -> Result<Option<&'static str>, NoMemory> {
     for (text, wanted) in FOUND {
-        if found_as(alloc, text)?.as_str() != *wanted {
+        if !is_found_as(alloc, text, wanted)? {
             return Ok(Some(*text));
         }
     }

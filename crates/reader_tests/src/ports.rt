@@ -24,53 +24,34 @@ fn two_of_a_name(alloc: Global) -> Result<MemFiles, AllocError> {
     Ok(MemFiles::new(files, vec![in alloc; 1, 4, 10]?, 2))
 }
 
-/// A call of files: a name that is opened, or a read into a buffer, and what it answers.
-type Call<'a> = (Option<&'a str>, Result<usize, Failed>);
-
-/// What a call answers. One that opens a file answers no byte.
-fn answer<F: Files>(files: &mut F, name: Option<&str>, buffer: &mut [u8]) -> Result<usize, Failed> {
-    match name {
-        Some(name) => files.open(name).map(|_| 0),
-        None => files.read(buffer),
-    }
-}
-
-/// The number of the first call that answers something else.
-fn first_other<F: Files>(files: &mut F, calls: &[Call], buffer: &mut [u8]) -> Option<usize> {
-    for (number, (name, wanted)) in calls.iter().enumerate() {
-        if answer(files, *name, buffer) != *wanted {
-            return Some(number);
-        }
-    }
-    None
-}
-
-const IN_MEMORY: &[Call] = &[
-    (Some("rows"), Err(Failed)),
-    (Some("rows"), Ok(0)),
-    (None, Ok(2)),
-    (None, Err(Failed)),
-    (None, Ok(1)),
-    (None, Ok(0)),
-    (Some("absent"), Err(Failed)),
-    (None, Ok(0)),
-    (Some("rows"), Ok(0)),
-    (Some("rows"), Err(Failed)),
-    (None, Ok(0)),
-];
-
-/// The number of the first call that answers something else; 11 where the reads leave something else in a
-/// buffer.
-fn first_other_in_memory(alloc: Global) -> Result<Option<usize>, NoMemory> {
-    let mut files = two_of_a_name(alloc)?;
+/// The number of the first wrong fact of files in memory.
+fn wrong_fact_of_files(files: &mut MemFiles) -> Option<usize> {
     let mut buffer = [0; 4];
-    let other = first_other(&mut files, IN_MEMORY, &mut buffer);
-    Ok(other.or((buffer != [b'c', b'b', 0, 0]).then_some(11)))
+    let facts = [
+        files.open("rows") == Err(Failed),
+        files.open("rows") == Ok(()),
+        files.read(&mut buffer) == Ok(2),
+        files.read(&mut buffer) == Err(Failed),
+        files.read(&mut buffer) == Ok(1),
+        buffer == [b'c', b'b', 0, 0],
+        files.read(&mut buffer) == Ok(0),
+        files.open("absent") == Err(Failed),
+        files.read(&mut buffer) == Ok(0),
+        files.open("rows") == Ok(()),
+        files.open("rows") == Err(Failed),
+        files.read(&mut buffer) == Ok(0),
+    ];
+    first_false(&facts)
+}
+
+fn wrong_fact_in_memory(alloc: Global) -> Result<Option<usize>, NoMemory> {
+    let mut files = two_of_a_name(alloc)?;
+    Ok(wrong_fact_of_files(&mut files))
 }
 
 #[test]
 fn files_in_memory_fail_where_they_are_told_to(rt: HostRuntime) {
-    assert_eq!(rt; first_other_in_memory(rt.alloc()), Ok(None));
+    assert_eq!(rt; wrong_fact_in_memory(rt.alloc()), Ok(None));
 }
 
 const CALLS: &[(&str, Result<usize, Failed>, &str)] = &[
@@ -121,44 +102,47 @@ fn a_text_is_written_in_pieces(rt: HostRuntime) {
     assert_eq!(rt; wrong_fact_of_pieces(rt.alloc()), Ok(None));
 }
 
-const SURE: &[Call] = &[
-    (Some("f"), Ok(0)),
-    (None, Ok(1)),
-    (Some("absent"), Ok(0)),
-    (None, Ok(0)),
-];
+/// The number of the first wrong fact of files and a sink that never fail.
+fn wrong_fact_of_sure(files: &mut SureFiles) -> Option<usize> {
+    let mut buffer = [0; 2];
+    let facts = [
+        SureSink.write(b"abc") == Ok(3),
+        files.open("f") == Ok(()),
+        files.read(&mut buffer) == Ok(1),
+        files.open("absent") == Ok(()),
+        files.read(&mut buffer) == Ok(0),
+    ];
+    first_false(&facts)
+}
 
-fn read_surely(alloc: Global) -> Result<Option<usize>, NoMemory> {
+fn wrong_sure_fact(alloc: Global) -> Result<Option<usize>, NoMemory> {
     let file = named(alloc, "f", "x")?;
     let mut files = SureFiles::new(vec![in alloc; file]?, 1);
-    Ok(first_other(&mut files, SURE, &mut [0; 2]))
+    Ok(wrong_fact_of_sure(&mut files))
 }
 
 #[test]
 fn sure_ones_never_fail(rt: HostRuntime) {
-    assert_eq!(rt; read_surely(rt.alloc()), Ok(None));
-    assert!(rt; SureSink.write(b"abc") == Ok(3));
+    assert_eq!(rt; wrong_sure_fact(rt.alloc()), Ok(None));
 }
-
-const ON_DISK: &[Call] = &[
-    (None, Ok(0)),
-    (Some("ports_long.txt"), Ok(0)),
-    (None, Ok(4096)),
-    (None, Ok(904)),
-    (None, Ok(0)),
-    (Some("ports_absent.txt"), Err(Failed)),
-    (None, Ok(0)),
-    (Some("-"), Ok(0)),
-];
 
 #[test]
 fn the_disk_is_read_with_no_buffer_between(rt: HostRuntime) {
-    let is_made = fs::write(&rt, "ports_long.txt", [b'x'; 5000].as_slice()).is_ok();
+    let mut buffer = [0; 4096];
     let mut files = DiskFiles::new(&rt);
-    let other = first_other(&mut files, ON_DISK, &mut [0; 4096]);
-    let is_gone = fs::remove_file(&rt, "ports_long.txt").is_ok();
-    assert_eq!(rt; other, None);
-    assert!(rt; is_made && is_gone);
+    let facts = [
+        fs::write(&rt, "ports_long.txt", [b'x'; 5000].as_slice()).is_ok(),
+        files.read(&mut buffer) == Ok(0),
+        files.open("ports_long.txt") == Ok(()),
+        files.read(&mut buffer) == Ok(4096),
+        files.read(&mut buffer) == Ok(904),
+        files.read(&mut buffer) == Ok(0),
+        files.open("ports_absent.txt") == Err(Failed),
+        files.read(&mut buffer) == Ok(0),
+        files.open("-") == Ok(()),
+        fs::remove_file(&rt, "ports_long.txt").is_ok(),
+    ];
+    assert_eq!(rt; first_false(&facts), None);
 }
 
 /// Is interrupted so many times at a write and so many times at a flush. It takes at most so many bytes of a

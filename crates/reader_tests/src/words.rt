@@ -110,10 +110,14 @@ const COMMANDS: &[(&str, &str)] = &[
     ("--support 2 --merge --check p f", "None"),
 ];
 
+fn is_said(alloc: Global, text: &str, wanted: &str) -> Result<bool, NoMemory> {
+    Ok(said(alloc, text)?.as_str() == wanted)
+}
+
 /// The first words that say something else.
 fn first_missaid(alloc: Global) -> Result<Option<&'static str>, NoMemory> {
     for (text, wanted) in COMMANDS {
-        if said(alloc, text)?.as_str() != *wanted {
+        if !is_said(alloc, text, wanted)? {
             return Ok(Some(*text));
         }
     }
