@@ -1,8 +1,8 @@
 -- Lemmas on keys of names.
-use Rattle.std.proofs.Common.{rules, ◌%◌, pow-add, Fits, w8, ◌≡◌, ℕ, zero, suc, ◌+◌, ◌-◌, ◌*◌, ◌/◌, ◌^◌, ◌≤◌, ◌<◌, min, List, [], ◌∷◌, ◌++◌, take, drop, length, get_or, refl, sym, ap, ◌∙◌, subst, arith}
+use Rattle.std.proofs.Common.{rules, pow-add, Fits, w8, ◌≡◌, ℕ, zero, suc, ◌+◌, ◌-◌, ◌*◌, ◌/◌, ◌^◌, ◌≤◌, ◌<◌, min, List, [], ◌∷◌, ◌++◌, take, drop, length, get_or, refl, sym, ap, ◌∙◌, subst, arith}
 use Rattle.std.specs.List.{slice_range}
 use Rattle.std.proofs.Math.Nat.{div-le_self, div-one, div-div-eq-div-mul}
-use Rattle.std.proofs.lemmas.List.{take_all, take-take, drop_all, drop-drop, drop-take, take-append-drop, length-take, length-drop}
+use Rattle.std.proofs.lemmas.List.{take_all, drop_all, drop-drop, take-append-drop, length-take, length-drop}
 use Rattle.mine_model.proofs.ListLemmas.{front_of_both, back_of_both}
 use Rattle.std.proofs.Math.Facts.{Fits-lt-pow}
 use Rattle.std.specs.Hash.FoldHasher.{initial, write, finish}

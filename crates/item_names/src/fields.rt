@@ -10,7 +10,7 @@ ghost use Rattle.item_names.specs.Names.{IsInterned};
 
 use super::names_fault::NamesFault;
 use crate::keys::key_of;
-use crate::table::at_home;
+use crate::table::find;
 use crate::{MOST_NAMES, Names};
 use mine_model::Item;
 use text_ports::Span;
@@ -61,7 +61,7 @@ impl Names {
     {
         let name = &text[span.from..span.to];
         let key = key_of(name);
-        if let Some(item) = at_home(&self.texts, self.slots.as_slice(), key, name) {
+        if let Some(item) = find(&self.texts, self.slots.as_slice(), key, name) {
             return Ok(item);
         }
         self.intern(name)

@@ -46,6 +46,7 @@ fn folded_multiply(first: u64, second: u64) -> u64
 }
 
 /// The key of a name.
+#[inline(always)]
 pub(crate) fn key_of(name: &[u8]) -> Key
     ensures { result ≡ key_of name.now }
 {

@@ -42,25 +42,8 @@ impl open_addressing::Slot for Slot {
     }
 }
 
-/// The number of the name with this key, if it stands at its home, as most names do.
-#[inline(always)]
-pub(crate) fn at_home(texts: &Texts, slots: &[Slot], key: Key, name: &[u8]) -> Option<Item>
-    requires table { IsTable layout (map key_of texts.now) slots.now }
-    requires key { key ≡ key_of name.now }
-    requires bytes { AllByRecursion AreBytes texts.now }
-    ensures { IfSome result (λ item. slice_get texts.now item.0 ≡ Some name.now) }
-{
-    if slots.is_empty() {
-        return None;
-    }
-    let slot = slots[home(slots.len(), key.mixed())];
-    if slot.held > 0 && is_of(texts, slot, key, name) {
-        return Some(Item(slot.held - 1));
-    }
-    None
-}
-
 /// The number of the name with this key, if it is held.
+#[inline(always)]
 pub(crate) fn find(texts: &Texts, slots: &[Slot], key: Key, name: &[u8]) -> Option<Item>
     requires table { IsTable layout (map key_of texts.now) slots.now }
     requires key { key ≡ key_of name.now }
@@ -75,6 +58,7 @@ pub(crate) fn find(texts: &Texts, slots: &[Slot], key: Key, name: &[u8]) -> Opti
 }
 
 /// The same by a search from the home of the key on.
+#[inline(always)]
 fn find_from(texts: &Texts, slots: &[Slot], key: Key, name: &[u8], home: usize) -> Option<Item>
     requires table { IsTable layout (map key_of texts.now) slots.now }
     requires key { key ≡ key_of name.now }
@@ -96,6 +80,7 @@ fn find_from(texts: &Texts, slots: &[Slot], key: Key, name: &[u8], home: usize) 
 }
 
 /// Looks for the name in the slots from `from` to before `to`, up to the first that is free.
+#[inline(always)]
 fn search(texts: &Texts, slots: &[Slot], key: Key, name: &[u8], from: usize, to: usize) -> Outcome
     requires table { IsTable layout (map key_of texts.now) slots.now }
     requires key { key ≡ key_of name.now }

@@ -105,8 +105,8 @@ fn first_misread(alloc: Global, cut: usize) -> Result<Option<usize>, NoMemory>
     Ok(None)
 }
 
-/// The first number of bytes that a read gives at most by which a file shows something else, and the number of
-/// that file.
+/// The first number of bytes that a read gives at most by which a file shows something else, and the number
+/// of that file.
 fn first_cut(alloc: Global) -> Result<Option<(usize, usize)>, NoMemory> {
     for cut in 1..8 {
         if let Some(number) = first_misread(alloc, cut)? {
