@@ -6,7 +6,7 @@ use Rattle.sequence_grids.specs.Grids.{GridList}
 use Rattle.mining_job.specs.Problems.{items_of}
 use Rattle.sequence_grids.specs.Places.{ArePlaces, AreGrids}
 use Rattle.sequence_grids.proofs.GridLemmas.{items_within, AreGrids-grow, AreGrids-more}
-use Rattle.sequence_grids.proofs.grids.Grids.push_with.Goals as goal
+use Rattle.sequence_grids.proofs.grids.Grids.push.Goals as goal
 
 pub push_places-requires-clause-items : goal.push_places-requires-clause-items
 push_places-requires-clause-items c =
