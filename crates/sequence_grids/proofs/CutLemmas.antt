@@ -1,5 +1,5 @@
 -- What items may do under a bound, cut from what they may do under that of all ranks.
-use Rattle.std.proofs.Common.{◌≡◌, ◌≢◌, ℕ, ◌+◌, ◌-◌, ◌<◌, ◌≤◌, ◌↔◌, inl, inr, Some, List, [], ◌∷◌, ◌++◌, take, length, get_or, set, get_or-set_same, get_or-set_other, arith, sym, ap, ◌∙◌, subst, append_assoc}
+use Rattle.std.proofs.Common.{◌≡◌, ℕ, ◌+◌, ◌-◌, ◌<◌, ◌≤◌, ◌↔◌, inl, inr, Some, List, [], ◌∷◌, ◌++◌, take, length, get_or, set, get_or-set_same, get_or-set_other, arith, sym, ap, ◌∙◌, subst, append_assoc}
 use Rattle.std.specs.List.{AllPairs, Contains, slice_get, slice_index}
 use Rattle.std.proofs.Math.ListN.{length-set}
 use Rattle.std.proofs.lemmas.List.{append-nil, length-append, length-take, get_or-take, get_or_default, take_more}

@@ -170,7 +170,13 @@ fn grids_of<'a>(
     ensures { IfOk result (λ grids. grids
         ≡ record { problem = job.now; bound = bound; sequences = sequences.now }) }
 {
-    KeptGrids::cut(alloc, job, bound, alphabet, Vec::from_slice(alloc, sequences)?)
+    KeptGrids::cut(
+        alloc,
+        job,
+        bound,
+        alphabet,
+        Vec::from_slice(alloc, sequences)?,
+    )
 }
 
 // The stands at the starts of those sequences that have a pattern within the bound.

@@ -1,7 +1,6 @@
-use Rattle.std.proofs.Common.{◌≡◌, ◌∙◌, ◌<◌, ℕ, Some, length, refl, arith}
+use Rattle.std.proofs.Common.{◌≡◌, ◌<◌, ℕ, Some, length, refl, arith}
 use Rattle.std.specs.List.{slice_get}
 use Rattle.std.proofs.lemmas.Option.{slice_get_read}
-use Rattle.sequence_grids.specs.declared.kinds.Kind.{Kind}
 use Rattle.sequence_grids.specs.Kinds.{row_at}
 use Rattle.sequence_grids.specs.Cuts.{IsReadable}
 use Rattle.sequence_grids.proofs.KindLemmas.{IsKind-alike}

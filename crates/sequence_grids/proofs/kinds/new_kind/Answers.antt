@@ -1,11 +1,9 @@
 use Rattle.std.proofs.Common.{◌≡◌, ◌∙◌, ◌+◌, sym, arith, refl, length, []}
 use Rattle.std.proofs.lemmas.List.{append-nil}
 use Rattle.sequence_grids.specs.declared.kinds.Kind.{Kind}
-use Rattle.sequence_grids.specs.declared.kinds.Kinds.{Kinds}
 use Rattle.sequence_grids.specs.Grids.{Reads}
 use Rattle.sequence_grids.specs.Tables.{IsClassOf}
-use Rattle.sequence_grids.specs.Kinds.{Writes, Needs, KindsGrow, IsKind}
-use Rattle.sequence_grids.specs.Cuts.{AreReadable}
+use Rattle.sequence_grids.specs.Kinds.{Writes, Needs, IsKind}
 use Rattle.mine_model.proofs.ElementLemmas.{stands_last}
 use Rattle.sequence_grids.proofs.KindLemmas.{Extends-nothing, entered_below, IsClassFor-of, IsKind-of}
 use Rattle.sequence_grids.proofs.CutLemmas.{AreReadable-same, AreReadable-more}

@@ -1,4 +1,4 @@
-use Rattle.std.proofs.Common.{◌≡◌, ◌∙◌, ◌<◌, ℕ, List, [], replicate, length, slice_index, ap, arith}
+use Rattle.std.proofs.Common.{◌≡◌, ◌∙◌, ◌<◌, ℕ, List, replicate, length, slice_index, ap, arith}
 use Rattle.std.proofs.lemmas.List.{get_or-replicate, length-replicate}
 use Rattle.std.proofs.lemmas.Option.{slice_get_within}
 use Rattle.sequence_grids.specs.Cuts.{AreReadable}
@@ -16,6 +16,6 @@ push_all-requires-clause-cuts c =
     } in
     AreCuts-none c.args.job.now c.args.bound c.in_ok-tables.tables.classes c.in_ok-kinds.kinds c.args.alphabet.now c.as_mut_slice.result.now readable
     (λ k below.
-        let are : c.as_mut_slice.result.now ≡ replicate c.len.result unknown = c.as_mut_slice.ensures.value ∙ c.in_ok-cuts.ensures.items_if_clones_equal (λ y same. same) in
-        let inside : k < c.len.result = rw (are, length-replicate) at below in
-        ap (λ (xs : List ℕ). slice_index xs k) are ∙ get_or-replicate c.len.result k unknown 0 inside)
+    let are : c.as_mut_slice.result.now ≡ replicate c.len.result unknown = c.as_mut_slice.ensures.value ∙ c.in_ok-cuts.ensures.items_if_clones_equal (λ y same. same) in
+    let inside : k < c.len.result = rw (are, length-replicate) at below in
+    ap (λ (xs : List ℕ). slice_index xs k) are ∙ get_or-replicate c.len.result k unknown 0 inside)
