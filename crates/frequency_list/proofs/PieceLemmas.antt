@@ -1,5 +1,5 @@
 -- What is counted in pieces is what is counted in all.
-use Rattle.std.proofs.Common.{◌≡◌, ℕ, zero, suc, ◌+◌, ◌-◌, ◌*◌, ◌/◌, ◌%◌, ◌≤◌, ◌<◌, inl, inr, List, [], ◌∷◌, ◌++◌, Result, Ok, Err, IfOk, length, map, take, refl, sym, ap, ◌∙◌, subst, arith, add-one, length-append}
+use Rattle.std.proofs.Common.{◌≡◌, ℕ, zero, suc, ◌+◌, ◌-◌, ◌*◌, ◌≤◌, ◌<◌, inl, inr, List, [], ◌∷◌, ◌++◌, Result, Ok, Err, IfOk, length, map, take, refl, sym, ap, ◌∙◌, subst, arith, add-one, length-append}
 use Rattle.std.specs.List.{All, AllZip, Contains, slice_index, range_with_len, sum_by}
 use Rattle.std.specs.Global.{Vec}
 use Rattle.std.specs.Result.{MatchResult}
@@ -116,14 +116,6 @@ AreTallies-room hierarchy ends sequences parts cut limits few are k = elim (case
   | inl below ↦ HasFrequency-most hierarchy.links sequences (item_at k) (sum_at parts k) limits few (AreTallies-sum hierarchy ends sequences parts cut are (item_at k) below)
   | inr past ↦ let zero : sum_at parts k ≡ 0 = sum_past parts hierarchy.items k (AreTallies-whole hierarchy ends sequences parts are) past in omega (arith, zero)
 ]
-
--- the pieces reach the end
-pub pieces-reach : (count pieces : ℕ) → 1 ≤ pieces → count ≤ pieces * (count / pieces + 1)
-pieces-reach count pieces least =
-    let whole : pieces * (count / pieces + 1) ≡ pieces * (count / pieces) + pieces = grind arith in
-    let rest : count % pieces < pieces = omega arith in
-    let parts : pieces * (count / pieces) + count % pieces ≡ count = omega arith in
-    omega (arith, whole, rest, parts)
 
 -- the sums of all parts, place by place, are the tally of all sequences
 pub IsTally-total : (hierarchy : Ancestry) (ends : List ℕ) (sequences : List (Sequence Item)) (parts : List (Vec ℕ)) (sums : List ℕ)

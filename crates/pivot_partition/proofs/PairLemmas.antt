@@ -1,5 +1,5 @@
 -- The pairs of sequences and their pivots, one stretch of sequences after another.
-use Rattle.std.proofs.Common.{◌≡◌, ◌≢◌, ◌↔◌, ℕ, zero, suc, ◌+◌, ◌*◌, ◌<◌, ◌≤◌, inl, inr, Result, Ok, Err, IfOk, List, [], ◌∷◌, ◌++◌, length, map, get_or, refl, sym, ap, subst, arith}
+use Rattle.std.proofs.Common.{◌≡◌, ◌≢◌, ◌↔◌, ℕ, zero, suc, ◌+◌, ◌*◌, ◌/◌, ◌%◌, ◌<◌, ◌≤◌, inl, inr, Result, Ok, Err, IfOk, List, [], ◌∷◌, ◌++◌, length, map, get_or, refl, sym, ap, subst, arith}
 use Rattle.std.specs.List.{All, AllPairs, AllZip, Contains, range_with_len}
 use Rattle.std.specs.Global.{Vec}
 use Rattle.std.specs.Result.{MatchResult}
@@ -12,6 +12,14 @@ use Rattle.mining_job.specs.Problems.{Problem, items_of}
 use Rattle.pivot_partition.specs.declared.pairs.Pair.{Pair}
 use Rattle.pivot_partition.specs.Pivots.{IsPivotOf}
 use Rattle.pivot_partition.specs.Pairs.{ComesFirst, ArePairs, place, ArePieces, all_of}
+
+-- the pieces reach the end
+pub pieces-reach : (count pieces : ℕ) → 1 ≤ pieces → count ≤ pieces * (count / pieces + 1)
+pieces-reach count pieces least =
+    let whole : pieces * (count / pieces + 1) ≡ pieces * (count / pieces) + pieces = grind arith in
+    let rest : count % pieces < pieces = omega arith in
+    let parts : pieces * (count / pieces) + count % pieces ≡ count = omega arith in
+    omega (arith, whole, rest, parts)
 
 abbrev pub pair_of : ℕ → ℕ → Pair
 pair_of sequence pivot = record { pivot = pivot; sequence = sequence }

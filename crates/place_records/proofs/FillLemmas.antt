@@ -13,7 +13,7 @@ use Rattle.mine_model.proofs.ListLemmas.{Contains-cases, Contains-none}
 use Rattle.mine_model.proofs.ElementLemmas.{get-left, get_last, slice_get-mapped_by}
 use Rattle.state_bits.proofs.NeighbourLemmas.{Has-none}
 use Rattle.sequence_grids.specs.declared.places.Place.{Place}
-use Rattle.sequence_grids.specs.Places.{AreGrids}
+use Rattle.sequence_grids.specs.Places.{AreKept}
 use Rattle.sequence_grids.specs.declared.kinds.Kinds.{Kinds}
 use Rattle.sequence_grids.specs.Columns.{AreColumns}
 use Rattle.sequence_grids.specs.Grids.{GridList, items_at}
@@ -26,7 +26,7 @@ use Rattle.walk_places.specs.declared.places.Record.{Record}
 use Rattle.place_records.specs.Records.{AreRecords, AreRanksAt, IsDead, IsRecordAt, NamesMoves, start_of}
 use Rattle.place_records.specs.Ranks.{RanksValue, ranks_in, ranks_of, CanAskOf}
 use Rattle.place_records.specs.Twins.{TwinSets, dead_move, dead_twin, move_in}
-use Rattle.place_records.specs.Filled.{IsRecordBy, AreUpTo, AreHere, AreKnown, AreKept, AreFilledTo, AreMade, wall_record}
+use Rattle.place_records.specs.Filled.{IsRecordBy, AreUpTo, AreHere, AreKnown, AreFilledTo, AreMade, wall_record}
 
 pub IsRecordBy-grow : (problem : Problem) (bound : Bound) (twins after : List TwinSets) (kinds : Kinds) (t : Item) (rest : List Item) (entry : Record)
     → IsRecordBy problem bound twins kinds t rest entry → Extends twins after → IsRecordBy problem bound after kinds t rest entry
@@ -130,11 +130,11 @@ pub HasKind-same : (problem : Problem) (bound : Bound) (table : TableValue) (kin
     → (t : Item) (number : ℕ) → HasKind problem bound table.classes kinds t number → HasKind problem bound table.classes after t number
 HasKind-same problem bound table kinds after columns same ends ranks t number (kind, found, is) = (kind, (rw same found), (rw (columns, ends, ranks) is))
 
-pub AreKept-of : (problem : Problem) (bound : Bound) (table : TableValue) (kinds after : Kinds) (places : List Place) (ends sequences : List ℕ) → AreGrids problem bound table kinds places ends sequences
+pub AreKept-of : (problem : Problem) (bound : Bound) (table : TableValue) (kinds after : Kinds) (places : List Place) (ends sequences : List ℕ) → AreKept problem bound table kinds places ends sequences
     → after.columns ≡ kinds.columns → after.kinds ≡ kinds.kinds → after.ends ≡ kinds.ends → after.ranks ≡ kinds.ranks → AreKept problem bound table after places ends sequences
 AreKept-of problem bound table kinds after places ends sequences are columns same kept_ends ranks = record {
   table_is = are.table_is;
-  columns_are = rw columns are.kinds_are.columns_are;
+  columns_are = rw columns are.columns_are;
   long = are.long;
   grids = λ index inside position within.
       let (below, (place, found, is)) = are.grids index inside position within in (

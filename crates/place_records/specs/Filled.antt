@@ -48,17 +48,6 @@ pub record AreHere (problem : Problem) (bound : Bound) (twins : List TwinSets) (
 abbrev pub AreKnown : List TwinSets → List Record → Type 0
 AreKnown twins places = (entry : Record) → Contains places entry → entry.of < length twins
 
--- what is kept of grids: the columns of the kinds, and the places before each end
-pub record AreKept (problem : Problem) (bound : Bound) (table : TableValue) (kinds : Kinds)
-    (places : List Place) (ends sequences : List ℕ)
-    : Type 0 where
-  pub table_is : IsTableOf problem table
-  pub columns_are : AreColumns problem.transducer.labels kinds.columns.numbers.items kinds.columns.heads.items
-  pub long : length ends ≡ length sequences
-  pub grids : (index : ℕ) → index < length sequences
-      → ArePlaces problem bound table kinds places (slice_index ends index)
-      (items_of problem (slice_index sequences index))
-
 -- the records of the first so many sequences, one behind another
 pub record AreFilledTo (part : GridList) (twins : List TwinSets) (kinds : Kinds) (places : List Record)
     (count : ℕ)

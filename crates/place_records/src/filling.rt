@@ -5,11 +5,11 @@ ghost use Rattle.std.specs.List.{AllByRecursion};
 ghost use Rattle.mine_model.specs.declared.item.Item.{Item};
 ghost use Rattle.walk_places.specs.declared.places.Record.{Record};
 ghost use Rattle.sequence_grids.specs.Kinds.{Extends};
-ghost use Rattle.sequence_grids.specs.Places.{IsTableOf, ArePlaces};
+ghost use Rattle.sequence_grids.specs.Places.{IsTableOf, AreKept, ArePlaces};
 ghost use Rattle.place_records.specs.Records.{goes_with};
 ghost use Rattle.place_records.specs.Numbers.{TwinsGrow};
 ghost use Rattle.place_records.specs.Twins.{dead_twin};
-ghost use Rattle.place_records.specs.Filled.{IsRecordBy, AreHere, AreKnown, AreKept, AreFilled, wall_record};
+ghost use Rattle.place_records.specs.Filled.{IsRecordBy, AreHere, AreKnown, AreFilled, wall_record};
 
 use super::twins::Twins;
 use mine_model::{Item, NoMemory};

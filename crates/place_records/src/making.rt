@@ -5,11 +5,12 @@ ghost use Rattle.std.specs.List.{AllByRecursion};
 ghost use Rattle.mining_job.specs.declared.bound.Bound.{Bound as Bounded};
 ghost use Rattle.mining_job.specs.Problems.{Problem};
 ghost use Rattle.sequence_grids.specs.Columns.{AreColumns};
+ghost use Rattle.sequence_grids.specs.Places.{AreKept};
 ghost use Rattle.walk_memo.specs.Moves.{move_sets};
 ghost use Rattle.place_records.specs.Records.{goes_with as goes_by, AreRecords};
 ghost use Rattle.place_records.specs.Ranks.{CanAskOf, ranks_of};
 ghost use Rattle.place_records.specs.Twins.{dead_twin, move_in, twin_sets};
-ghost use Rattle.place_records.specs.Filled.{AreKept, AreMade};
+ghost use Rattle.place_records.specs.Filled.{AreMade};
 
 use super::filling::fill;
 use super::moves::moves_of;
@@ -19,14 +20,14 @@ use super::twin::Twin;
 use super::twins::{Twins, twins_over};
 use mine_model::NoMemory;
 use mining_job::{Bound, Job};
-use sequence_grids::{Grids, Kinds, Place, Tables};
+use sequence_grids::{KeptGrids, Kinds, Place, Tables};
 use std::alloc::Global;
 use walk_memo::Move;
 use walk_places::Places;
 
 /// The records of a part, made of its grids. It also wants memory where the part has more than 2^32 - 1
 /// places, or its places do more than 2^32 - 1 different things.
-pub fn records<const W: usize>(alloc: Global, grids: Grids<'_>) -> Result<Records<W>, NoMemory>
+pub fn records<const W: usize>(alloc: Global, grids: KeptGrids<'_>) -> Result<Records<W>, NoMemory>
     requires width { W ≤ 17 }
     requires room { length grids.problem.transducer.labels < 64 * W }
     requires within { AllByRecursion (λ i. i < length grids.problem.sequences) grids.sequences }

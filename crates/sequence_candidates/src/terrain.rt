@@ -114,7 +114,7 @@ fn terrain_over<const W: usize>(
     requires rows { AreSuccessors W grids.problem.transducer rows.items }
     ensures { IfOk result (IsTerrain grids.entry) }
 {
-    let records = records(alloc, grids)?;
+    let records = records(alloc, grids.keep())?;
     let early = memo_of(alloc, rows.as_slice(), records.moves(false))?;
     let late = memo_of(alloc, rows.as_slice(), records.moves(true))?;
     Ok(Terrain {

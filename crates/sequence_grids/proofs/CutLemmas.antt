@@ -1,8 +1,9 @@
 -- What items may do under a bound, cut from what they may do under that of all ranks.
-use Rattle.std.proofs.Common.{◌≡◌, ℕ, ◌+◌, ◌-◌, ◌<◌, ◌≤◌, ◌↔◌, inl, inr, List, [], ◌∷◌, ◌++◌, take, length, get_or, arith, sym, ap, ◌∙◌, subst, append_assoc}
+use Rattle.std.proofs.Common.{◌≡◌, ℕ, ◌+◌, ◌-◌, ◌<◌, ◌≤◌, ◌↔◌, inl, inr, Some, List, [], ◌∷◌, ◌++◌, take, length, get_or, set, get_or-set_same, get_or-set_other, arith, sym, ap, ◌∙◌, subst, append_assoc}
 use Rattle.std.specs.List.{AllPairs, Contains, slice_get, slice_index}
-use Rattle.std.proofs.lemmas.List.{append-nil, length-take, get_or-take, get_or_default, take_more}
-use Rattle.std.proofs.lemmas.Option.{slice_get_within, same_Some}
+use Rattle.std.proofs.Math.ListN.{length-set}
+use Rattle.std.proofs.lemmas.List.{append-nil, length-append, length-take, get_or-take, get_or_default, take_more}
+use Rattle.std.proofs.lemmas.Option.{slice_get_within, slice_get-get_or, same_Some}
 use Rattle.std.proofs.lemmas.Bool.{cases_lt, cases_eq}
 use Rattle.state_bits.specs.Members.{Has}
 use Rattle.mine_model.specs.declared.item.Item.{Item}
@@ -11,9 +12,13 @@ use Rattle.mining_job.specs.Problems.{Problem}
 use Rattle.sequence_grids.specs.declared.kinds.Kind.{Kind}
 use Rattle.sequence_grids.specs.declared.kinds.Kinds.{Kinds}
 use Rattle.sequence_grids.specs.Grids.{Reads, WritesRank}
-use Rattle.sequence_grids.specs.Tables.{ClassSets}
-use Rattle.sequence_grids.specs.Kinds.{Writes, Needs, IsTarget, HasKind, row_at}
+use Rattle.mine_model.proofs.ElementLemmas.{get-left, stands_last}
+use Rattle.sequence_grids.specs.declared.alphabet.Alphabet.{Alphabet}
+use Rattle.sequence_grids.specs.Tables.{ClassSets, unknown}
+use Rattle.sequence_grids.specs.Kinds.{Writes, Needs, IsTarget, IsKind, HasKind, KindsGrow, Extends, row_at}
 use Rattle.sequence_grids.specs.Wholes.{whole_bound, AreOutputs}
+use Rattle.sequence_grids.specs.Cuts.{IsReadable, AreReadable, AreCuts}
+use Rattle.sequence_grids.proofs.KindLemmas.{IsInside-grow, HasKind-grow}
 use Rattle.sequence_grids.proofs.GridLemmas.{both_ways}
 
 -- ---- the beginning of a list of ranks that rise
@@ -178,3 +183,75 @@ module _ (problem : Problem) (classes : List ClassSets) (all : Kinds) (t u : Ite
           };
     },
   )
+
+-- ---- kinds that may be read
+
+module _ (problem : Problem) (bound : Bound) (t : Item) where
+  IsReadable-grow : (kinds kinds' : Kinds) (kind : Kind) → IsReadable kinds kind → KindsGrow kinds kinds' → IsReadable kinds' kind
+  IsReadable-grow kinds kinds' kind is grow =
+      let (more, e) = grow.ends in
+      let (others, f) = grow.ranks in
+      let room = is.room in
+      record {
+        room = rw (grow.columns, e) (omega (arith, room, length-append kinds.ends.items more));
+        rows = rw (grow.columns, e, f) (λ column below. IsInside-grow problem bound t kind.base kinds.ends.items more kinds.ranks.items others column (is.rows column below));
+      }
+
+  -- the same kinds, where more outputs stand behind
+  pub AreReadable-same : (kinds kinds' : Kinds) → AreReadable problem kinds → KindsGrow kinds kinds' → kinds'.kinds.items ≡ kinds.kinds.items → AreReadable problem kinds'
+  AreReadable-same kinds kinds' are grow same = record {
+    columns_are = rw grow.columns are.columns_are;
+    each = λ number kind found. IsReadable-grow kinds kinds' kind (are.each number kind (sym (ap (λ (ks : List Kind). slice_get ks number) same) ∙ found)) grow;
+  }
+
+  -- and one more kind
+  pub AreReadable-more : (kinds kinds' : Kinds) (classes : List ClassSets) (one : Kind) → AreReadable problem kinds → KindsGrow kinds kinds' → kinds'.kinds.items ≡ kinds.kinds.items ++ one ∷ []
+      → IsKind problem bound classes kinds'.columns kinds'.ends.items kinds'.ranks.items t one → AreReadable problem kinds'
+  AreReadable-more kinds kinds' classes one are grow pushed is = record {
+    columns_are = rw grow.columns are.columns_are;
+    each = λ number kind found.
+        let there : slice_get (kinds.kinds.items ++ one ∷ []) number ≡ Some kind = sym (ap (λ (ks : List Kind). slice_get ks number) pushed) ∙ found in
+        let inside : number < length (kinds.kinds.items ++ one ∷ []) = slice_get_within (kinds.kinds.items ++ one ∷ []) number kind there in
+        elim (cases_lt number (length kinds.kinds.items)) [
+          | inl old ↦ IsReadable-grow kinds kinds' kind (are.each number kind (slice_get_before kinds.kinds.items one number kind old there)) grow
+          | inr beyond ↦
+              let last : number ≡ length kinds.kinds.items = omega (arith, inside, length-append kinds.kinds.items (one ∷ []), beyond) in
+              let same : one ≡ kind = same_Some one kind (sym (stands_last kinds.kinds.items one number last) ∙ there) in
+              rw (sym same) (record { room = is.room; rows = is.rows })
+        ];
+  }
+    where
+      slice_get_before : (kinds : List Kind) (one : Kind) (number : ℕ) (kind : Kind) → number < length kinds → slice_get (kinds ++ one ∷ []) number ≡ Some kind → slice_get kinds number ≡ Some kind
+      slice_get_before kinds one number kind old there =
+          let at : slice_get kinds number ≡ Some (get_or kinds number kind) = slice_get-get_or kinds number kind old in
+          let moved : slice_get (kinds ++ one ∷ []) number ≡ Some (get_or kinds number kind) = get-left kinds (one ∷ []) number (get_or kinds number kind) at in
+          at ∙ sym moved ∙ there
+
+-- ---- kinds that were cut
+
+pub AreCuts-grow : (problem : Problem) (bound : Bound) (classes classes' : List ClassSets) (kinds kinds' : Kinds) (all : Alphabet) (cuts : List ℕ) → AreCuts problem bound classes kinds all cuts
+    → AreReadable problem kinds' → Extends classes classes' → KindsGrow kinds kinds' → AreCuts problem bound classes' kinds' all cuts
+AreCuts-grow problem bound classes classes' kinds kinds' all cuts are readable grown grow = record {
+  readable = readable;
+  right = λ whole inside some t has. HasKind-grow problem bound classes classes' kinds kinds' t (slice_index cuts whole) (are.right whole inside some t has) grown grow;
+}
+
+pub AreCuts-none : (problem : Problem) (bound : Bound) (classes : List ClassSets) (kinds : Kinds) (all : Alphabet) (cuts : List ℕ) → AreReadable problem kinds
+    → ((k : ℕ) → k < length cuts → slice_index cuts k ≡ unknown) → AreCuts problem bound classes kinds all cuts
+AreCuts-none problem bound classes kinds all cuts readable none = record { readable = readable; right = λ whole inside some. absurd (some (none whole inside)) }
+
+-- the kind of an item is that of all items that have its kind in the alphabet
+pub AreCuts-set : (problem : Problem) (bound : Bound) (classes : List ClassSets) (kinds : Kinds) (all : Alphabet) (cuts : List ℕ) (whole number : ℕ) (t : Item)
+    → AreCuts problem bound classes kinds all cuts → whole < length cuts → HasKind problem (whole_bound problem) all.tables.classes all.kinds t whole → HasKind problem bound classes kinds t number
+    → AreCuts problem bound classes kinds all (set cuts whole number)
+AreCuts-set problem bound classes kinds all cuts whole number t are inside has own = record {
+  readable = are.readable;
+  right = λ k below some u has_u. elim (cases_eq k whole) [
+    | inl same ↦
+        let at : get_or (set cuts whole number) k 0 ≡ number = ap (λ (n : ℕ). get_or (set cuts whole number) n 0) same ∙ get_or-set_same cuts whole number 0 inside in
+        rw at (HasKind-twin problem all.tables.classes all.kinds u t whole (subst (HasKind problem (whole_bound problem) all.tables.classes all.kinds u) same has_u) has bound classes kinds number own)
+    | inr other ↦
+        let at : get_or (set cuts whole number) k 0 ≡ get_or cuts k 0 = get_or-set_other cuts whole k number 0 other in
+        rw at (are.right k (omega (arith, below, length-set {A = ℕ})) (λ none. some (at ∙ none)) u has_u)
+  ];
+}

@@ -20,7 +20,7 @@ use Rattle.sequence_grids.specs.Grids.{IsAllowed, HoldsNeeded, Completes, Contin
 use Rattle.sequence_grids.specs.Columns.{AreColumns}
 use Rattle.sequence_grids.specs.Tables.{TripleSets, TableValue, Grows, completing, continuing}
 use Rattle.sequence_grids.specs.Kinds.{IsTarget, HasKind, HasCell, AreKinds, KindsGrow, Extends}
-use Rattle.sequence_grids.specs.Places.{IsTripleOf, IsTableOf, IsPlaceAt, ArePlaces, AreGrids}
+use Rattle.sequence_grids.specs.Places.{IsTripleOf, IsTableOf, IsPlaceAt, ArePlaces, AreKept, AreGrids}
 use Rattle.sequence_grids.proofs.PlaceLemmas.{IsTableOf-grow, ArePlaces-grow}
 
 -- the items of a sequence are items of the hierarchy
@@ -32,26 +32,25 @@ items_within problem whole i inside =
     (Contains-get_or problem.sequences i none inside) in
     λ k d within. AllByRecursion-contained (λ t. t.0 < problem.hierarchy.items) (items_of problem i) (get_or (items_of problem i) k d) all (Contains-get_or (items_of problem i) k d within)
 
-pub AreGrids-none : (problem : Problem) (bound : Bound) (table : TableValue) (kinds : Kinds) → IsTableOf problem table → AreKinds problem bound table.classes kinds
-    → AreGrids problem bound table kinds [] [] []
-AreGrids-none problem bound table kinds is are = record { table_is = is; kinds_are = are; long = refl; grids = λ index none. absurd (omega arith) }
+pub AreKept-none : (problem : Problem) (bound : Bound) (table : TableValue) (kinds : Kinds) → IsTableOf problem table
+    → AreColumns problem.transducer.labels kinds.columns.numbers.items kinds.columns.heads.items → AreKept problem bound table kinds [] [] []
+AreKept-none problem bound table kinds is are = record { table_is = is; columns_are = are; long = refl; grids = λ index none. absurd (omega arith) }
 
-pub AreGrids-grow : (problem : Problem) (bound : Bound) (table table' : TableValue) (kinds kinds' : Kinds) (places places' : List Place) (ends sequences : List ℕ)
-    → AreGrids problem bound table kinds places ends sequences → Grows table table' → KindsGrow kinds kinds' → Extends places places' → AreKinds problem bound table'.classes kinds'
-    → AreGrids problem bound table' kinds' places' ends sequences
-AreGrids-grow problem bound table table' kinds kinds' places places' ends sequences are grows grow extends kinds_are = record {
+pub AreKept-grow : (problem : Problem) (bound : Bound) (table table' : TableValue) (kinds kinds' : Kinds) (places places' : List Place) (ends sequences : List ℕ)
+    → AreKept problem bound table kinds places ends sequences → Grows table table' → KindsGrow kinds kinds' → Extends places places' → AreKept problem bound table' kinds' places' ends sequences
+AreKept-grow problem bound table table' kinds kinds' places places' ends sequences are grows grow extends = record {
   table_is = IsTableOf-grow problem table table' are.table_is grows;
-  kinds_are = kinds_are;
+  columns_are = rw grow.columns are.columns_are;
   long = are.long;
   grids = λ index inside. ArePlaces-grow problem bound table table' kinds kinds' places places' (slice_index ends index) (items_of problem (slice_index sequences index)) (are.grids index inside) grows grow extends;
 }
 
-pub AreGrids-more : (problem : Problem) (bound : Bound) (table : TableValue) (kinds : Kinds) (places : List Place) (ends sequences : List ℕ) (seq end : ℕ)
-    → AreGrids problem bound table kinds places ends sequences → ArePlaces problem bound table kinds places end (items_of problem seq)
-    → AreGrids problem bound table kinds places (ends ++ end ∷ []) (sequences ++ seq ∷ [])
-AreGrids-more problem bound table kinds places ends sequences seq end are one = record {
+pub AreKept-more : (problem : Problem) (bound : Bound) (table : TableValue) (kinds : Kinds) (places : List Place) (ends sequences : List ℕ) (seq end : ℕ)
+    → AreKept problem bound table kinds places ends sequences → ArePlaces problem bound table kinds places end (items_of problem seq)
+    → AreKept problem bound table kinds places (ends ++ end ∷ []) (sequences ++ seq ∷ [])
+AreKept-more problem bound table kinds places ends sequences seq end are one = record {
   table_is = are.table_is;
-  kinds_are = are.kinds_are;
+  columns_are = are.columns_are;
   long = let long = are.long in omega (arith, length-append ends (end ∷ []), length-append sequences (seq ∷ []));
   grids = λ index inside. elim (cases_eq index (length sequences)) [
     | inl last ↦
@@ -70,10 +69,28 @@ AreGrids-more problem bound table kinds places ends sequences seq end are one = 
   ];
 }
 
+-- the same of grids to which more are added
+
+pub AreGrids-none : (problem : Problem) (bound : Bound) (table : TableValue) (kinds : Kinds) → IsTableOf problem table → AreKinds problem bound table.classes kinds
+    → AreGrids problem bound table kinds [] [] []
+AreGrids-none problem bound table kinds is are = record { kept = AreKept-none problem bound table kinds is are.columns_are; kinds_are = are }
+
+pub AreGrids-grow : (problem : Problem) (bound : Bound) (table table' : TableValue) (kinds kinds' : Kinds) (places places' : List Place) (ends sequences : List ℕ)
+    → AreGrids problem bound table kinds places ends sequences → Grows table table' → KindsGrow kinds kinds' → Extends places places' → AreKinds problem bound table'.classes kinds'
+    → AreGrids problem bound table' kinds' places' ends sequences
+AreGrids-grow problem bound table table' kinds kinds' places places' ends sequences are grows grow extends kinds_are =
+    record { kept = AreKept-grow problem bound table table' kinds kinds' places places' ends sequences are.kept grows grow extends; kinds_are = kinds_are }
+
+pub AreGrids-more : (problem : Problem) (bound : Bound) (table : TableValue) (kinds : Kinds) (places : List Place) (ends sequences : List ℕ) (seq end : ℕ)
+    → AreGrids problem bound table kinds places ends sequences → ArePlaces problem bound table kinds places end (items_of problem seq)
+    → AreGrids problem bound table kinds places (ends ++ end ∷ []) (sequences ++ seq ∷ [])
+AreGrids-more problem bound table kinds places ends sequences seq end are one =
+    record { kept = AreKept-more problem bound table kinds places ends sequences seq end are.kept one; kinds_are = are.kinds_are }
+
 -- ---- one place of one grid
 
 module _ (value : GridList) (problem : Problem) (bound : Bound) (table : TableValue) (kinds : Kinds) (places : List Place) (ends sequences : List ℕ)
-    (view : record { problem = problem; bound = bound; sequences = sequences } ≡ value) (are : AreGrids problem bound table kinds places ends sequences) (grid pos : ℕ)
+    (view : record { problem = problem; bound = bound; sequences = sequences } ≡ value) (are : AreKept problem bound table kinds places ends sequences) (grid pos : ℕ)
     (in_grid : grid < length value.sequences) (in_pos : pos ≤ length (items_at value grid)) where
   in_sequences : grid < length sequences
   in_sequences = subst (λ (v : GridList). grid < length v.sequences) (sym view) in_grid
@@ -101,7 +118,7 @@ module _ (value : GridList) (problem : Problem) (bound : Bound) (table : TableVa
   states_are = subst (λ (v : GridList). length table.predecessors ≡ length v.problem.transducer.labels + 1) view are.table_is.states
 
   pub columns_of : AreColumns value.problem.transducer.labels kinds.columns.numbers.items kinds.columns.heads.items
-  columns_of = subst (λ (v : GridList). AreColumns v.problem.transducer.labels kinds.columns.numbers.items kinds.columns.heads.items) view are.kinds_are.columns_are
+  columns_of = subst (λ (v : GridList). AreColumns v.problem.transducer.labels kinds.columns.numbers.items kinds.columns.heads.items) view are.columns_are
 
 pub both_ways : {A B C : Type 0} → A ↔ B → B ↔ C → A ↔ C
 both_ways first second = ((λ a. second.0 (first.0 a)), (λ c. first.1 (second.1 c)))

@@ -35,7 +35,7 @@ use Rattle.mining_job.specs.Problems.{Problem, IsWhole}
 use Rattle.sequence_grids.specs.Columns.{AreColumns}
 use Rattle.sequence_grids.specs.Grids.{Reads, WritesRank}
 use Rattle.sequence_grids.specs.Tables.{ClassSets, IsClassOf, LeadsInto, unknown}
-use Rattle.sequence_grids.specs.Kinds.{IsNeededRank, Writes, Goes, Needs, IsTarget, IsClassFor, IsCell, IsRow, AreActs, IsAct, AreEntered, Extends, IsKind, HasKind, IsMet, AreKinds, KindsGrow, IsInside, row_at}
+use Rattle.sequence_grids.specs.Kinds.{IsNeededRank, Writes, Goes, Needs, IsTarget, IsClassFor, IsCell, IsRow, AreActs, IsAct, AreEntered, Extends, IsKind, HasKind, IsMet, AreKinds, KindsGrow, IsInside, AreRows, row_at}
 
 -- ---- ranks
 
@@ -547,19 +547,20 @@ KindsGrow-twice a b c first second = record {
 -- ---- kinds that are alike
 
 -- a kind of the same class with the same outputs serves as well
-pub IsKind-alike : (problem : Problem) (bound : Bound) (classes : List ClassSets) (columns : Columns) (ends ranks : List ℕ) (t u : Item) (kind met : Kind)
+pub IsKind-alike : (problem : Problem) (bound : Bound) (classes : List ClassSets) (columns : Columns) (ends ranks : List ℕ) (t : Item) (kind met : Kind)
     → AreColumns problem.transducer.labels columns.numbers.items columns.heads.items
-    → IsKind problem bound classes columns ends ranks t kind → IsKind problem bound classes columns ends ranks u met → met.class ≡ kind.class
+    → IsKind problem bound classes columns ends ranks t kind → met.base + length columns.heads.items < length ends → AreRows ends ranks met.base (length columns.heads.items) → met.class ≡ kind.class
     → ((column : ℕ) → column < length columns.heads.items → row_at ends ranks kind.base column ≡ row_at ends ranks met.base column) → IsKind problem bound classes columns ends ranks t met
-IsKind-alike problem bound classes columns ends ranks t u kind met are is other class same = record {
+IsKind-alike problem bound classes columns ends ranks t kind met are is room rows class same = record {
   class = let (c, found, right) = is.class in (c, ap (slice_get classes) class ∙ found, right);
-  room = other.room;
-  rows = other.rows;
+  room = room;
+  rows = rows;
   cells = λ k target.
       let column : ℕ = slice_index columns.numbers.items k in
-      let row : row_at ends ranks kind.base column ≡ row_at ends ranks met.base column = same column (are.numbers_are k target.0 target.1).0 in
+      let below = (are.numbers_are k target.0 target.1).0 in
+      let row : row_at ends ranks kind.base column ≡ row_at ends ranks met.base column = same column below in
       record {
-        inside = (other.cells k target).inside;
+        inside = rows column below;
         outputs = λ rank. subst (λ (xs : List ℕ). Contains xs rank ↔ WritesRank problem bound t k rank) row ((is.cells k target).outputs rank);
         rising = subst (λ (xs : List ℕ). AllPairs (λ low high. low < high) xs) row (is.cells k target).rising;
       };

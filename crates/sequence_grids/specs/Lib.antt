@@ -10,3 +10,4 @@ pub mod Columns
 pub mod Kinds
 pub mod Places
 pub mod Wholes
+pub mod Cuts

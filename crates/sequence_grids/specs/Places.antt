@@ -7,6 +7,7 @@ use Rattle.mining_job.specs.declared.bound.Bound.{Bound}
 use Rattle.sequence_grids.specs.declared.kinds.Kinds.{Kinds}
 use Rattle.sequence_grids.specs.declared.places.Place.{Place}
 use Rattle.mining_job.specs.Problems.{Problem, items_of}
+use Rattle.sequence_grids.specs.Columns.{AreColumns}
 use Rattle.sequence_grids.specs.Grids.{Completes, Continues, Ends}
 use Rattle.sequence_grids.specs.Tables.{TripleSets, TableValue, Precedes, IsLast}
 use Rattle.sequence_grids.specs.Kinds.{HasKind, AreMet, AreKinds}
@@ -60,16 +61,24 @@ pub record AreFilled (problem : Problem) (bound : Bound) (table : TableValue) (k
       → (place : Place) × (slice_get places (from + length items - p) ≡ Some place)
       × IsPlaceAt problem bound table kinds items p place
 
--- the places before each end are those of the sequence with the number
-pub record AreGrids (problem : Problem) (bound : Bound) (table : TableValue) (kinds : Kinds)
+-- the places before each end are those of the sequence with the number, and the kinds have the columns of the
+-- transducer
+pub record AreKept (problem : Problem) (bound : Bound) (table : TableValue) (kinds : Kinds)
     (places : List Place)
     (ends sequences : List ℕ) : Type 0 where
   pub table_is : IsTableOf problem table
-  pub kinds_are : AreKinds problem bound table.classes kinds
+  pub columns_are : AreColumns problem.transducer.labels kinds.columns.numbers.items kinds.columns.heads.items
   pub long : length ends ≡ length sequences
   pub grids : (index : ℕ) → index < length sequences
       → ArePlaces problem bound table kinds places (slice_index ends index)
       (items_of problem (slice_index sequences index))
+
+-- the same, where the kinds of the items that were met are known
+pub record AreGrids (problem : Problem) (bound : Bound) (table : TableValue) (kinds : Kinds)
+    (places : List Place)
+    (ends sequences : List ℕ) : Type 0 where
+  pub kept : AreKept problem bound table kinds places ends sequences
+  pub kinds_are : AreKinds problem bound table.classes kinds
 
 -- the table has classes for the kinds, and all items of the first so many sequences have one
 pub record IsAlphabetTo (problem : Problem) (bound : Bound) (table : TableValue) (kinds : Kinds) (count : ℕ)

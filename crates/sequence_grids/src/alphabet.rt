@@ -1,6 +1,6 @@
 //! The kinds of at least all items that occur.
 
-ghost use Rattle.std.specs.Prelude.{◌≡◌, ◌≤◌, ◌<◌, length, All, IfOk, IfSome, OnOk};
+ghost use Rattle.std.specs.Prelude.{◌≡◌, ◌≤◌, ◌<◌, length, All, IfOk, OnOk};
 ghost use Rattle.std.specs.List.{AllByRecursion};
 ghost use Rattle.mine_model.specs.declared.item.Item.{Item};
 ghost use Rattle.sequence_grids.specs.Tables.{Grows};
@@ -8,8 +8,7 @@ ghost use Rattle.sequence_grids.specs.Kinds.{AreKinds, KindsGrow, IsMet, AreMet}
 ghost use Rattle.sequence_grids.specs.Places.{IsTableOf, IsAlphabetTo, IsAlphabet};
 ghost use Rattle.sequence_grids.specs.Wholes.{whole_bound, IsWholeAlphabet};
 
-use super::cuts::meet;
-use super::kinds::{Kinds, Scratch};
+use super::kinds::{Kinds, Scratch, kind_of};
 use super::tables::Tables;
 use mine_model::{Item, NoMemory};
 use mining_job::{Bound, Job};
@@ -71,7 +70,6 @@ pub fn meet_items_of(
             &mut all.tables,
             &mut all.kinds,
             &mut scratch,
-            None,
             items,
         )?;
     }
@@ -129,7 +127,6 @@ fn meet_sequences(
             &mut all.tables,
             &mut all.kinds,
             &mut scratch,
-            None,
             items,
         )?;
     }
@@ -150,28 +147,24 @@ fn meet_items(alloc: Global, job: &Job, bound: Bound, all: &mut Alphabet) -> Res
             &mut all.tables,
             &mut all.kinds,
             &mut scratch,
-            None,
             &t,
         )?;
     }
     Ok(())
 }
 
-/// Finds the kinds of those of the items that were not yet met, and cuts them from those of the alphabet,
-/// where there is one.
+/// Finds the kinds of those of the items that were not yet met.
 pub(crate) fn meet_all(
     job: &Job,
     bound: Bound,
     tables: &mut Tables,
     kinds: &mut Kinds,
     scratch: &mut Scratch,
-    alphabet: Option<&Alphabet>,
     items: &[Item],
 ) -> Result<(), NoMemory>
     requires table { IsTableOf job.now tables.old }
     requires kinds { AreKinds job.now bound tables.old.classes kinds.old }
     requires items { All (λ t. t.0 < job.now.hierarchy.items) items.now }
-    requires alphabet { IfSome alphabet (λ all. IsWholeAlphabet job.now all.now) }
     ensures table { IsTableOf job.now tables.new }
     ensures kinds { AreKinds job.now bound tables.new.classes kinds.new }
     ensures tables_grow { Grows tables.old tables.new }
@@ -180,7 +173,7 @@ pub(crate) fn meet_all(
     ensures met { OnOk result (AreMet kinds.new items.now) }
 {
     for t in items {
-        meet(job, bound, tables, kinds, scratch, alphabet, *t)?;
+        kind_of(job, bound, tables, kinds, scratch, *t)?;
     }
     Ok(())
 }

@@ -2,12 +2,10 @@ ghost use Rattle.std.specs.Prelude.{◌≡◌, ◌≢◌, AllPairs, ℕ, ◌+◌
 ghost use Rattle.mine_model.specs.declared.item.Item.{Item};
 ghost use Rattle.state_bits.specs.Members.{HasBit};
 ghost use Rattle.sequence_grids.specs.Grids.{Completes, Ends, Reads, WritesRank, items_at, rest_at};
-ghost use Rattle.sequence_grids.specs.Places.{AreGrids};
 ghost use Rattle.sequence_grids.specs.Readings.{IsReading};
-ghost use Rattle.sequence_grids.specs.Wholes.{IsWholeAlphabet};
 
-use super::alphabet::Alphabet;
 use super::grid_parts::GridParts;
+use super::kept_grids::KeptGrids;
 use super::kinds::{Kinds, Scratch, ends_from, outputs_of};
 use super::places::{Place, push_places};
 use super::reading::Reading;
@@ -90,26 +88,6 @@ impl<'a> Grids<'a> {
         ensures ok { OnOk result (self.new ≡ record self.old { sequences = self.old.sequences ++ seq ∷ [] }) }
         ensures err { OnErr result (self.new ≡ self.old) }
     {
-        self.push_with(None, seq)
-    }
-
-    /// The same, where what an item may do is cut from what it may do under the bound of all ranks.
-    pub fn push_by(&mut self, alphabet: &Alphabet, seq: u32) -> Result<(), NoMemory>
-        requires seq { seq < length self.old.problem.sequences }
-        requires alphabet { IsWholeAlphabet self.old.problem alphabet.now }
-        ensures ok { OnOk result (self.new ≡ record self.old { sequences = self.old.sequences ++ seq ∷ [] }) }
-        ensures err { OnErr result (self.new ≡ self.old) }
-    {
-        self.push_with(Some(alphabet), seq)
-    }
-
-    // The same, with an alphabet or without one.
-    fn push_with(&mut self, alphabet: Option<&Alphabet>, seq: u32) -> Result<(), NoMemory>
-        requires seq { seq < length self.old.problem.sequences }
-        requires alphabet { IfSome alphabet (λ all. IsWholeAlphabet self.old.problem all.now) }
-        ensures ok { OnOk result (self.new ≡ record self.old { sequences = self.old.sequences ++ seq ∷ [] }) }
-        ensures err { OnErr result (self.new ≡ self.old) }
-    {
         self.sequences.reserve(1)?;
         self.ends.reserve(1)?;
         let items = self.job.db().sequence(seq);
@@ -119,7 +97,6 @@ impl<'a> Grids<'a> {
             &mut self.tables,
             &mut self.kinds,
             &mut self.scratch,
-            alphabet,
             &mut self.places,
             items,
         )?;
@@ -137,13 +114,9 @@ impl<'a> Grids<'a> {
         self.sequences.clear();
     }
 
-    /// What the grids are made of. Takes no memory.
-    pub fn into_parts(self) -> GridParts<'a>
-        ensures job { result.job.now ≡ self.entry.problem }
-        ensures bound { result.bound ≡ self.entry.bound }
-        ensures sequences { result.sequences.items ≡ self.entry.sequences }
-        ensures grids { AreGrids self.entry.problem self.entry.bound result.tables result.kinds
-            result.places.items result.ends.items self.entry.sequences }
+    /// The same, where no grid more is to be made. Takes no memory.
+    pub fn keep(self) -> KeptGrids<'a>
+        ensures { result ≡ self.entry }
     {
         let Grids {
             job,
@@ -155,7 +128,7 @@ impl<'a> Grids<'a> {
             ends,
             sequences,
         } = self;
-        GridParts {
+        KeptGrids::of(GridParts {
             job,
             bound,
             tables,
@@ -163,7 +136,7 @@ impl<'a> Grids<'a> {
             places,
             ends,
             sequences,
-        }
+        })
     }
 
     /// The numbers of the sequences, in the order of their grids. Takes no memory.
@@ -263,8 +236,8 @@ impl<'a> Grids<'a> {
     }
 }
 
-// The place at a position of a grid.
-fn place_of(places: &[Place], ends: &[usize], grid: u32, pos: u32) -> Place
+/// The place at a position of a grid.
+pub(crate) fn place_of(places: &[Place], ends: &[usize], grid: u32, pos: u32) -> Place
     requires grid { grid < length ends.now }
     requires before { pos < slice_index ends.now grid }
     requires within { slice_index ends.now grid - 1 - pos < length places.now }

@@ -10,6 +10,7 @@ ghost use Rattle.sequence_grids.specs.Columns.{AreColumns, AreHeads};
 ghost use Rattle.sequence_grids.specs.Kinds.{IsTarget, IsNeededRank, IsRow, AreActs, AreEntered, Extends, HasKind, HasCell, IsMet, AreKinds, KindsGrow, IsKind, AreRows, IsInside, row_at};
 ghost use Rattle.sequence_grids.specs.declared.kinds.Kind.{Kind};
 ghost use Rattle.sequence_grids.specs.Wholes.{IsWholeAlphabet};
+ghost use Rattle.sequence_grids.specs.Cuts.{AreReadable};
 
 use super::alphabet::Alphabet;
 use super::columns::Columns;
@@ -38,7 +39,8 @@ pub struct Kinds {
     pub kinds: Vec<Kind>,
     pub ends: Vec<u32>,
     pub ranks: Vec<u32>,
-    // By a hash of its outputs an item that may have the same ones: no more than a hint.
+    // By a hash of its outputs what leads to a kind that may have the same ones: its number, or that of an item
+    // which has it. It is no more than a hint.
     pub hints: Vec<u32>,
 }
 
@@ -74,8 +76,6 @@ pub struct Scratch {
     pub(crate) needs: Vec<u32>,
     written: Vec<Item>,
     found: Vec<u32>,
-    // By the number of a kind of an alphabet an item that has it there and was met: no more than a hint.
-    pub(crate) twins: Vec<u32>,
 }
 
 // Written out, so that it is let go of by a call, and not part by part wherever one is.
@@ -88,7 +88,6 @@ impl Drop for Scratch {
             needs: _,
             written: _,
             found: _,
-            twins: _,
         } = self;
     }
 }
@@ -103,7 +102,6 @@ impl Scratch {
             needs: Vec::new(alloc),
             written: Vec::new(alloc),
             found: Vec::new(alloc),
-            twins: Vec::new(alloc),
         }
     }
 }
@@ -115,6 +113,7 @@ impl Kinds {
             kinds.columns.numbers.items kinds.columns.heads.items) }
         ensures none { IfOk result (λ kinds. (length kinds.numbers.items ≡ items)
             × ((k : ℕ) → k < length kinds.numbers.items → slice_index kinds.numbers.items k ≡ unknown)) }
+        ensures no_kinds { IfOk result (λ kinds. kinds.kinds.items ≡ []) }
     {
         Ok(Kinds {
             columns: Columns::new(alloc, fst)?,
@@ -180,13 +179,11 @@ pub(crate) fn kind_of(
     tables: &mut Tables,
     kinds: &mut Kinds,
     scratch: &mut Scratch,
-    alphabet: Option<&Alphabet>,
     t: Item,
 ) -> Result<u32, NoMemory>
     requires item { t.0 < job.now.hierarchy.items }
     requires states { length tables.old.predecessors ≡ length job.now.transducer.labels + 1 }
     requires kinds { AreKinds job.now bound tables.old.classes kinds.old }
-    requires alphabet { IfSome alphabet (λ all. IsWholeAlphabet job.now all.now) }
     ensures tables { Grows tables.old tables.new }
     ensures grow { KindsGrow kinds.old kinds.new }
     ensures kinds { AreKinds job.now bound tables.new.classes kinds.new }
@@ -208,7 +205,7 @@ pub(crate) fn kind_of(
         &mut kinds.ends,
         &mut kinds.ranks,
         scratch,
-        alphabet,
+        None,
     )?;
     enter(job, bound, &kinds.columns, t, scratch)?;
     let class = tables.class_number(
@@ -222,9 +219,58 @@ pub(crate) fn kind_of(
         return Ok(number);
     }
     let number = next_number(kinds.kinds.len())?;
-    keep_hint(&mut kinds.hints, number, hint, t)?;
+    keep_hint(&mut kinds.hints, number, hint, t.0)?;
     kinds.kinds.push(Kind { class, base })?;
     kinds.numbers[t.0 as usize] = number;
+    Ok(number)
+}
+
+/// The number of a kind of an item, which is found out by the alphabet. Items that do the same share one where
+/// a hint leads to it.
+#[inline(never)]
+pub(crate) fn new_kind(
+    job: &Job,
+    bound: Bound,
+    tables: &mut Tables,
+    kinds: &mut Kinds,
+    scratch: &mut Scratch,
+    all: &Alphabet,
+    t: Item,
+) -> Result<u32, NoMemory>
+    requires item { t.0 < job.now.hierarchy.items }
+    requires states { length tables.old.predecessors ≡ length job.now.transducer.labels + 1 }
+    requires readable { AreReadable job.now kinds.old }
+    requires alphabet { IsWholeAlphabet job.now all.now }
+    ensures tables { Grows tables.old tables.new }
+    ensures grow { KindsGrow kinds.old kinds.new }
+    ensures readable { AreReadable job.now kinds.new }
+    ensures kind { IfOk result (λ number. HasKind job.now bound tables.new.classes kinds.new t number) }
+{
+    let base = kinds.ends.len();
+    let first = kinds.ranks.len();
+    push_outputs(
+        job,
+        bound,
+        &kinds.columns,
+        t,
+        &mut kinds.ends,
+        &mut kinds.ranks,
+        scratch,
+        Some(all),
+    )?;
+    enter(job, bound, &kinds.columns, t, scratch)?;
+    let class = tables.class_number(
+        scratch.silent.as_slice(),
+        scratch.writes.as_slice(),
+        scratch.needs.as_slice(),
+    )?;
+    let hint = hint_of(class, &kinds.ranks.as_slice()[first..], kinds.hints.len());
+    if let Some(number) = alike_kind(job, bound, tables, kinds, t, Kind { class, base }, hint) {
+        return Ok(number);
+    }
+    let number = next_number(kinds.kinds.len())?;
+    keep_hint(&mut kinds.hints, number, hint, number)?;
+    kinds.kinds.push(Kind { class, base })?;
     Ok(number)
 }
 
@@ -256,14 +302,14 @@ fn hint_of(class: u32, ranks: &[u32], hints: usize) -> usize {
     ((hash >> 16) % (hints as u64).max(1)) as usize
 }
 
-// Keeps the item, whose kind has the number, as a hint. Where hints become many, the few stand elsewhere than
+// Keeps what leads to the kind with the number as a hint. Where hints become many, the few stand elsewhere than
 // they are looked for, and are lost.
-fn keep_hint(hints: &mut Vec<u32>, number: u32, hint: usize, t: Item) -> Result<(), NoMemory> {
+fn keep_hint(hints: &mut Vec<u32>, number: u32, hint: usize, to: u32) -> Result<(), NoMemory> {
     if hints.len() < MANY_HINTS && number as usize >= FEW_HINTS {
         hints.resize(MANY_HINTS, NONE)?;
     }
     if hint < hints.len() {
-        hints[hint] = t.0;
+        hints[hint] = to;
     }
     Ok(())
 }
@@ -295,6 +341,47 @@ fn alike(
     }
     let number = kinds.numbers[other as usize];
     if number == NONE {
+        return None;
+    }
+    let columns = kinds.columns.heads.len();
+    let met = kinds.kinds[number as usize];
+    if met.class == kind.class
+        && same_outputs(
+            kinds.ends.as_slice(),
+            kinds.ranks.as_slice(),
+            met.base,
+            kind.base,
+            columns,
+        )
+    {
+        Some(number)
+    } else {
+        None
+    }
+}
+
+// The number of the kind that a hint names, where it has the class and the outputs of this one, which are
+// those of item t.
+fn alike_kind(
+    job: &Job,
+    bound: Bound,
+    tables: &Tables,
+    kinds: &Kinds,
+    t: Item,
+    kind: Kind,
+    hint: usize,
+) -> Option<u32>
+    requires readable { AreReadable job.now kinds.now }
+    requires kind { IsKind job.now bound tables.now.classes kinds.now.columns
+        kinds.now.ends.items kinds.now.ranks.items t kind }
+    ensures kind { IfSome result (HasKind job.now bound tables.now.classes kinds.now t) }
+{
+    let _job = job;
+    let _tables = tables;
+    let _bound = bound;
+    let _t = t;
+    let number = *kinds.hints.get(hint)?;
+    if number as usize >= kinds.kinds.len() {
         return None;
     }
     let columns = kinds.columns.heads.len();

@@ -7,9 +7,8 @@ ghost use Rattle.mining_job.specs.Problems.{IsWhole};
 ghost use Rattle.sequence_grids.specs.Tables.{Grows, AreSteps};
 ghost use Rattle.sequence_grids.specs.Kinds.{AreKinds, KindsGrow, HasKind, IsMet, AreMet, Extends};
 ghost use Rattle.sequence_grids.specs.Places.{HasTriple, IsTableOf, ArePlaces, AreFilled};
-ghost use Rattle.sequence_grids.specs.Wholes.{IsWholeAlphabet};
 
-use super::alphabet::{Alphabet, meet_all};
+use super::alphabet::meet_all;
 use super::kinds::{Kinds, Scratch};
 use super::number::NONE;
 use super::table::known_step;
@@ -24,22 +23,19 @@ pub struct Place {
     pub triple: u32,
 }
 
-/// The places of a sequence behind the others, from the last to the first. Kinds that are not yet known are
-/// cut from those of the alphabet, where there is one.
+/// The places of a sequence behind the others, from the last to the first.
 pub fn push_places(
     job: &Job,
     bound: Bound,
     tables: &mut Tables,
     kinds: &mut Kinds,
     scratch: &mut Scratch,
-    alphabet: Option<&Alphabet>,
     places: &mut Vec<Place>,
     items: &[Item],
 ) -> Result<(), NoMemory>
     requires table { IsTableOf job.now tables.old }
     requires kinds { AreKinds job.now bound tables.old.classes kinds.old }
     requires items { All (λ t. t.0 < job.now.hierarchy.items) items.now }
-    requires alphabet { IfSome alphabet (λ all. IsWholeAlphabet job.now all.now) }
     ensures table { IsTableOf job.now tables.new }
     ensures kinds { AreKinds job.now bound tables.new.classes kinds.new }
     ensures tables_grow { Grows tables.old tables.new }
@@ -48,7 +44,7 @@ pub fn push_places(
     ensures places { OnOk result (ArePlaces job.now bound tables.new kinds.new
         places.new.items (length places.new.items) items.now) }
 {
-    meet_all(job, bound, tables, kinds, scratch, alphabet, items)?;
+    meet_all(job, bound, tables, kinds, scratch, items)?;
     push_met(job, bound, tables, kinds, places, items)
 }
 

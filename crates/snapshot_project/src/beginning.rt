@@ -21,7 +21,7 @@ use fst_compile::State;
 use mine_model::NoMemory;
 use mining_job::{Bound, Job};
 use place_walk::{Stand, fits};
-use sequence_grids::{Alphabet, Grids};
+use sequence_grids::{Alphabet, KeptGrids};
 use stand_sums::Run;
 use std::alloc::Global;
 use std::sync::Arc;
@@ -164,21 +164,23 @@ fn grids_of<'a>(
     alphabet: &Alphabet,
     bound: Bound,
     sequences: &[u32],
-) -> Result<Grids<'a>, NoMemory>
+) -> Result<KeptGrids<'a>, NoMemory>
     requires within { AllByRecursion (λ i. i < length job.now.sequences) sequences.now }
     requires alphabet { IsWholeAlphabet job.now alphabet.now }
     ensures { IfOk result (λ grids. grids
         ≡ record { problem = job.now; bound = bound; sequences = sequences.now }) }
 {
-    let mut grids = Grids::new(alloc, job, bound)?;
-    for number in sequences {
-        grids.push_by(alphabet, *number)?;
-    }
-    Ok(grids)
+    KeptGrids::cut(
+        alloc,
+        job,
+        bound,
+        alphabet,
+        Vec::from_slice(alloc, sequences)?,
+    )
 }
 
 // The stands at the starts of those sequences that have a pattern within the bound.
-fn starts_of(alloc: Global, job: &Job, grids: &Grids) -> Result<Vec<Stand>, NoMemory>
+fn starts_of(alloc: Global, job: &Job, grids: &KeptGrids) -> Result<Vec<Stand>, NoMemory>
     requires problem { grids.now.problem ≡ job.now }
     requires within { AllByRecursion (λ i. i < length job.now.sequences) grids.now.sequences }
     requires few { length grids.now.sequences ≤ 2 ^ 32 }

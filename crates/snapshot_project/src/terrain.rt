@@ -8,7 +8,7 @@ ghost use Rattle.snapshot_project.specs.Terrains.{IsTerrain, IsTerrainOf, AreAll
 use mine_model::NoMemory;
 use mining_job::{Bound, Job};
 use place_records::{Records, records, records_of_all, records_of_all_alone};
-use sequence_grids::{Grids, Successors, successors_of};
+use sequence_grids::{KeptGrids, Successors, successors_of};
 use state_bits::StateSet;
 use std::alloc::Global;
 use std::thread::Threads;
@@ -50,7 +50,7 @@ impl AnyTerrain {
 }
 
 /// The terrain of these grids.
-pub(crate) fn terrain_of(alloc: Global, job: &Job, grids: Grids) -> Result<AnyTerrain, NoMemory>
+pub(crate) fn terrain_of(alloc: Global, job: &Job, grids: KeptGrids) -> Result<AnyTerrain, NoMemory>
     requires problem { grids.problem ≡ job.now }
     requires within { AllByRecursion (λ i. i < length job.now.sequences) grids.sequences }
     ensures { IfOk result (IsTerrainOf grids.entry) }
@@ -65,7 +65,7 @@ pub(crate) fn terrain_of(alloc: Global, job: &Job, grids: Grids) -> Result<AnyTe
 // The same in sets of one width.
 fn terrain_over<const W: usize>(
     alloc: Global,
-    grids: Grids,
+    grids: KeptGrids,
     rows: Vec<StateSet<W>>,
 ) -> Result<Terrain<W>, NoMemory>
     requires width { W ≤ 17 }

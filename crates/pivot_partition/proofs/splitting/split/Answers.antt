@@ -1,8 +1,7 @@
 use Rattle.std.proofs.Common.{◌+◌, ◌*◌, ◌/◌, ◌≤◌, length, ap, subst, sym, arith}
 use Rattle.mine_model.specs.Ranks.{Ranking}
 use Rattle.pivot_partition.specs.Pairs.{ArePairs, all_of}
-use Rattle.frequency_list.proofs.PieceLemmas.{pieces-reach}
-use Rattle.pivot_partition.proofs.PairLemmas.{pieces-all}
+use Rattle.pivot_partition.proofs.PairLemmas.{pieces-all, pieces-reach}
 use Rattle.pivot_partition.proofs.SeedLemmas.{no-seeds}
 use Rattle.pivot_partition.proofs.splitting.split.Goals as goal
 

@@ -5,7 +5,7 @@ use Rattle.sequence_grids.specs.Columns.{AreColumns}
 use Rattle.sequence_grids.specs.Grids.{GridList}
 use Rattle.place_records.specs.Records.{AreRecords}
 use Rattle.place_records.specs.Ranks.{ranks_of, CanAskOf}
-use Rattle.place_records.specs.Filled.{AreKept}
+use Rattle.sequence_grids.specs.Places.{AreKept}
 use Rattle.place_records.proofs.FillLemmas.{AreKept-of}
 use Rattle.place_records.proofs.making.records.Goals as goal
 
@@ -28,7 +28,7 @@ returns g c =
     let parts = c.into_parts-parts.result in
     let from = c.into_parts-parts.ensures in
     let columns : AreColumns c.into_parts-parts.result.job.now.transducer.labels c.without_numbers-kinds.result.columns.numbers.items c.without_numbers-kinds.result.columns.heads.items =
-    rw (from.job, c.without_numbers-kinds.ensures.columns) from.grids.kinds_are.columns_are in
+    rw (from.job, c.without_numbers-kinds.ensures.columns) from.grids.columns_are in
     let part : GridList = record { problem = c.into_parts-parts.result.job.now; bound = c.into_parts-parts.result.bound; sequences = c.as_slice-3.result.now } in
     let same : part ≡ c.args.grids = rw (from.job, from.bound, c.as_slice-3.ensures.value, from.sequences) refl in
     subst (λ (p : GridList). IfOk c.with_table.result (λ found. AreRecords p found.places found.early found.late (ranks_of found.table) (CanAskOf found.table))) same

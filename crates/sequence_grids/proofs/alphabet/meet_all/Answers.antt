@@ -9,11 +9,11 @@ use Rattle.sequence_grids.proofs.KindLemmas.{KindsGrow-nothing, KindsGrow-twice,
 use Rattle.sequence_grids.proofs.PlaceLemmas.{IsTableOf-grow}
 use Rattle.sequence_grids.proofs.alphabet.meet_all.Goals as goal
 
-pub meet-requires-clause-states : goal.meet-requires-clause-states
-meet-requires-clause-states c = c.loop-t.invariant.table.states
+pub kind_of-requires-clause-states : goal.kind_of-requires-clause-states
+kind_of-requires-clause-states c = c.loop-t.invariant.table.states
 
-pub meet-requires-clause-kinds : goal.meet-requires-clause-kinds
-meet-requires-clause-kinds c = c.loop-t.invariant.kinds
+pub kind_of-requires-clause-kinds : goal.kind_of-requires-clause-kinds
+kind_of-requires-clause-kinds c = c.loop-t.invariant.kinds
 
 pub loop-t-init : goal.loop-t-init
 loop-t-init c = record {
@@ -29,12 +29,12 @@ pub loop-t-preserved : goal.loop-t-preserved
 loop-t-preserved c =
     let before = c.loop-t.invariant in
     record {
-      table = IsTableOf-grow c.args.job.now c.loop-t.tables c.meet.new.tables before.table c.meet.ensures.tables;
-      kinds = c.meet.ensures.kinds;
-      tables_grow = Grows-twice c.args.tables.now c.loop-t.tables c.meet.new.tables before.tables_grow c.meet.ensures.tables;
-      kinds_grow = KindsGrow-twice c.args.kinds.now c.loop-t.kinds c.meet.new.kinds before.kinds_grow c.meet.ensures.grow;
-      kept = λ t met. c.meet.ensures.kept t (before.kept t met);
-      met = AreMet-more c.loop-t.kinds c.meet.new.kinds c.args.items.now c.loop-t.t-index _ before.met c.meet.ensures.kept c.in_ok-meet.ensures.met c.loop-t-test.true;
+      table = IsTableOf-grow c.args.job.now c.loop-t.tables c.kind_of.new.tables before.table c.kind_of.ensures.tables;
+      kinds = c.kind_of.ensures.kinds;
+      tables_grow = Grows-twice c.args.tables.now c.loop-t.tables c.kind_of.new.tables before.tables_grow c.kind_of.ensures.tables;
+      kinds_grow = KindsGrow-twice c.args.kinds.now c.loop-t.kinds c.kind_of.new.kinds before.kinds_grow c.kind_of.ensures.grow;
+      kept = λ t met. c.kind_of.ensures.kept t (before.kept t met);
+      met = AreMet-more c.loop-t.kinds c.kind_of.new.kinds c.args.items.now c.loop-t.t-index _ before.met c.kind_of.ensures.kept c.in_ok-kind_of.ensures.met c.loop-t-test.true;
     }
 
 pub returns-clause-met : goal.returns-clause-met

@@ -44,6 +44,6 @@ returns-then-same_outputs-clause-kind c =
     rw (c.as_slice.ensures.value, c.as_slice-then-met-kind.ensures.value, met, columns) at (c.same_outputs.ensures c.if-same_outputs.true) in (
       kind,
       found,
-      IsKind-alike c.args.job.now c.args.bound c.args.tables.now.classes c.args.kinds.now.columns c.args.kinds.now.ends.items c.args.kinds.now.ranks.items c.args.t (record { 0 = i }) c.args.kind kind
-          c.requires.kinds.columns_are c.requires.kind is class same,
+      IsKind-alike c.args.job.now c.args.bound c.args.tables.now.classes c.args.kinds.now.columns c.args.kinds.now.ends.items c.args.kinds.now.ranks.items c.args.t c.args.kind kind
+          c.requires.kinds.columns_are c.requires.kind is.room is.rows class same,
     )

@@ -1,7 +1,6 @@
-use Rattle.std.proofs.Common.{◌≡◌, ◌∙◌, ◌<◌, length, refl, sym, arith}
+use Rattle.std.proofs.Common.{◌∙◌, ◌<◌, length, refl, sym, arith}
 use Rattle.std.proofs.lemmas.List.{get_or_read}
 use Rattle.std.proofs.lemmas.Option.{get_or_from_slice_get}
-use Rattle.sequence_grids.specs.Kinds.{HasKind}
 use Rattle.sequence_grids.specs.Places.{IsTableOf}
 use Rattle.sequence_grids.proofs.KindLemmas.{AreKinds-grow, HasKind-grow, HasKind-at, KindsGrow-nothing}
 use Rattle.sequence_grids.proofs.PlaceLemmas.{HasTriple-step, HasTriple-grow, IsTableOf-grow}

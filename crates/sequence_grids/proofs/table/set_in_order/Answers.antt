@@ -1,4 +1,4 @@
-use Rattle.std.proofs.Common.{◌≡◌, ◌∙◌, ◌+◌, [], ◌∷◌, ◌++◌, List, take, ap, sym, subst}
+use Rattle.std.proofs.Common.{◌∙◌, [], ◌∷◌, ◌++◌, take, ap, sym}
 use Rattle.std.proofs.lemmas.List.{take_more, take_all}
 use Rattle.sequence_grids.proofs.TableLemmas.{inserted_last}
 use Rattle.sequence_grids.proofs.table.set_in_order.Goals as goal

@@ -7,17 +7,17 @@ use Rattle.sequence_grids.proofs.grids.Grids.outputs.Goals as goal
 use Rattle.sequence_grids.proofs.grids.Grids.outputs.Goals.{After-place_of-place}
 
 pub place_of-place-requires-clause-within : goal.place_of-place-requires-clause-within
-place_of-place-requires-clause-within c = rw (c.as_slice.ensures.value, c.as_slice-2.ensures.value) (at_place c.args.self.now c.self.inside.job.now c.self.inside.bound c.self.inside.tables c.self.inside.kinds c.self.inside.places.items c.self.inside.ends.items c.self.inside.sequences.items c.self.view_is c.self.invariant c.args.grid c.args.pos c.requires.grid (omega (arith, c.requires.pos)))
+place_of-place-requires-clause-within c = rw (c.as_slice.ensures.value, c.as_slice-2.ensures.value) (at_place c.args.self.now c.self.inside.job.now c.self.inside.bound c.self.inside.tables c.self.inside.kinds c.self.inside.places.items c.self.inside.ends.items c.self.inside.sequences.items c.self.view_is c.self.invariant.kept c.args.grid c.args.pos c.requires.grid (omega (arith, c.requires.pos)))
 
 is_place : (c : After-place_of-place) → IsPlaceAt c.args.self.now.problem c.args.self.now.bound c.self.inside.tables c.self.inside.kinds (items_at c.args.self.now c.args.grid) c.args.pos c.place_of-place.result
-is_place c = the_place c.args.self.now c.self.inside.job.now c.self.inside.bound c.self.inside.tables c.self.inside.kinds c.self.inside.places.items c.self.inside.ends.items c.self.inside.sequences.items c.self.view_is c.self.invariant c.args.grid c.args.pos c.requires.grid (omega (arith, c.requires.pos)) c.place_of-place.result (rw (c.as_slice.ensures.value, c.as_slice-2.ensures.value) at c.place_of-place.ensures)
+is_place c = the_place c.args.self.now c.self.inside.job.now c.self.inside.bound c.self.inside.tables c.self.inside.kinds c.self.inside.places.items c.self.inside.ends.items c.self.inside.sequences.items c.self.view_is c.self.invariant.kept c.args.grid c.args.pos c.requires.grid (omega (arith, c.requires.pos)) c.place_of-place.result (rw (c.as_slice.ensures.value, c.as_slice-2.ensures.value) at c.place_of-place.ensures)
 
 pub outputs_of-requires : goal.outputs_of-requires
 outputs_of-requires c =
     let (t, there) = item_there (items_at c.args.self.now c.args.grid) c.args.pos c.requires.pos in
     record {
       cell = HasCell-of c.args.self.now.problem c.args.self.now.bound c.self.inside.tables c.self.inside.kinds t c.place_of-place.result.kind c.args.k.0
-          (columns_of c.args.self.now c.self.inside.job.now c.self.inside.bound c.self.inside.tables c.self.inside.kinds c.self.inside.places.items c.self.inside.ends.items c.self.inside.sequences.items c.self.view_is c.self.invariant c.args.grid c.args.pos c.requires.grid (omega (arith, c.requires.pos)))
+          (columns_of c.args.self.now c.self.inside.job.now c.self.inside.bound c.self.inside.tables c.self.inside.kinds c.self.inside.places.items c.self.inside.ends.items c.self.inside.sequences.items c.self.view_is c.self.invariant.kept c.args.grid c.args.pos c.requires.grid (omega (arith, c.requires.pos)))
           ((is_place (goal.at.outputs_of-requires c).After-place_of-place).kind t there) (c.requires.start, c.requires.state);
     }
 

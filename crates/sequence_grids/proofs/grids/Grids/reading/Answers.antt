@@ -13,19 +13,19 @@ use Rattle.sequence_grids.proofs.grids.Grids.reading.Goals as goal
 use Rattle.sequence_grids.proofs.grids.Grids.reading.Goals.{After-place_of-place, After-place_behind-behind}
 
 pub place_of-place-requires-clause-within : goal.place_of-place-requires-clause-within
-place_of-place-requires-clause-within c = rw (c.as_slice.ensures.value, c.as_slice-2.ensures.value) (at_place c.args.self.now c.self.inside.job.now c.self.inside.bound c.self.inside.tables c.self.inside.kinds c.self.inside.places.items c.self.inside.ends.items c.self.inside.sequences.items c.self.view_is c.self.invariant c.args.grid c.args.pos c.requires.grid (omega (arith, c.requires.pos)))
+place_of-place-requires-clause-within c = rw (c.as_slice.ensures.value, c.as_slice-2.ensures.value) (at_place c.args.self.now c.self.inside.job.now c.self.inside.bound c.self.inside.tables c.self.inside.kinds c.self.inside.places.items c.self.inside.ends.items c.self.inside.sequences.items c.self.view_is c.self.invariant.kept c.args.grid c.args.pos c.requires.grid (omega (arith, c.requires.pos)))
 
 pub place_behind-behind-requires-clause-before : goal.place_behind-behind-requires-clause-before
-place_behind-behind-requires-clause-before c = rw c.as_slice-4.ensures.value (at_end c.args.self.now c.self.inside.job.now c.self.inside.bound c.self.inside.tables c.self.inside.kinds c.self.inside.places.items c.self.inside.ends.items c.self.inside.sequences.items c.self.view_is c.self.invariant c.args.grid (c.args.pos + 1) c.requires.grid (omega (arith, c.requires.pos)))
+place_behind-behind-requires-clause-before c = rw c.as_slice-4.ensures.value (at_end c.args.self.now c.self.inside.job.now c.self.inside.bound c.self.inside.tables c.self.inside.kinds c.self.inside.places.items c.self.inside.ends.items c.self.inside.sequences.items c.self.view_is c.self.invariant.kept c.args.grid (c.args.pos + 1) c.requires.grid (omega (arith, c.requires.pos)))
 
 pub place_behind-behind-requires-clause-within : goal.place_behind-behind-requires-clause-within
-place_behind-behind-requires-clause-within c = rw (c.as_slice-3.ensures.value, c.as_slice-4.ensures.value) (at_place c.args.self.now c.self.inside.job.now c.self.inside.bound c.self.inside.tables c.self.inside.kinds c.self.inside.places.items c.self.inside.ends.items c.self.inside.sequences.items c.self.view_is c.self.invariant c.args.grid (c.args.pos + 1) c.requires.grid (omega (arith, c.requires.pos)))
+place_behind-behind-requires-clause-within c = rw (c.as_slice-3.ensures.value, c.as_slice-4.ensures.value) (at_place c.args.self.now c.self.inside.job.now c.self.inside.bound c.self.inside.tables c.self.inside.kinds c.self.inside.places.items c.self.inside.ends.items c.self.inside.sequences.items c.self.view_is c.self.invariant.kept c.args.grid (c.args.pos + 1) c.requires.grid (omega (arith, c.requires.pos)))
 
 is_place : (c : After-place_of-place) → IsPlaceAt c.args.self.now.problem c.args.self.now.bound c.self.inside.tables c.self.inside.kinds (items_at c.args.self.now c.args.grid) c.args.pos c.place_of-place.result
-is_place c = the_place c.args.self.now c.self.inside.job.now c.self.inside.bound c.self.inside.tables c.self.inside.kinds c.self.inside.places.items c.self.inside.ends.items c.self.inside.sequences.items c.self.view_is c.self.invariant c.args.grid c.args.pos c.requires.grid (omega (arith, c.requires.pos)) c.place_of-place.result (rw (c.as_slice.ensures.value, c.as_slice-2.ensures.value) at c.place_of-place.ensures)
+is_place c = the_place c.args.self.now c.self.inside.job.now c.self.inside.bound c.self.inside.tables c.self.inside.kinds c.self.inside.places.items c.self.inside.ends.items c.self.inside.sequences.items c.self.view_is c.self.invariant.kept c.args.grid c.args.pos c.requires.grid (omega (arith, c.requires.pos)) c.place_of-place.result (rw (c.as_slice.ensures.value, c.as_slice-2.ensures.value) at c.place_of-place.ensures)
 
 is_behind : (c : After-place_behind-behind) → IsPlaceAt c.args.self.now.problem c.args.self.now.bound c.self.inside.tables c.self.inside.kinds (items_at c.args.self.now c.args.grid) (c.args.pos + 1) c.place_behind-behind.result
-is_behind c = the_place c.args.self.now c.self.inside.job.now c.self.inside.bound c.self.inside.tables c.self.inside.kinds c.self.inside.places.items c.self.inside.ends.items c.self.inside.sequences.items c.self.view_is c.self.invariant c.args.grid (c.args.pos + 1) c.requires.grid (omega (arith, c.requires.pos)) c.place_behind-behind.result (rw (c.as_slice-3.ensures.value, c.as_slice-4.ensures.value) at c.place_behind-behind.ensures)
+is_behind c = the_place c.args.self.now c.self.inside.job.now c.self.inside.bound c.self.inside.tables c.self.inside.kinds c.self.inside.places.items c.self.inside.ends.items c.self.inside.sequences.items c.self.view_is c.self.invariant.kept c.args.grid (c.args.pos + 1) c.requires.grid (omega (arith, c.requires.pos)) c.place_behind-behind.result (rw (c.as_slice-3.ensures.value, c.as_slice-4.ensures.value) at c.place_behind-behind.ensures)
 
 has_kind : (c : After-place_of-place) → (t : Item) × (slice_get (items_at c.args.self.now c.args.grid) c.args.pos ≡ Some t)
     × HasKind c.args.self.now.problem c.args.self.now.bound c.self.inside.tables.classes c.self.inside.kinds t c.place_of-place.result.kind
@@ -68,12 +68,12 @@ returns c t there k least most =
     let (triple, at_triple, behind) = (is_behind (goal.at.returns c).After-place_behind-behind).triple in
     let of_class = c.words-words.ensures.class class at_index in
     let of_triple = c.words-words.ensures.after triple at_triple in
-    let states = states_are c.args.self.now c.self.inside.job.now c.self.inside.bound c.self.inside.tables c.self.inside.kinds c.self.inside.places.items c.self.inside.ends.items c.self.inside.sequences.items c.self.view_is c.self.invariant c.args.grid c.args.pos c.requires.grid (omega (arith, c.requires.pos)) in
+    let states = states_are c.args.self.now c.self.inside.job.now c.self.inside.bound c.self.inside.tables c.self.inside.kinds c.self.inside.places.items c.self.inside.ends.items c.self.inside.sequences.items c.self.view_is c.self.invariant.kept c.args.grid c.args.pos c.requires.grid (omega (arith, c.requires.pos)) in
     let inside : k < length c.self.inside.tables.predecessors = omega (arith, states, most) in
     let cell = is.cells k (least, most) in
     let row : c.ends_from.result.now ≡ drop kind.base c.self.inside.kinds.ends.items =
     c.ends_from.ensures ∙ ap (λ (k : Kind). drop k.base c.as_slice-6.result.now) same ∙ ap (drop kind.base) c.as_slice-6.ensures.value in
-    let columns = columns_of c.args.self.now c.self.inside.job.now c.self.inside.bound c.self.inside.tables c.self.inside.kinds c.self.inside.places.items c.self.inside.ends.items c.self.inside.sequences.items c.self.view_is c.self.invariant c.args.grid c.args.pos c.requires.grid (omega (arith, c.requires.pos)) in
+    let columns = columns_of c.args.self.now c.self.inside.job.now c.self.inside.bound c.self.inside.tables c.self.inside.kinds c.self.inside.places.items c.self.inside.ends.items c.self.inside.sequences.items c.self.view_is c.self.invariant.kept c.args.grid c.args.pos c.requires.grid (omega (arith, c.requires.pos)) in
     let all = columns.all in
     let column : ℕ = slice_index c.self.inside.kinds.columns.numbers.items k in
     let start = row_start c.self.inside.kinds.ends.items c.ends_from.result.now kind.base column row in

@@ -1,4 +1,4 @@
-use Rattle.std.proofs.Common.{◌≡◌, ◌∙◌, map, ap}
+use Rattle.std.proofs.Common.{◌∙◌, map, ap}
 use Rattle.sequence_grids.specs.Tables.{class_sets, triple_sets}
 use Rattle.sequence_grids.proofs.TableLemmas.{IsTable-copy}
 use Rattle.sequence_grids.proofs.table.Table.copy.Goals as goal

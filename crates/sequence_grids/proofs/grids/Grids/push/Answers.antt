@@ -6,13 +6,13 @@ use Rattle.sequence_grids.specs.Grids.{GridList}
 use Rattle.mining_job.specs.Problems.{items_of}
 use Rattle.sequence_grids.specs.Places.{ArePlaces, AreGrids}
 use Rattle.sequence_grids.proofs.GridLemmas.{items_within, AreGrids-grow, AreGrids-more}
-use Rattle.sequence_grids.proofs.grids.Grids.push_with.Goals as goal
+use Rattle.sequence_grids.proofs.grids.Grids.push.Goals as goal
 
 pub push_places-requires-clause-items : goal.push_places-requires-clause-items
 push_places-requires-clause-items c =
     let same : c.sequence-items.result.now ≡ items_of c.self.inside.job.now c.args.seq =
     c.sequence-items.ensures.items ∙ ap (λ (sequences : List (Sequence Item)). (sequence_at sequences c.args.seq).items) c.db.ensures.sequences in
-    let inside : c.args.seq < length c.self.inside.job.now.sequences = subst (λ (v : GridList). c.args.seq < length v.problem.sequences) (sym c.self.view_is) c.requires.seq in
+    let inside : c.args.seq < length c.self.inside.job.now.sequences = subst (λ (v : GridList). c.args.seq < length v.problem.sequences) (sym c.self.view_is) c.requires in
     rw same (items_within c.self.inside.job.now c.db.ensures.whole c.args.seq inside)
 
 pub invariant_of-self-in_err-push_places : goal.invariant_of-self-in_err-push_places

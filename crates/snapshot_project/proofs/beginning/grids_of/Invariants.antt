@@ -1,5 +1,0 @@
-use Rattle.std.proofs.Common.{◌≡◌, take}
-use Rattle.snapshot_project.proofs.beginning.grids_of.Given as goal
-
-abbrev pub invariant-loop-number : goal.invariant-loop-number
-invariant-loop-number l = l.grids ≡ record { problem = l.job; bound = l.fn.bound; sequences = take l.number-index l.sequences }
