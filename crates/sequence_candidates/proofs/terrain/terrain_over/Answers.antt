@@ -29,7 +29,7 @@ returns g c =
     record {
       ground = record {
         rows_are = subst (AreSuccessors _ c.args.grids.problem.transducer) (sym rows) c.requires.rows;
-        records_are = c.in_ok-records.ensures;
+        records_are = rw (sym c.keep.ensures) c.in_ok-records.ensures;
       };
       early = c.in_ok-early.ensures.1 ∙ c.moves.ensures;
       rows = c.in_ok-late.ensures.0 ∙ c.as_slice-2.ensures.value ∙ sym rows;
