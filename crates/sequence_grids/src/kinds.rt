@@ -9,6 +9,7 @@ ghost use Rattle.sequence_grids.specs.Tables.{Grows, unknown};
 ghost use Rattle.sequence_grids.specs.Columns.{AreColumns, AreHeads};
 ghost use Rattle.sequence_grids.specs.Kinds.{IsTarget, IsNeededRank, IsRow, AreActs, AreEntered, Extends, HasKind, HasCell, IsMet, AreKinds, KindsGrow, IsKind, AreRows, IsInside, row_at};
 ghost use Rattle.sequence_grids.specs.declared.kinds.Kind.{Kind};
+ghost use Rattle.sequence_grids.specs.declared.kinds.Kinds.{Kinds as Found};
 ghost use Rattle.sequence_grids.specs.Wholes.{IsWholeAlphabet};
 ghost use Rattle.sequence_grids.specs.Cuts.{AreReadable};
 
@@ -121,7 +122,7 @@ impl Kinds {
             kinds: Vec::new(alloc),
             ends: Vec::new(alloc),
             ranks: Vec::new(alloc),
-            hints: vec![in alloc; NONE; FEW_HINTS]?,
+            hints: vec![in alloc; NONE; hints_for(items)]?,
         })
     }
 
@@ -215,6 +216,7 @@ pub(crate) fn kind_of(
     )?;
     let hint = hint_of(class, &kinds.ranks.as_slice()[first..], kinds.hints.len());
     if let Some(number) = alike(job, bound, tables, kinds, t, Kind { class, base }, hint) {
+        take_back(job, bound, tables, kinds, t, number, base, first);
         kinds.numbers[t.0 as usize] = number;
         return Ok(number);
     }
@@ -266,6 +268,7 @@ pub(crate) fn new_kind(
     )?;
     let hint = hint_of(class, &kinds.ranks.as_slice()[first..], kinds.hints.len());
     if let Some(number) = alike_kind(job, bound, tables, kinds, t, Kind { class, base }, hint) {
+        take_back(job, bound, tables, kinds, t, number, base, first);
         return Ok(number);
     }
     let number = next_number(kinds.kinds.len())?;
@@ -291,13 +294,24 @@ const FEW_HINTS: usize = 4_093;
 // How many there are from then on.
 const MANY_HINTS: usize = 65_521;
 
-// Where among so many the hint stands for outputs of a class.
+// How many there are at first, where the kinds of so many items are to be found: where these are many, a kind
+// that is found twice costs more than the hints.
+fn hints_for(items: u32) -> usize {
+    if items as usize > FEW_HINTS {
+        MANY_HINTS
+    } else {
+        FEW_HINTS
+    }
+}
+
+// Where among so many the hint stands for outputs of a class. A class and one rank are not to stand where the next
+// class and the rank before do: two kinds of many items that take turns at one place are found again each time.
 fn hint_of(class: u32, ranks: &[u32], hints: usize) -> usize {
-    let mut hash = u64::from(class);
+    let mut hash = u64::from(class)
+        .wrapping_add(1)
+        .wrapping_mul(0x9E37_79B9_7F4A_7C15);
     for rank in ranks {
-        hash = hash
-            .wrapping_add(u64::from(*rank))
-            .wrapping_mul(0x9E37_79B9_7F4A_7C15);
+        hash = (hash ^ u64::from(*rank)).wrapping_mul(0x9E37_79B9_7F4A_7C15);
     }
     ((hash >> 16) % (hints as u64).max(1)) as usize
 }
@@ -399,6 +413,40 @@ fn alike_kind(
     } else {
         None
     }
+}
+
+// Takes back the ends and the ranks behind the first so many, where those of the item's kind stand among these:
+// they are twins of what stands there, and kinds that lie near each other are near for the processor too.
+fn take_back(
+    job: &Job,
+    bound: Bound,
+    tables: &Tables,
+    kinds: &mut Kinds,
+    t: Item,
+    number: u32,
+    ends: usize,
+    ranks: usize,
+)
+    requires columns { AreColumns job.now.transducer.labels kinds.old.columns.numbers.items
+        kinds.old.columns.heads.items }
+    requires kind { HasKind job.now bound tables.now.classes kinds.old t number }
+    ensures columns { kinds.new.columns ≡ kinds.old.columns }
+    ensures numbers { kinds.new.numbers ≡ kinds.old.numbers }
+    ensures kinds { kinds.new.kinds ≡ kinds.old.kinds }
+    ensures kept { (before : Found) → KindsGrow before kinds.old → length before.ends.items ≡ ends
+        → length before.ranks.items ≡ ranks → KindsGrow before kinds.new }
+    ensures kind { HasKind job.now bound tables.now.classes kinds.new t number }
+{
+    let _job = job;
+    let _bound = bound;
+    let _tables = tables;
+    let _t = t;
+    let last = kinds.kinds[number as usize].base + kinds.columns.heads.len();
+    if last >= ends || kinds.ends[last] as usize > ranks {
+        return;
+    }
+    kinds.ends.truncate(ends);
+    kinds.ranks.truncate(ranks);
 }
 
 // Whether the outputs of so many columns are the same from one base on and from another.

@@ -1,13 +1,15 @@
-use Rattle.std.proofs.Common.{◌≡◌, ◌∙◌, ◌+◌, sym, arith, refl, length, []}
+use Rattle.std.proofs.Common.{◌≡◌, ◌∙◌, ℕ, ◌+◌, ◌<◌, sym, ap, arith, refl, List, length, []}
+use Rattle.std.specs.Global.{Vec}
+use Rattle.std.specs.List.{slice_index}
 use Rattle.std.proofs.lemmas.List.{append-nil}
 use Rattle.sequence_grids.specs.declared.kinds.Kind.{Kind}
-use Rattle.sequence_grids.specs.declared.kinds.Kinds.{Kinds}
 use Rattle.sequence_grids.specs.Grids.{Reads}
 use Rattle.sequence_grids.specs.Tables.{IsClassOf}
-use Rattle.sequence_grids.specs.Kinds.{Writes, Needs, AreKinds}
+use Rattle.sequence_grids.specs.Kinds.{Writes, Needs, AreKinds, KindsGrow}
 use Rattle.mine_model.proofs.ElementLemmas.{stands_last}
 use Rattle.sequence_grids.proofs.KindLemmas.{AreKinds-grow, AreKinds-more, Extends-nothing, KindsGrow-nothing, entered_below, IsClassFor-of, IsKind-of, IsMet-set, IsMet-kept}
 use Rattle.sequence_grids.proofs.kinds.kind_of.Goals as goal
+use Rattle.sequence_grids.proofs.kinds.kind_of.Goals.{After-take_back}
 
 pub returns-in_err-push_outputs-clause-kinds : goal.returns-in_err-push_outputs-clause-kinds
 returns-in_err-push_outputs-clause-kinds c =
@@ -95,28 +97,46 @@ alike-requires-clause-kind c =
     (IsClassFor-of c.args.job.now c.args.bound c.args.t class c.enter.new.scratch.silent.items c.enter.new.scratch.writes.items c.enter.new.scratch.needs.items of
     c.in_ok-enter.ensures)
 
+pub take_back-requires-clause-columns : goal.take_back-requires-clause-columns
+take_back-requires-clause-columns c = c.requires.kinds.columns_are
+
+-- what was there before stays
+kept-back : (c : After-take_back) → KindsGrow c.args.kinds.now c.take_back.new.kinds
+kept-back c =
+    c.take_back.ensures.kept c.args.kinds.now
+    (record { columns = refl; kinds = Extends-nothing c.args.kinds.now.kinds.items; ends = c.push_outputs.ensures.ends; ranks = c.push_outputs.ensures.ranks })
+    (omega (arith, c.len-base.ensures)) (omega (arith, c.len-first.ensures))
+
+numbers-back : (c : After-take_back) → c.take_back.new.kinds.numbers.items ≡ c.args.kinds.now.numbers.items
+numbers-back c = ap (λ (found : Vec ℕ). found.items) c.take_back.ensures.numbers
+
+inside-back : (c : After-take_back) → c.args.t.0 < length c.take_back.new.kinds.numbers.items
+inside-back c = omega (arith, c.requires.item, c.requires.kinds.all, ap length (numbers-back c))
+
+pub returns-in-Some-clause-grow : goal.returns-in-Some-clause-grow
+returns-in-Some-clause-grow c =
+    let grow = kept-back (goal.at.returns-in-Some-clause-grow c).After-take_back in
+    record { columns = grow.columns; kinds = grow.kinds; ends = grow.ends; ranks = grow.ranks }
+
 pub returns-in-Some-clause-kinds : goal.returns-in-Some-clause-kinds
 returns-in-Some-clause-kinds c =
-    let kinds : Kinds = record {
-      columns = c.args.kinds.now.columns;
-      numbers = c.args.kinds.now.numbers;
-      kinds = c.args.kinds.now.kinds;
-      ends = c.push_outputs.new.ends;
-      ranks = c.push_outputs.new.ranks;
-      hints = c.args.kinds.now.hints;
-    } in
+    let at : After-take_back = (goal.at.returns-in-Some-clause-kinds c).After-take_back in
+    let kinds = c.take_back.new.kinds in
     let grown : AreKinds c.args.job.now c.args.bound c.class_number.new.self.classes kinds =
     AreKinds-grow c.args.job.now c.args.bound c.args.tables.now.classes c.class_number.new.self.classes c.args.kinds.now kinds c.requires.kinds c.class_number.ensures.grows.classes
-    (record { columns = refl; kinds = Extends-nothing c.args.kinds.now.kinds.items; ends = c.push_outputs.ensures.ends; ranks = c.push_outputs.ensures.ranks }) refl in
+    (kept-back at) (numbers-back at) in
     AreKinds-more c.args.job.now c.args.bound c.class_number.new.self.classes kinds _ c.args.t c.in-Some.number grown
     (record { columns = refl; kinds = Extends-nothing kinds.kinds.items; ends = Extends-nothing kinds.ends.items; ranks = Extends-nothing kinds.ranks.items })
-    (omega (arith, c.requires.item, c.requires.kinds.all)) refl c.in-Some.ensures.kind
+    (inside-back at) refl c.take_back.ensures.kind
 
 pub returns-in-Some-clause-met : goal.returns-in-Some-clause-met
-returns-in-Some-clause-met c = IsMet-set c.args.kinds.now.numbers.items c.args.t.0 c.in-Some.number (omega (arith, c.requires.item, c.requires.kinds.all)) c.in-Some.ensures.some
+returns-in-Some-clause-met c = IsMet-set c.take_back.new.kinds.numbers.items c.args.t.0 c.in-Some.number (inside-back (goal.at.returns-in-Some-clause-met c).After-take_back) c.in-Some.ensures.some
 
 pub returns-in-Some-clause-kept : goal.returns-in-Some-clause-kept
-returns-in-Some-clause-kept c other = IsMet-kept c.args.kinds.now.numbers.items c.args.t.0 c.in-Some.number (omega (arith, c.requires.item, c.requires.kinds.all)) c.in-Some.ensures.some other.0
+returns-in-Some-clause-kept c other met =
+    let at : After-take_back = (goal.at.returns-in-Some-clause-kept c).After-take_back in
+    IsMet-kept c.take_back.new.kinds.numbers.items c.args.t.0 c.in-Some.number (inside-back at) c.in-Some.ensures.some other.0
+    (λ none. met (ap (λ (ns : List ℕ). slice_index ns other.0) (sym (numbers-back at)) ∙ none))
 
 pub returns-clause-met : goal.returns-clause-met
 returns-clause-met c = IsMet-set c.args.kinds.now.numbers.items c.args.t.0 c.in_ok-number.number (omega (arith, c.requires.item, c.requires.kinds.all)) c.in_ok-number.ensures.some

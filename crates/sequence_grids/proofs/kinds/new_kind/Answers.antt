@@ -1,14 +1,15 @@
-use Rattle.std.proofs.Common.{◌≡◌, ◌∙◌, ◌+◌, sym, arith, refl, length, []}
+use Rattle.std.proofs.Common.{◌≡◌, ◌∙◌, ◌+◌, sym, ap, arith, refl, length, []}
+use Rattle.std.specs.Global.{Vec}
 use Rattle.std.proofs.lemmas.List.{append-nil}
 use Rattle.sequence_grids.specs.declared.kinds.Kind.{Kind}
 use Rattle.sequence_grids.specs.Grids.{Reads}
 use Rattle.sequence_grids.specs.Tables.{IsClassOf}
-use Rattle.sequence_grids.specs.Kinds.{Writes, Needs, IsKind}
+use Rattle.sequence_grids.specs.Kinds.{Writes, Needs, IsKind, KindsGrow}
 use Rattle.mine_model.proofs.ElementLemmas.{stands_last}
 use Rattle.sequence_grids.proofs.KindLemmas.{Extends-nothing, entered_below, IsClassFor-of, IsKind-of}
 use Rattle.sequence_grids.proofs.CutLemmas.{AreReadable-same, AreReadable-more}
 use Rattle.sequence_grids.proofs.kinds.new_kind.Goals as goal
-use Rattle.sequence_grids.proofs.kinds.new_kind.Goals.{In_ok-class}
+use Rattle.sequence_grids.proofs.kinds.new_kind.Goals.{In_ok-class, After-take_back}
 
 pub returns-in_err-push_outputs-clause-readable : goal.returns-in_err-push_outputs-clause-readable
 returns-in_err-push_outputs-clause-readable c =
@@ -92,7 +93,20 @@ alike_kind-requires-clause-readable c =
 pub alike_kind-requires-clause-kind : goal.alike_kind-requires-clause-kind
 alike_kind-requires-clause-kind c = is-kind (goal.at.alike_kind-requires-clause-kind c).In_ok-class
 
+pub take_back-requires-clause-columns : goal.take_back-requires-clause-columns
+take_back-requires-clause-columns c = c.requires.readable.columns_are
+
+-- what was there before stays
+kept-back : (c : After-take_back) → KindsGrow c.args.kinds.now c.take_back.new.kinds
+kept-back c =
+    c.take_back.ensures.kept c.args.kinds.now
+    (record { columns = refl; kinds = Extends-nothing c.args.kinds.now.kinds.items; ends = c.push_outputs.ensures.ends; ranks = c.push_outputs.ensures.ranks })
+    (omega (arith, c.len-base.ensures)) (omega (arith, c.len-first.ensures))
+
 pub returns-in-Some-clause-readable : goal.returns-in-Some-clause-readable
 returns-in-Some-clause-readable c =
-    AreReadable-same c.args.job.now c.args.bound c.args.t c.args.kinds.now _ c.requires.readable
-    (record { columns = refl; kinds = Extends-nothing c.args.kinds.now.kinds.items; ends = c.push_outputs.ensures.ends; ranks = c.push_outputs.ensures.ranks }) refl
+    AreReadable-same c.args.job.now c.args.bound c.args.t c.args.kinds.now c.take_back.new.kinds c.requires.readable (kept-back (goal.at.returns-in-Some-clause-readable c).After-take_back)
+    (ap (λ (found : Vec Kind). found.items) c.take_back.ensures.kinds)
+
+pub returns-in-Some-clause-grow : goal.returns-in-Some-clause-grow
+returns-in-Some-clause-grow c = kept-back (goal.at.returns-in-Some-clause-grow c).After-take_back
