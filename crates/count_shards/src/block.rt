@@ -14,7 +14,7 @@ use std::marker::Model;
 pub(crate) const HOMES: u32 = 16;
 
 // How many sequences a block has; the last one may have fewer.
-const BLOCK: u32 = 256;
+const BLOCK: u32 = 64;
 
 /// The candidates of one block of sequences of a job after another, each counted in its home. Each block uses
 /// the room of the one before.
@@ -194,7 +194,6 @@ fn add_each(
 ) -> Result<(), NoMemory>
     requires all { length homes.old.items ≡ home_count }
     requires each_once { AllPairs (λ first second. first ≢ second) candidates.now.listed }
-    requires room { (list : List ℕ) → sum_at homes.old.items list + weight < 2 ^ 64 }
     ensures all { length homes.new.items ≡ home_count }
     ensures added { OnOk result (AddsEach candidates.now.listed weight homes.old.items homes.new.items) }
 {
