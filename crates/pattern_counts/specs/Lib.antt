@@ -4,3 +4,4 @@ pub mod Tally
 pub mod Hashes
 pub mod Table
 pub mod Counted
+pub mod Weighed

@@ -4,6 +4,10 @@
 mod counts;
 mod hashes;
 mod table;
+mod weighed;
+mod weights;
+
+pub use weighed::WeighedLists;
 
 ghost use Rattle.std.specs.Prelude.{◌≡◌, ℕ, ◌+◌, ◌^◌, ◌<◌, ◌⊎◌, ◌↔◌, ◌∷◌, ◌++◌, [], List, length, slice_get, Some, Contains, IsTrue, IfOk, IsOk, OnOk, OnErr};
 ghost use Rattle.pattern_counts.specs.Tally.{no_lists, IsTally, sum_of, Adds, AddsAll};
@@ -136,10 +140,29 @@ impl PatternCounts {
         let count = other.counts.len();
         self.counts.reserve(count, other.counts.ranks())?;
         for number in 0..count {
-            self.counts.touch_next(&other.counts, number);
+            self.counts.touch_next(other.counts.hashes(), number);
             let list = other.counts.list(number);
             self.counts
                 .put(other.counts.hash(number), list, other.counts.sum(number));
+        }
+        Ok(())
+    }
+
+    /// Adds to the sum of each list the other's sum of it. Takes all memory before the first sum.
+    pub fn add_weighed(&mut self, other: &WeighedLists) -> Result<(), NoMemory>
+        requires { (list : List ℕ) → sum_of self.old list + sum_of other.now list < 2 ^ 64 }
+        ensures ok { OnOk result (AddsAll other.now self.old self.new) }
+        ensures tally { IsTally self.new }
+        ensures err { OnErr result (self.new ≡ self.old) }
+    {
+        let weights = other.weights();
+        let count = weights.len();
+        self.counts.reserve(count, weights.ranks())?;
+        for number in 0..count {
+            self.counts.touch_next(weights.hashes(), number);
+            let list = weights.list(number);
+            self.counts
+                .put(weights.hash(number), list, weights.weight(number));
         }
         Ok(())
     }
