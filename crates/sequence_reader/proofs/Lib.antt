@@ -3,3 +3,5 @@ mod JoiningLemmas
 mod CuttingLemmas
 mod PieceLemmas
 mod BehindLemmas
+mod BlockLemmas
+mod AddingLemmas
