@@ -1,5 +1,5 @@
 -- Lemmas on the blocks of a file.
-use Rattle.std.proofs.Common.{◌≡◌, ℕ, ◌+◌, ◌≤◌, ◌<◌, ◌&&◌, Bool, true, false, if◌then◌else◌, List, [], ◌∷◌, ◌++◌, length, take, drop, Option, Some, None, IsTrue, IfSome, inl, inr, ◌⊎◌, refl, sym, ap, ◌∙◌, subst, arith, append_assoc, length-append, length-take}
+use Rattle.std.proofs.Common.{◌≡◌, ℕ, ◌+◌, ◌≤◌, ◌<◌, ◌&&◌, Bool, true, false, if◌then◌else◌, List, [], ◌∷◌, ◌++◌, length, take, drop, Option, Some, None, IsTrue, IfSome, inl, inr, ◌⊎◌, refl, sym, ap, ◌∙◌, subst, arith, append_assoc, length-append, length-drop}
 use Rattle.std.specs.Prelude.{nat_eq}
 use Rattle.std.proofs.lemmas.List.{append-nil, take-append-drop, take-append-le, length-take-le, drop-take}
 use Rattle.mine_model.specs.Bytes.{line_feed}
@@ -7,7 +7,7 @@ use Rattle.mine_model.specs.Limits.{most_file_bytes}
 use Rattle.mine_model.specs.Text.{without_mark, lines_of}
 use Rattle.text_ports.specs.Scanning.{lines_behind}
 use Rattle.sequence_reader.specs.declared.block.Block.{Block}
-use Rattle.sequence_reader.specs.Blocks.{bytes_of, whole_lines, rest_of, text_of, EndsWithFeed, IsBlock, WereAdded, WereCounted, IsAt}
+use Rattle.sequence_reader.specs.Blocks.{bytes_of, whole_lines, rest_of, text_of, EndsWithFeed, IsBlock, IsNext, WereAdded, IsAt}
 use Rattle.sequence_reader.proofs.CuttingLemmas.{lines_behind-append}
 
 -- A mark stands in the first line.
@@ -74,6 +74,31 @@ rest-last block is last =
   where
     plus_none : (n : ℕ) → n ≡ n + 0
     plus_none n = omega arith
+
+rest-length : (block : Block) → IsBlock block → length (rest_of block) + block.lines ≡ block.filled
+rest-length block is =
+    let bytes = length-take-le block.filled block.buffer.items is.filled in
+    let rest = length-drop block.lines (bytes_of block) in
+    let less = is.lines in
+    omega (arith, bytes, rest, less)
+
+-- a block that takes its bytes over and reads behind them
+pub IsNext-read : (before from block : Block) → IsBlock before → IsBlock block → from.filled ≡ length (rest_of before) → from.total ≡ before.total
+    → block.total + from.filled ≡ from.total + block.filled → IsNext before block
+IsNext-read before from block was is filled total place = record {
+  is = is;
+  place = let rest = rest-length before was in omega (arith, rest, filled, total, place);
+}
+
+-- the end of its lines moves on
+pub moves-on : (before block : Block) → IsBlock before → IsNext before block → block.is_last ≡ false → before.total + before.lines + block.filled < block.total + block.lines + before.filled
+moves-on before block was next more =
+    let (front, is) = next.is.ends more in
+    let size = ap length is in
+    let both = length-append front (line_feed ∷ []) in
+    let lines = length-take-le block.lines block.buffer.items (let a = next.is.lines in let b = next.is.filled in omega (arith, a, b)) in
+    let place = next.place in
+    omega (arith, size, both, lines, place)
 
 -- the first lines of a file
 start-lines : (block : Block) → IsBlock block → block.is_first ≡ true → (rest : List ℕ) → (t : Bool) → block.is_last ≡ t → (IsTrue t → rest ≡ [])

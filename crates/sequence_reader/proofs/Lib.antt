@@ -5,3 +5,4 @@ mod PieceLemmas
 mod BehindLemmas
 mod BlockLemmas
 mod AddingLemmas
+mod RefusalLemmas

@@ -36,6 +36,11 @@ pub record IsBlock (block : Block) : Type 0 where
   pub whole : IsTrue block.is_last → block.lines ≡ block.filled
   pub ends : block.is_last ≡ false → EndsWithFeed (whole_lines block)
 
+-- a block begins in the file where the lines of another end
+pub record IsNext (before block : Block) : Type 0 where
+  pub is : IsBlock block
+  pub place : block.total + before.filled ≡ before.total + before.lines + block.filled
+
 -- Bytes were read behind those of a block: what was left of the file before, and what is left now.
 abbrev pub WereAdded : Option (List ℕ) → Option (List ℕ) → Block → Block → Type 0
 WereAdded left after before block = IfSome left (λ rest. (more later : List ℕ) × (rest ≡ more ++ later)

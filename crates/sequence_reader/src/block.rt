@@ -4,7 +4,7 @@ ghost use Rattle.std.specs.Prelude.{◌≡◌, ◌≢◌, ℕ, ◌+◌, ◌≤�
 ghost use Rattle.mine_model.specs.Limits.{most_file_bytes};
 ghost use Rattle.text_ports.specs.Faults.{Rose};
 ghost use Rattle.text_ports.specs.Scanning.{lines_behind};
-ghost use Rattle.sequence_reader.specs.Blocks.{bytes_of, rest_of, text_of, EndsWithFeed, IsBlock, WereAdded, WereCounted, IsAt};
+ghost use Rattle.sequence_reader.specs.Blocks.{bytes_of, rest_of, text_of, EndsWithFeed, IsBlock, IsNext, WereAdded, IsAt};
 
 use mine_model::NoMemory;
 use std::alloc::Global;
@@ -140,6 +140,7 @@ impl Block {
         ensures added { OnOk result (WereAdded (F.left files.old) (F.left files.new) self.old self.new) }
         ensures end { OnOk result (IsTrue self.new.is_last
             → IfSome (F.left files.old) (λ rest. F.left files.new ≡ Some [])) }
+        ensures place { OnOk result (self.new.total + self.old.filled ≡ self.old.total + self.new.filled) }
         ensures first { self.new.is_first ≡ self.old.is_first }
         ensures too_large { result ≡ Err ReadFault.TooLarge
             → IfSome (F.left files.old) (λ rest. most_file_bytes < self.old.total + length rest) }
@@ -208,7 +209,7 @@ impl Block {
     pub(crate) fn follow<F: Files>(&mut self, before: &Block, files: &mut F) -> Result<(), ReadFault>
         requires before { IsBlock before.now }
         requires some { 0 < length self.old.buffer.items }
-        ensures block { OnOk result (IsBlock self.new) }
+        ensures block { OnOk result (IsNext before.now self.new) }
         ensures at { OnOk result ((told : Option (List ℕ)) (lines : List (List ℕ))
             → IsAt told (F.left files.old) lines before.now
             → IsAt told (F.left files.new) (lines ++ lines_behind (text_of before.now)) self.new) }

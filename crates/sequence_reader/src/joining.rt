@@ -2,7 +2,7 @@
 
 ghost use Rattle.std.specs.Prelude.{◌≡◌, ℕ, ◌+◌, ◌≤◌, ◌<◌, ◌++◌, Bool, true, false, List, [], ◌∷◌, map, Ok, length, OnOk, OnErr};
 ghost use Rattle.std.specs.List.{AllByRecursion, AllZip, flat_map};
-ghost use Rattle.mine_model.specs.Limits.{most_sequences, most_items};
+ghost use Rattle.mine_model.specs.Limits.{most_sequences};
 ghost use Rattle.mine_model.specs.Names.{sequence_by};
 ghost use Rattle.text_ports.specs.Scanning.{lines_behind};
 ghost use Rattle.sequence_reader.specs.Taking.{behind, IsTaken, numbers_below, renumbered, sequences_waiting, all_waiting, with_waiting};
@@ -30,7 +30,6 @@ pub(crate) fn number_all(
     waiting: &mut Vec<Waiting>,
 ) -> Result<bool, NoMemory>
     requires none { waiting.old.items ≡ [] }
-    requires room { length all.old.names ≤ most_items }
     ensures joined { result ≡ Ok true → (known earlier texts : List (List ℕ)) (weighted : Bool)
         → IsTaken known weighted earlier all.old
         → AllZip (λ text reading.

@@ -6,7 +6,7 @@ ghost use Rattle.mine_model.specs.Limits.{most_file_bytes, most_items, most_sequ
 ghost use Rattle.text_ports.specs.Faults.{Rose};
 ghost use Rattle.text_ports.specs.Scanning.{lines_behind};
 ghost use Rattle.sequence_reader.specs.Faults.{IsReadingFault};
-ghost use Rattle.sequence_reader.specs.Blocks.{text_of, IsBlock, IsAt};
+ghost use Rattle.sequence_reader.specs.Blocks.{text_of, IsBlock, IsNext, IsAt};
 ghost use Rattle.sequence_reader.specs.Taking.{behind, IsTaken, all_waiting, with_waiting};
 
 use super::cutting::cut;
@@ -15,7 +15,7 @@ use super::joining::{Waiting, append_waiting, number_all};
 use super::piece::read_piece;
 use super::reading::Reading;
 use super::sequence_fault::SequenceFault;
-use item_names::Names;
+use item_names::{MOST_NAMES, Names};
 use mine_model::{Db, Item};
 use rayon::prelude::*;
 use std::alloc::Global;
@@ -39,7 +39,6 @@ pub(crate) fn read_in_pieces<R: Threads + Sync, F: Files>(
     requires some { 0 < workers }
     requires block { IsBlock block.now }
     requires buffer { 0 < length next.old.buffer.items }
-    requires names { length all.old.names ≤ most_items }
     requires room { length all.old.db + length (all_waiting waiting.old.items) ≤ most_sequences }
     ensures taken { result ≡ Ok true → (known lines : List (List ℕ)) (weighted : Bool)
         → IsTaken known weighted lines (with_waiting all.old waiting.old.items)
@@ -51,10 +50,9 @@ pub(crate) fn read_in_pieces<R: Threads + Sync, F: Files>(
     ensures none { result ≡ Ok false → waiting.new.items ≡ [] }
     ensures room { OnOk result
         (length all.new.db + length (all_waiting waiting.new.items) ≤ most_sequences) }
-    ensures names { OnOk result (length all.new.names ≤ most_items) }
     ensures kept { (added : List (List ℕ)) × (all.new.names ≡ all.old.names ++ added) }
     ensures same { all.new.weighted ≡ all.old.weighted }
-    ensures block { OnOk result (IsBlock next.new) }
+    ensures block { OnOk result (IsNext block.now next.new) }
     ensures at { OnOk result ((told : Option (List ℕ)) (lines : List (List ℕ))
         → IsAt told (F.left files.old) lines block.now
         → IsAt told (F.left files.new) (lines ++ lines_behind (text_of block.now)) next.new) }
@@ -99,7 +97,6 @@ fn read_beside<R: Threads + Sync, F: Files>(
     waiting: &[Waiting],
 ) -> (Result<Vec<Reading>, SequenceFault>, Result<(), SequenceFault>)
     requires few { All (λ piece. length piece.now ≤ most_file_bytes) pieces.now }
-    requires names { length all.old.names ≤ most_items }
     requires block { IsBlock block.now }
     requires buffer { 0 < length next.old.buffer.items }
     requires room { length all.old.db + length (all_waiting waiting.now) ≤ most_sequences }
@@ -107,7 +104,7 @@ fn read_beside<R: Threads + Sync, F: Files>(
         (λ piece reading. IsTaken all.old.names all.old.weighted (lines_behind piece.now)
         (behind all.old.names reading)) pieces.now readings.items) }
     ensures appended { OnOk result.1 (all.new.db ≡ all.old.db ++ all_waiting waiting.now) }
-    ensures block { OnOk result.1 (IsBlock next.new) }
+    ensures block { OnOk result.1 (IsNext block.now next.new) }
     ensures at { OnOk result.1 ((told : Option (List ℕ)) (lines : List (List ℕ))
         → IsAt told (F.left files.old) lines block.now
         → IsAt told (F.left files.new) (lines ++ lines_behind (text_of block.now)) next.new) }
@@ -125,6 +122,7 @@ fn read_beside<R: Threads + Sync, F: Files>(
 {
     let weighted = all.weighted;
     let names = &all.names;
+    prove!(names.count() <= MOST_NAMES);
     let db = &mut all.db;
     let items = &mut all.items;
     thread::join_mut(
@@ -141,7 +139,7 @@ fn read_beside<R: Threads + Sync, F: Files>(
             requires buffer { 0 < length next.now.buffer.items }
             requires room { length db.now + length (all_waiting waiting.now) ≤ most_sequences }
             ensures appended { OnOk result (db.exit.now ≡ db.entry.now ++ all_waiting waiting.entry.now) }
-            ensures block { OnOk result (IsBlock next.exit.now) }
+            ensures block { OnOk result (IsNext block.entry.now next.exit.now) }
             ensures at { OnOk result ((told : Option (List ℕ)) (lines : List (List ℕ))
                 → IsAt told (F.left files.entry.now) lines block.entry.now
                 → IsAt told (F.left files.exit.now) (lines ++ lines_behind (text_of block.entry.now))
@@ -173,7 +171,7 @@ pub(crate) fn append_and_follow<F: Files>(
     requires buffer { 0 < length next.old.buffer.items }
     requires room { length db.old + length (all_waiting waiting.now) ≤ most_sequences }
     ensures appended { OnOk result (db.new ≡ db.old ++ all_waiting waiting.now) }
-    ensures block { OnOk result (IsBlock next.new) }
+    ensures block { OnOk result (IsNext block.now next.new) }
     ensures at { OnOk result ((told : Option (List ℕ)) (lines : List (List ℕ))
         → IsAt told (F.left files.old) lines block.now
         → IsAt told (F.left files.new) (lines ++ lines_behind (text_of block.now)) next.new) }

@@ -11,7 +11,7 @@ ghost use Rattle.text_ports.specs.Faults.{Rose};
 ghost use Rattle.text_ports.specs.Lines.{AreFields, IsWithin};
 ghost use Rattle.text_ports.specs.Scanning.{lines_behind};
 ghost use Rattle.item_names.specs.Fields.{texts_at};
-ghost use Rattle.sequence_reader.specs.Blocks.{text_of, IsBlock, IsAt};
+ghost use Rattle.sequence_reader.specs.Blocks.{text_of, IsBlock, IsNext, IsAt};
 ghost use Rattle.sequence_reader.specs.Taking.{said_to, IsWeighed, IsLineFault, TookLine, RefusedLine, IsTaken, all_waiting, with_waiting};
 
 use super::block::Block;
@@ -25,7 +25,7 @@ use std::alloc::Global;
 use std::mem;
 use std::thread::Threads;
 use text_ports::{
-    Files, LineVisitor, Span, TextFault, visit_lines,
+    Failed, Files, LineVisitor, Span, TextFault, visit_lines,
 };
 
 /// The most sequences of a file.
@@ -141,10 +141,10 @@ pub fn read<R: Threads + Sync, F: Files>(
     ensures same_files { F.holds files.new ≡ F.holds files.old }
     ensures never_falls { F.faults files.old ≤ F.faults files.new }
 {
-    if files.open(name).is_err() {
-        return Err(SequenceFault::ReadFault);
+    match files.open(name) {
+        Ok(()) => {}
+        Err(Failed) => return Err(SequenceFault::ReadFault),
     }
-    prove!(names.count() <= MOST_NAMES);
     let no_names = Names::new(alloc)?;
     let mut reading = Reading {
         weighted,
@@ -169,7 +169,6 @@ fn read_blocks<R: Threads + Sync, F: Files>(
     files: &mut F,
     reading: &mut Reading,
 ) -> Result<(), SequenceFault>
-    requires names { length reading.old.names ≤ most_items }
     requires empty { reading.old.db ≡ [] }
     ensures taken { OnOk result ((lines : List (List ℕ))
         × IsTaken reading.old.names reading.old.weighted lines reading.new
@@ -184,6 +183,7 @@ fn read_blocks<R: Threads + Sync, F: Files>(
     ensures same_files { F.holds files.new ≡ F.holds files.old }
     ensures never_falls { F.faults files.old ≤ F.faults files.new }
 {
+    prove!(reading.names.count() <= MOST_NAMES);
     let size = if workers > 1 {
         SHARED_BYTES
     } else {
@@ -237,7 +237,6 @@ fn read_block<R: Threads + Sync, F: Files>(
 ) -> Result<(), SequenceFault>
     requires block { IsBlock block.now }
     requires buffer { 0 < length next.old.buffer.items }
-    requires names { length reading.old.names ≤ most_items }
     requires room { length reading.old.db + length (all_waiting waiting.old.items) ≤ most_sequences }
     ensures taken { OnOk result ((known lines : List (List ℕ)) (weighted : Bool)
         → IsTaken known weighted lines (with_waiting reading.old waiting.old.items)
@@ -252,9 +251,8 @@ fn read_block<R: Threads + Sync, F: Files>(
     ensures failed { result ≡ Err SequenceFault.ReadFault → Rose (F.faults files.old) (F.faults files.new) }
     ensures room { OnOk result
         (length reading.new.db + length (all_waiting waiting.new.items) ≤ most_sequences) }
-    ensures names { OnOk result (length reading.new.names ≤ most_items) }
     ensures kept { (added : List (List ℕ)) × (reading.new.names ≡ reading.old.names ++ added) }
-    ensures block { OnOk result (IsBlock next.new) }
+    ensures block { OnOk result (IsNext block.now next.new) }
     ensures at { OnOk result ((told : Option (List ℕ)) (lines : List (List ℕ))
         → IsAt told (F.left files.old) lines block.now
         → IsAt told (F.left files.new) (lines ++ lines_behind (text_of block.now)) next.new) }
@@ -266,7 +264,10 @@ fn read_block<R: Threads + Sync, F: Files>(
         return Ok(());
     }
     match read_in_order(alloc, block.text(), reading) {
-        Ok(()) => Ok(()),
+        Ok(()) => {
+            prove!(reading.db.sequences() <= MOST_SEQUENCES);
+            Ok(())
+        }
         Err(fault) => Err(refusal(files, next, fault)),
     }
 }
@@ -285,7 +286,6 @@ fn read_apart<R: Threads + Sync, F: Files>(
 ) -> Result<bool, SequenceFault>
     requires block { IsBlock block.now }
     requires buffer { 0 < length next.old.buffer.items }
-    requires names { length reading.old.names ≤ most_items }
     requires room { length reading.old.db + length (all_waiting waiting.old.items) ≤ most_sequences }
     ensures taken { result ≡ Ok true → (known lines : List (List ℕ)) (weighted : Bool)
         → IsTaken known weighted lines (with_waiting reading.old waiting.old.items)
@@ -297,10 +297,9 @@ fn read_apart<R: Threads + Sync, F: Files>(
     ensures none { result ≡ Ok false → waiting.new.items ≡ [] }
     ensures room { OnOk result
         (length reading.new.db + length (all_waiting waiting.new.items) ≤ most_sequences) }
-    ensures names { OnOk result (length reading.new.names ≤ most_items) }
     ensures kept { (added : List (List ℕ)) × (reading.new.names ≡ reading.old.names ++ added) }
     ensures same { reading.new.weighted ≡ reading.old.weighted }
-    ensures block { OnOk result (IsBlock next.new) }
+    ensures block { OnOk result (IsNext block.now next.new) }
     ensures at { OnOk result ((told : Option (List ℕ)) (lines : List (List ℕ))
         → IsAt told (F.left files.old) lines block.now
         → IsAt told (F.left files.new) (lines ++ lines_behind (text_of block.now)) next.new) }

@@ -17,6 +17,7 @@ loop-self-preserved g c =
       added =
           WereAdded-more (g.F.Files.left c.args.files.now) (g.F.Files.left c.loop-self.files) (g.F.Files.left c.read_some.new.files) c.args.self.now c.loop-self.self c.make_room.new.self c.read_some.new.self
           c.make_room.ensures.bytes c.make_room.ensures.total c.loop-self.invariant.added c.in_ok-read_some.ensures.added;
+      place = let so_far = c.loop-self.invariant.place in omega (arith, so_far, filled, total, filled_before, total_before);
       some = omega (arith, filled, within, some);
       within = within;
       read = omega (arith, filled, total, filled_before, total_before, before);

@@ -1,10 +1,11 @@
-use Rattle.std.proofs.Common.{◌≡◌, ◌-◌, ◌≤◌, ◌<◌, false, length}
+use Rattle.std.proofs.Common.{◌≡◌, ◌+◌, ◌-◌, ◌≤◌, ◌<◌, false, length}
 use Rattle.sequence_reader.specs.Blocks.{WereAdded}
 use Rattle.sequence_reader.proofs.block.Block.fill.Given as goal
 
 abbrev pub invariant-loop-self : goal.invariant-loop-self
 invariant-loop-self g l = record {
   added : WereAdded (g.F.Files.left l.fn.files) (g.F.Files.left l.files) l.fn.self l.self;
+  place : l.self.total + l.fn.self.filled ≡ l.fn.self.total + l.self.filled;
   some : 0 < length l.self.buffer.items;
   within : l.self.filled ≤ length l.self.buffer.items;
   read : l.self.filled ≤ l.self.total;
