@@ -212,3 +212,13 @@ pub few-last : (told left : Option (List ℕ)) (lines : List (List ℕ)) (block 
 few-last None left lines block is ended at = tt
 few-last (Some whole) left lines block is ended (rest, stays, last, said, size) =
     let none = ap length (last ended) in let few = is.few in omega (arith, few, size, none)
+
+-- the lines up to the end of the last block are those of the file
+pub whole-file : (told left : Option (List ℕ)) (lines : List (List ℕ)) (block : Block) → IsBlock block → IsTrue block.is_last → IsAt told left lines block
+    → IfSome told (λ whole. (lines_of whole ≡ lines ++ lines_behind (text_of block)) × (length whole ≤ most_file_bytes))
+whole-file None left lines block is ended at = tt
+whole-file (Some whole) left lines block is ended (rest, stays, last, said, size) =
+    let none : rest_of block ++ rest ≡ [] = ap (λ w. w ++ rest) (rest-last block is ended) ∙ last ended in
+    let zero = ap length (last ended) in
+    let few = is.few in
+    (said ∙ ap (λ w. (lines ++ lines_behind (text_of block)) ++ lines_behind w) none ∙ append-nil (lines ++ lines_behind (text_of block)), omega (arith, few, size, zero))

@@ -161,6 +161,17 @@ pub fn read<R: Threads + Sync, F: Files>(
 }
 
 
+/// How many bytes are read at once.
+fn block_bytes(workers: u32) -> usize
+    ensures { 0 < result }
+{
+    if workers > 1 {
+        SHARED_BYTES
+    } else {
+        LEAST_BYTES
+    }
+}
+
 /// Reads the file that was opened, by blocks, into what was read so far, which has no sequence yet.
 fn read_blocks<R: Threads + Sync, F: Files>(
     rt: &R,
@@ -184,11 +195,7 @@ fn read_blocks<R: Threads + Sync, F: Files>(
     ensures never_falls { F.faults files.old ≤ F.faults files.new }
 {
     prove!(reading.names.count() <= MOST_NAMES);
-    let size = if workers > 1 {
-        SHARED_BYTES
-    } else {
-        LEAST_BYTES
-    };
+    let size = block_bytes(workers);
     let mut block = Block::new(alloc, size)?;
     let mut next = Block::new(alloc, size)?;
     let mut waiting = Vec::new(alloc);

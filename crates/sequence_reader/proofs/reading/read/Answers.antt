@@ -30,9 +30,9 @@ returns-in-Ok-outcome-clause-accepted g c =
     (subst (λ (names : List (List ℕ)). IsTaken names c.args.weighted lines c.read_blocks-outcome.new.reading) c.replace.ensures.value taken) (g.F.Files.holds c.args.files.now c.args.name.now)
     (subst (λ (t : Option (List ℕ)). IfSome t (λ whole. (lines_of whole ≡ lines) × (length whole ≤ most_file_bytes))) c.in-Ok.ensures.opened told)
 
-pub returns-clause-refused : goal.returns-clause-refused
-returns-clause-refused g c fault same read memory =
-    let is : c.in-Err.fault ≡ fault = cc same in
-    let first = c.in-Err.ensures.refused fault (ap Err is) read memory in
+pub returns-in-Err-outcome-clause-refused : goal.returns-in-Err-outcome-clause-refused
+returns-in-Err-outcome-clause-refused g c fault same read memory =
+    let is : c.in-Err-outcome.fault ≡ fault = cc same in
+    let first = c.in-Err-outcome.ensures.refused fault (ap Err is) read memory in
     subst (λ (names : List (List ℕ)). IfSome (g.F.Files.holds c.args.files.now c.args.name.now) (λ whole. IsSequencesRefusal c.args.weighted names whole (fault_of_sequences fault))) c.replace.ensures.value
     (subst (λ (t : Option (List ℕ)). IfSome t (λ whole. IsSequencesRefusal c.args.weighted c.replace.result whole (fault_of_sequences fault))) c.in-Ok.ensures.opened first)
