@@ -1,5 +1,5 @@
 -- Lemmas on bytes that are read into a buffer.
-use Rattle.std.proofs.Common.{◌≡◌, ℕ, ◌+◌, ◌≤◌, ◌<◌, ◌↔◌, List, [], ◌++◌, length, take, drop, Option, Some, None, IfSome, refl, sym, ap, ◌∙◌, subst, arith, append_assoc, length-append}
+use Rattle.std.proofs.Common.{◌≡◌, ℕ, ◌+◌, ◌≤◌, ◌<◌, ◌↔◌, List, [], ◌++◌, length, take, drop, Option, Some, None, IfSome, refl, sym, ap, ◌∙◌, arith, append_assoc, length-append}
 use Rattle.std.proofs.Math.Seq.{take-append-add, take-append_seam}
 use Rattle.std.proofs.lemmas.List.{take-append-drop, take-append-le, length-take-le, append-nil}
 use Rattle.mine_model.specs.Limits.{most_file_bytes}
@@ -44,8 +44,7 @@ pub WereAdded-more : (left between after : Option (List ℕ)) (before middle fro
     → WereAdded left between before middle → WereAdded between after from block → WereAdded left after before block
 WereAdded-more None between after before middle from block bytes total first second = tt
 WereAdded-more (Some whole) between after before middle from block bytes total (more, later, cut, stays, grown, counted) second =
-    let (others, rest, cut-2, stays-2, grown-2, counted-2) = rw stays at second in
-    (
+    let (others, rest, cut-2, stays-2, grown-2, counted-2) = rw stays at second in (
       more ++ others,
       rest,
       cut ∙ ap (λ w. more ++ w) cut-2 ∙ sym (append_assoc more others rest),

@@ -1,5 +1,5 @@
 -- Lemmas on the blocks of a file.
-use Rattle.std.proofs.Common.{◌≡◌, ℕ, ◌+◌, ◌≤◌, ◌<◌, ◌&&◌, Bool, true, false, if◌then◌else◌, List, [], ◌∷◌, ◌++◌, length, take, drop, Option, Some, None, IsTrue, IfSome, inl, inr, ◌⊎◌, refl, sym, ap, ◌∙◌, subst, arith, append_assoc, length-append, length-drop}
+use Rattle.std.proofs.Common.{◌≡◌, ℕ, ◌+◌, ◌≤◌, ◌<◌, ◌&&◌, Bool, true, false, if◌then◌else◌, List, [], ◌∷◌, ◌++◌, length, take, drop, Option, Some, None, IsTrue, IfSome, refl, sym, ap, ◌∙◌, subst, arith, append_assoc, length-append, length-drop}
 use Rattle.std.specs.Prelude.{nat_eq}
 use Rattle.std.proofs.lemmas.List.{append-nil, take-append-drop, take-append-le, length-take-le, drop-take}
 use Rattle.mine_model.specs.Bytes.{line_feed}
@@ -146,8 +146,7 @@ pub IsAt-start : (left after : Option (List ℕ)) (before block : Block) → byt
 IsAt-start None after before block none zero is first added ended = tt
 IsAt-start (Some whole) after before block none zero is first (more, later, cut, stays, bytes, total) ended =
     let last : IsTrue block.is_last → later ≡ [] = λ t. same later [] (sym stays ∙ ended t) in
-    let all : whole ≡ bytes_of block ++ later = cut ∙ ap (λ w. w ++ later) (sym (bytes ∙ ap (λ w. w ++ more) none)) in
-    (
+    let all : whole ≡ bytes_of block ++ later = cut ∙ ap (λ w. w ++ later) (sym (bytes ∙ ap (λ w. w ++ more) none)) in (
       later,
       stays,
       last,
@@ -164,8 +163,7 @@ IsAt-behind (Some whole) left after lines before between block was is more_left 
     let (more, later, cut, leaves, grown, counted) = rw stays at added in
     let ends : IsTrue block.is_last → later ≡ [] = λ t. same later [] (sym leaves ∙ (rw stays at (ended t))) in
     let all : rest_of before ++ rest ≡ bytes_of block ++ later =
-    ap (λ w. rest_of before ++ w) cut ∙ sym (append_assoc (rest_of before) more later) ∙ ap (λ w. w ++ later) (sym (grown ∙ ap (λ w. w ++ more) bytes)) in
-    (
+    ap (λ w. rest_of before ++ w) cut ∙ sym (append_assoc (rest_of before) more later) ∙ ap (λ w. w ++ later) (sym (grown ∙ ap (λ w. w ++ more) bytes)) in (
       later,
       leaves,
       ends,
@@ -182,8 +180,7 @@ IsAt-end None left lines before block was ended first bytes none total at = tt
 IsAt-end (Some whole) left lines before block was ended first bytes none total (rest, stays, last, said, size) =
     let empty : rest_of before ≡ [] = rest-last before was ended in
     let behind : rest_of block ≡ [] = ap (λ n. drop n (bytes_of block)) none ∙ bytes ∙ empty in
-    let text : text_of block ≡ [] = (rw (first, none) refl) in
-    (
+    let text : text_of block ≡ [] = (rw (first, none) refl) in (
       rest,
       stays,
       (λ t. last ended),

@@ -1,5 +1,5 @@
 -- The bytes of a file, block by block.
-use Rattle.std.specs.Prelude.{◌≡◌, ℕ, ◌+◌, ◌≤◌, ◌<◌, Bool, true, false, if◌then◌else◌, List, [], ◌∷◌, ◌++◌, length, take, drop, Option, Some, IsTrue, IfSome}
+use Rattle.std.specs.Prelude.{◌≡◌, ℕ, ◌+◌, ◌≤◌, ◌<◌, false, if◌then◌else◌, List, [], ◌∷◌, ◌++◌, length, take, drop, Option, Some, IsTrue, IfSome}
 use Rattle.mine_model.specs.Bytes.{line_feed}
 use Rattle.mine_model.specs.Limits.{most_file_bytes}
 use Rattle.mine_model.specs.Text.{without_mark, lines_of}

@@ -206,7 +206,11 @@ impl Block {
     }
 
     /// Reads the lines behind those of another block. Behind the last block there are none.
-    pub(crate) fn follow<F: Files>(&mut self, before: &Block, files: &mut F) -> Result<(), ReadFault>
+    pub(crate) fn follow<F: Files>(
+        &mut self,
+        before: &Block,
+        files: &mut F,
+    ) -> Result<(), ReadFault>
         requires before { IsBlock before.now }
         requires some { 0 < length self.old.buffer.items }
         ensures block { OnOk result (IsNext before.now self.new) }

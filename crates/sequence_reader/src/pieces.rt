@@ -9,8 +9,8 @@ ghost use Rattle.sequence_reader.specs.Faults.{IsReadingFault};
 ghost use Rattle.sequence_reader.specs.Blocks.{text_of, IsBlock, IsNext, IsAt};
 ghost use Rattle.sequence_reader.specs.Taking.{behind, IsTaken, all_waiting, with_waiting};
 
-use super::cutting::cut;
 use super::block::Block;
+use super::cutting::cut;
 use super::joining::{Waiting, append_waiting, number_all};
 use super::piece::read_piece;
 use super::reading::Reading;
@@ -95,7 +95,10 @@ fn read_beside<R: Threads + Sync, F: Files>(
     pieces: &[&[u8]],
     all: &mut Reading,
     waiting: &[Waiting],
-) -> (Result<Vec<Reading>, SequenceFault>, Result<(), SequenceFault>)
+) -> (
+    Result<Vec<Reading>, SequenceFault>,
+    Result<(), SequenceFault>,
+)
     requires few { All (λ piece. length piece.now ≤ most_file_bytes) pieces.now }
     requires block { IsBlock block.now }
     requires buffer { 0 < length next.old.buffer.items }

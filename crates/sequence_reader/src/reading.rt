@@ -24,9 +24,7 @@ use mine_model::{Db, Item, NoMemory};
 use std::alloc::Global;
 use std::mem;
 use std::thread::Threads;
-use text_ports::{
-    Failed, Files, LineVisitor, Span, TextFault, visit_lines,
-};
+use text_ports::{Failed, Files, LineVisitor, Span, TextFault, visit_lines};
 
 /// The most sequences of a file.
 pub(crate) const MOST_SEQUENCES: u32 = 4_194_304;
@@ -159,7 +157,6 @@ pub fn read<R: Threads + Sync, F: Files>(
         Err(fault) => Err(fault),
     }
 }
-
 
 /// How many bytes are read at once.
 fn block_bytes(workers: u32) -> usize

@@ -1,4 +1,4 @@
-use Rattle.std.proofs.Common.{◌≡◌, ◌+◌, ◌≤◌, ◌<◌, length, length-append, take, ap, sym, arith}
+use Rattle.std.proofs.Common.{length, length-append, take, ap, sym, arith}
 use Rattle.sequence_reader.specs.Taking.{all_waiting}
 use Rattle.sequence_reader.proofs.JoiningLemmas.{waiting-room}
 use Rattle.sequence_reader.proofs.joining.append_waiting.Goals as goal

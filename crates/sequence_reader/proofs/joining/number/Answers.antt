@@ -1,4 +1,4 @@
-use Rattle.std.proofs.Common.{◌≡◌, ◌++◌, ◌∷◌, [], sym, subst, refl}
+use Rattle.std.proofs.Common.{◌++◌, sym, subst, refl}
 use Rattle.sequence_reader.specs.declared.reading.Reading.{Reading}
 use Rattle.sequence_reader.specs.declared.joining.Waiting.{Waiting}
 use Rattle.sequence_reader.specs.Taking.{IsTaken, with_waiting}

@@ -1,5 +1,5 @@
-use Rattle.std.proofs.Common.{◌≡◌, Ok, true, ◌++◌, ◌∷◌, [], List, ℕ, ◌+◌, ◌≤◌, ◌<◌, length, append_assoc, ap, sym, ◌∙◌, subst, arith, refl}
-use Rattle.std.specs.List.{AllZip, flat_map}
+use Rattle.std.proofs.Common.{◌≡◌, Ok, true, ◌++◌, [], List, ℕ, length, append_assoc, ap, sym, ◌∙◌, subst, arith, refl}
+use Rattle.std.specs.List.{AllZip}
 use Rattle.std.proofs.lemmas.List.{append-nil, nil_from_length}
 use Rattle.std.specs.Vec.Iter.{into_iter_items}
 use Rattle.text_ports.specs.Scanning.{lines_behind}

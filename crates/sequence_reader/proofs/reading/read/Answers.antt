@@ -1,4 +1,4 @@
-use Rattle.std.proofs.Common.{◌≡◌, ◌≤◌, ℕ, Err, List, Option, IfSome, length, ap, ◌∙◌, sym, subst}
+use Rattle.std.proofs.Common.{◌≡◌, ◌≤◌, ℕ, Err, List, Option, IfSome, length, ap, subst}
 use Rattle.mine_model.specs.Limits.{most_file_bytes}
 use Rattle.mine_model.specs.Text.{lines_of}
 use Rattle.mine_model.specs.Refusal.{IsSequencesRefusal}

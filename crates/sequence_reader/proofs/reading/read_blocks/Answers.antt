@@ -1,12 +1,10 @@
-use Rattle.std.proofs.Common.{◌≡◌, ◌+◌, ◌≤◌, ◌<◌, ◌++◌, [], ℕ, List, IsTrue, Option, IfSome, length, refl, ◌∙◌, ap, sym, subst, arith, append_assoc}
+use Rattle.std.proofs.Common.{◌≤◌, ◌<◌, ◌++◌, [], ℕ, List, IsTrue, length, refl, ◌∙◌, ap, sym, subst, arith, append_assoc}
 use Rattle.std.proofs.lemmas.List.{append-nil}
-use Rattle.mine_model.specs.Limits.{most_file_bytes}
-use Rattle.mine_model.specs.Text.{lines_of}
 use Rattle.text_ports.specs.Scanning.{lines_behind}
 use Rattle.sequence_reader.specs.declared.block.Block.{Block}
 use Rattle.sequence_reader.specs.declared.reading.Reading.{Reading}
 use Rattle.sequence_reader.specs.Blocks.{text_of, IsBlock, IsAt}
-use Rattle.sequence_reader.specs.Taking.{IsTaken, all_waiting, with_waiting}
+use Rattle.sequence_reader.specs.Taking.{all_waiting, with_waiting}
 use Rattle.sequence_reader.proofs.TakingLemmas.{IsTaken-start, IsTaken-same}
 use Rattle.sequence_reader.proofs.BlockLemmas.{whole-file}
 use Rattle.sequence_reader.proofs.reading.read_blocks.Goals as goal
@@ -78,8 +76,7 @@ returns-clause-taken g c =
     let reading : Reading = c.read_block-2.new.reading in
     let all = lines ++ lines_behind (text_of c.loop-files.block) in
     let done : Reading = record { weighted = reading.weighted; names = reading.names; items = c.append_waiting.new.items; db = c.append_waiting.new.db } in
-    let last : IsTrue c.loop-files.block.is_last = sym c.is_last.ensures ∙ c.loop-files-test.false in
-    (
+    let last : IsTrue c.loop-files.block.is_last = sym c.is_last.ensures ∙ c.loop-files-test.false in (
       all,
       IsTaken-same c.args.reading.now.names c.args.reading.now.weighted all (with_waiting reading c.read_block-2.new.waiting.items) done refl
           (c.in_ok-append_waiting.ensures ∙ ap (λ w. reading.db ++ all_waiting w) c.as_slice.ensures.value) refl

@@ -1,4 +1,4 @@
-use Rattle.std.proofs.Common.{◌≡◌, ◌+◌, ap, sym, ◌∙◌, subst, Err, [], length}
+use Rattle.std.proofs.Common.{◌≡◌, ap, sym, ◌∙◌, subst, Err}
 use Rattle.sequence_reader.specs.declared.sequence_fault.SequenceFault.{SequenceFault}
 use Rattle.sequence_reader.specs.declared.sequence_fault.SequenceFault.TheVariants.{BadByte, NameTooLong}
 use Rattle.sequence_reader.specs.Faults.{fault_of_sequences}

@@ -1,4 +1,4 @@
-use Rattle.std.proofs.Common.{◌≡◌, ◌∙◌, take, ap}
+use Rattle.std.proofs.Common.{◌∙◌, take, ap}
 use Rattle.sequence_reader.proofs.BlockLemmas.{IsAt-start}
 use Rattle.sequence_reader.proofs.block.Block.begin.Goals as goal
 

@@ -1,4 +1,4 @@
-use Rattle.std.proofs.Common.{◌≡◌, ◌∙◌, arith}
+use Rattle.std.proofs.Common.{◌∙◌, arith}
 use Rattle.sequence_reader.proofs.AddingLemmas.{WereAdded-more}
 use Rattle.sequence_reader.proofs.block.Block.fill.Goals as goal
 

@@ -1,4 +1,4 @@
-use Rattle.std.proofs.Common.{◌≡◌, ◌∙◌, sym, IsTrue, subst}
+use Rattle.std.proofs.Common.{◌∙◌, sym, IsTrue, subst}
 use Rattle.sequence_reader.proofs.BlockLemmas.{IsAt-end, IsAt-behind, IsNext-read}
 use Rattle.sequence_reader.proofs.block.Block.follow.Goals as goal
 
