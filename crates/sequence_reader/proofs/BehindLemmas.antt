@@ -9,7 +9,7 @@ use Rattle.mine_model.specs.Names.{GrowBy}
 use Rattle.text_ports.specs.Lines.{WasGiven, TookAll}
 use Rattle.sequence_reader.specs.declared.piece.Piece.{Piece}
 use Rattle.sequence_reader.specs.Taking.{behind, TookLine, TookPieceLine, IsTaken}
-use Rattle.sequence_reader.proofs.TakingLemmas.{whole_taken}
+use Rattle.sequence_reader.proofs.TakingLemmas.{IsTaken-start, more_taken}
 
 -- a known name keeps its number
 pub known_number : (known own : List (List ℕ)) (i : ℕ) (name : List ℕ) → slice_get known i ≡ Some name → slice_get (known ++ own) i ≡ Some name
@@ -71,6 +71,7 @@ pub piece_taken : (lines : List (List ℕ)) (v w : Piece) → length v.known.now
 piece_taken lines v w room new empty took =
     let all : v.known.now ++ v.own.names ≡ v.known.now = ap (λ names. v.known.now ++ names) new ∙ append-nil v.known.now in
     let taken : IsTaken (v.known.now ++ v.own.names) v.own.weighted lines (behind v.known.now w.own) =
-    whole_taken (behind v.known.now v.own) (behind v.known.now w.own) (subst (λ names. length names ≤ most_items) (sym all) room) empty lines
+    more_taken (v.known.now ++ v.own.names) v.own.weighted [] (behind v.known.now v.own) (behind v.known.now w.own)
+    (IsTaken-start (behind v.known.now v.own) (subst (λ names. length names ≤ most_items) (sym all) room) empty) lines
     (record { sound = took.sound; given = given 1 lines v w took.given }) in
     subst (λ names. IsTaken names v.own.weighted lines (behind v.known.now w.own)) all taken

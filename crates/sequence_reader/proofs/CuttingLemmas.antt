@@ -32,6 +32,12 @@ pieces-append [] rest = refl
 pieces-append (b ∷ front) rest =
     pieces-append-more b (front ++ line_feed ∷ []) rest (front ++ line_feed ∷ rest) (b == line_feed) refl (some_piece front) (pieces-append front rest)
 
+-- bytes that end with a line feed, and others behind
+pub lines_behind-append : (front rest : List ℕ) → lines_behind ((front ++ line_feed ∷ []) ++ rest) ≡ lines_behind (front ++ line_feed ∷ []) ++ lines_behind rest
+lines_behind-append front rest =
+    ap lines_behind (append_assoc front (line_feed ∷ []) rest) ∙ ap (map without_return) (pieces-append front rest)
+    ∙ map-append without_return (pieces_by_feed (front ++ line_feed ∷ [])) (pieces_by_feed rest)
+
 -- the lines before a place behind a line feed, and those behind it
 pub lines_behind-cut : (bytes : List ℕ) (end : ℕ) → end < length bytes → get_or bytes end 0 ≡ line_feed
     → lines_behind bytes ≡ lines_behind (take (end + 1) bytes) ++ lines_behind (drop (end + 1) bytes)
@@ -40,5 +46,4 @@ lines_behind-cut bytes end within feed =
     let rest : List ℕ = drop (end + 1) bytes in
     let cut : take (end + 1) bytes ≡ front ++ line_feed ∷ [] = take_more bytes end 0 within ∙ ap (λ b. front ++ b ∷ []) feed in
     let whole : bytes ≡ front ++ line_feed ∷ rest = sym (take-append-drop (end + 1) bytes) ∙ ap (λ w. w ++ rest) cut ∙ append_assoc front (line_feed ∷ []) rest in
-    ap lines_behind whole ∙ ap (map without_return) (pieces-append front rest) ∙ map-append without_return (pieces_by_feed (front ++ line_feed ∷ [])) (pieces_by_feed rest)
-    ∙ ap (λ w. lines_behind w ++ lines_behind rest) (sym cut)
+    ap lines_behind (whole ∙ sym (append_assoc front (line_feed ∷ []) rest)) ∙ lines_behind-append front rest ∙ ap (λ w. lines_behind w ++ lines_behind rest) (sym cut)

@@ -1,9 +1,10 @@
 -- What was read of a piece by known names and names of its own becomes a part of all.
-use Rattle.std.proofs.Common.{◌≡◌, ℕ, zero, suc, ◌+◌, ◌≤◌, ◌<◌, Bool, List, [], ◌∷◌, ◌++◌, map, length, take, get_or, inl, inr, refl, sym, ap, ◌∙◌, subst, arith, length-append}
+use Rattle.std.proofs.Common.{◌≡◌, ℕ, zero, suc, ◌+◌, ◌≤◌, ◌<◌, Bool, List, [], ◌∷◌, ◌++◌, map, length, take, drop, get_or, inl, inr, refl, sym, ap, ◌∙◌, subst, arith, append_assoc, length-append}
 use Rattle.std.specs.List.{AllByRecursion, AllZip, Contains, flat_map, slice_index_or}
 use Rattle.std.proofs.Math.Seq.{take-append_seam}
-use Rattle.std.proofs.lemmas.List.{map-append, append-nil, length-map, get_or-map, take_more}
+use Rattle.std.proofs.lemmas.List.{map-append, append-nil, length-map, get_or-map, take_more, take-append-drop, get_or_append_left, get_or-append-add, get_or_push}
 use Rattle.std.proofs.lemmas.List.Concat.{flat_map-append}
+use Rattle.std.proofs.Math.Nat.{eq-or-lt_of_le}
 use Rattle.std.proofs.lemmas.List.Elements.{Contains-get_or, Contains-append_left, Contains-append_right, Contains-append_cases}
 use Rattle.mine_model.specs.declared.item.Item.{Item}
 use Rattle.mine_model.specs.Limits.{most_sequences, most_items}
@@ -16,7 +17,8 @@ use Rattle.mine_model.proofs.NameLemmas.{GrowBy-more}
 use Rattle.item_names.specs.Fields.{AreItemsOf}
 use Rattle.text_ports.specs.Scanning.{lines_behind}
 use Rattle.sequence_reader.specs.declared.reading.Reading.{Reading}
-use Rattle.sequence_reader.specs.Taking.{IsGoodLine, behind, IsTaken, numbers_below, renumbered}
+use Rattle.sequence_reader.specs.declared.joining.Waiting.{Waiting}
+use Rattle.sequence_reader.specs.Taking.{IsGoodLine, behind, IsTaken, numbers_below, renumbered, sequences_waiting, all_waiting, with_waiting}
 use Rattle.sequence_reader.proofs.TakingLemmas.{items_of-append, counted, sequences-grown, named-grown}
 
 -- what behind known names are all that others bring, are all that they bring to names with the known ones
@@ -81,23 +83,25 @@ AreItemsOf-behind known own added new numbers is are =
     AreItemsOf-append new (numbers_below (length known)) numbers known own
     (subst (AreItemsOf new (numbers_below (length known))) front (AreItemsOf-below new (length known) size)) are
 
--- Numbers that are those of their places
+-- The number that an item gets
 
-module _ (numbers : List Item) (kept : (k : ℕ) → k < length numbers → slice_index_or numbers k (record { 0 = 0 }) ≡ record { 0 = k }) where
-  items-kept : (items : List Item) → AllByRecursion (λ item. item.0 < length numbers) items → map (renumbered numbers) items ≡ items
-  items-kept [] within = refl
-  items-kept (item ∷ items) within =
-      let first : renumbered numbers item ≡ item = kept item.0 within.0 in
-      let others = items-kept items within.1 in
-      cc (first, others)
+numbers_below-get : (n i : ℕ) (d : Item) → i < n → get_or (numbers_below n) i d ≡ record { 0 = i }
+numbers_below-get zero i d within = absurd (omega (arith, within))
+numbers_below-get (suc n) i d within = elim (eq-or-lt_of_le {n = i} {m = n} (omega (arith, within))) [
+  | inl same ↦ get_or_push (numbers_below n) (record { 0 = n }) d i (numbers_below-length n ∙ sym same) ∙ ap (λ (k : ℕ). record { 0 = k }) (sym same)
+  | inr before ↦ get_or_append_left (numbers_below n) ((record { 0 = n }) ∷ []) d i (let size = numbers_below-length n in omega (arith, before, size)) ∙ numbers_below-get n i d before
+]
 
-  pub sequences-kept : (sequences : List (Sequence Item)) → AllByRecursion (λ sequence. AllByRecursion (λ item. item.0 < length numbers) sequence.items) sequences
-      → map (sequence_by (renumbered numbers)) sequences ≡ sequences
-  sequences-kept [] within = refl
-  sequences-kept (sequence ∷ sequences) within =
-      let first : sequence_by (renumbered numbers) sequence ≡ sequence = ap (λ (w : List Item). record { items = w; weight = sequence.weight }) (items-kept sequence.items within.0) in
-      let others = sequences-kept sequences within.1 in
-      cc (first, others)
+pub number-known : (known : ℕ) (own : List Item) (item : Item) → item.0 < known → renumbered (numbers_below known ++ own) item ≡ item
+number-known known own item within =
+    get_or_append_left (numbers_below known) own _ item.0 (let size = numbers_below-length known in omega (arith, within, size)) ∙ numbers_below-get known item.0 _ within
+
+pub number-own : (known : ℕ) (own : List Item) (item : Item) (i : ℕ) → item.0 ≡ known + i → renumbered (numbers_below known ++ own) item ≡ slice_index_or own i (record { 0 = 0 })
+number-own known own item i is =
+    ap (λ k. slice_index_or (numbers_below known ++ own) k first) (is ∙ ap (λ n. n + i) (sym (numbers_below-length known))) ∙ get_or-append-add (numbers_below known) own i first
+  where
+    first : Item
+    first = record { 0 = 0 }
 
 -- Items whose new numbers have the names of the old ones
 
@@ -139,21 +143,22 @@ module _ (names own : List (List ℕ)) (numbers : List Item) (are : AreItemsOf n
       cc (first, others)
 
 -- the sequences of a piece, renumbered, behind those before it
-pub IsTaken-joined : (known : List (List ℕ)) (weighted : Bool) (earlier lines : List (List ℕ)) (all piece new : Reading) (numbers : List Item)
-    → IsTaken known weighted earlier all → IsTaken known weighted lines (behind known piece) → AreItemsOf new.names numbers (known ++ piece.names) → GrowBy all.names piece.names new.names
+pub IsTaken-joined : (names known : List (List ℕ)) (weighted : Bool) (earlier lines : List (List ℕ)) (all piece new : Reading) (numbers : List Item)
+    → ((name : List ℕ) → Contains known name → Contains all.names name)
+    → IsTaken names weighted earlier all → IsTaken known weighted lines (behind known piece) → AreItemsOf new.names numbers (known ++ piece.names) → GrowBy all.names piece.names new.names
     → length new.names ≤ most_items → new.db ≡ all.db ++ map (sequence_by (renumbered numbers)) piece.db → new.weighted ≡ all.weighted
-    → length all.db + length piece.db ≤ most_sequences → IsTaken known weighted (earlier ++ lines) new
-IsTaken-joined known weighted earlier lines all piece new numbers taken own are grown room joined same few = record {
+    → length all.db + length piece.db ≤ most_sequences → IsTaken names weighted (earlier ++ lines) new
+IsTaken-joined names known weighted earlier lines all piece new numbers held taken own are grown room joined same few = record {
   same = same ∙ taken.same;
   good = of_both (IsGoodLine weighted) earlier lines taken.good own.good;
   few =
-      let first = counted known weighted earlier all taken in
+      let first = counted names weighted earlier all taken in
       let second = counted known weighted lines (behind known piece) own in
       let both = length-append earlier lines in
       omega (arith, first, second, both, few);
   grown =
-      subst (λ items. GrowBy known items new.names) (sym (items_of-append weighted earlier lines))
-      (GrowBy-more known _ all.names _ new.names taken.grown (GrowBy-same known all.names piece.names _ new.names held grown own.grown));
+      subst (λ items. GrowBy names items new.names) (sym (items_of-append weighted earlier lines))
+      (GrowBy-more names _ all.names _ new.names taken.grown (GrowBy-same known all.names piece.names _ new.names held grown own.grown));
   room = room;
   named =
       subst (AllByRecursion (λ (sequence : Sequence Item). AllByRecursion (HasName new.names) sequence.items)) (sym joined)
@@ -165,9 +170,47 @@ IsTaken-joined known weighted earlier lines all piece new numbers taken own are 
       ∙ (λ j. (sequences-grown all.names _ new.names all.db grown taken.named ∙ taken.said) j ++ (sequences-said new.names (known ++ piece.names) numbers are piece.db own.named ∙ own.said) j)
       ∙ sym (map-append (λ line. sequence_of weighted (fields_of line)) earlier lines);
 }
-  where
-    held : (name : List ℕ) → Contains known name → Contains all.names name
-    held name inside = subst (λ (w : List (List ℕ)). Contains w name) (sym taken.grown.behind) (Contains-append_left known taken.grown.added name inside)
+
+-- the same where they wait
+pub waiting-joined : (names old added : List (List ℕ)) (weighted : Bool) (earlier lines : List (List ℕ)) (all new piece : Reading) (before : List Waiting) (last : Waiting)
+    → all.names ≡ old ++ added → IsTaken names weighted earlier (with_waiting all before) → IsTaken old weighted lines (behind old piece)
+    → last.known ≡ length old → last.db ≡ piece.db → AreItemsOf new.names last.own.items piece.names → GrowBy all.names piece.names new.names
+    → length new.names ≤ most_items → new.db ≡ all.db → new.weighted ≡ all.weighted → length all.db + length (all_waiting before) + length piece.db ≤ most_sequences
+    → IsTaken names weighted (earlier ++ lines) (with_waiting new (before ++ last ∷ []))
+waiting-joined names old added weighted earlier lines all new piece before last is taken own known db are grown room same_db same few =
+    IsTaken-joined names old weighted earlier lines (with_waiting all before) piece (with_waiting new (before ++ last ∷ [])) (numbers_below last.known ++ last.own.items)
+    (λ name inside. subst (λ (w : List (List ℕ)). Contains w name) (sym is) (Contains-append_left old added name inside))
+    taken own
+    (subst (λ n. AreItemsOf new.names (numbers_below n ++ last.own.items) (old ++ piece.names)) (sym known)
+    (AreItemsOf-behind old piece.names (added ++ grown.added) new.names last.own.items (grown.behind ∙ ap (λ w. w ++ grown.added) is ∙ append_assoc old added grown.added) are))
+    grown room
+    (ap (λ w. w ++ all_waiting (before ++ last ∷ [])) same_db ∙ ap (λ w. all.db ++ w) (flat_map-append sequences_waiting before (last ∷ []) ∙ ap (λ w. all_waiting before ++ w) (append-nil (sequences_waiting last)))
+    ∙ sym (append_assoc all.db (all_waiting before) (sequences_waiting last)) ∙ ap (λ (w : List (Sequence Item)). (all.db ++ all_waiting before) ++ map (sequence_by (renumbered (numbers_below last.known ++ last.own.items))) w) db)
+    same
+    (let both = length-append all.db (all_waiting before) in omega (arith, both, few))
+
+-- how many wait with one piece more
+pub waiting-length : (before : List Waiting) (last : Waiting) → length (all_waiting (before ++ last ∷ [])) ≡ length (all_waiting before) + length last.db
+waiting-length before last =
+    ap length (flat_map-append sequences_waiting before (last ∷ []) ∙ ap (λ w. all_waiting before ++ w) (append-nil (sequences_waiting last)))
+    ∙ length-append (all_waiting before) (sequences_waiting last)
+    ∙ ap (λ n. length (all_waiting before) + n) (length-map last.db (sequence_by (renumbered (numbers_below last.known ++ last.own.items))))
+
+-- those that wait up to a place
+pub waiting-more : (pieces : List Waiting) (i : ℕ) (piece : Waiting) → i < length pieces → get_or pieces i piece ≡ piece → all_waiting (take (i + 1) pieces) ≡ all_waiting (take i pieces) ++ sequences_waiting piece
+waiting-more pieces i piece within is =
+    ap all_waiting (take_more pieces i piece within ∙ ap (λ w. take i pieces ++ w ∷ []) is)
+    ∙ flat_map-append sequences_waiting (take i pieces) (piece ∷ []) ∙ ap (λ w. all_waiting (take i pieces) ++ w) (append-nil (sequences_waiting piece))
+
+pub waiting-room : (pieces : List Waiting) (i : ℕ) (piece : Waiting) → i < length pieces → get_or pieces i piece ≡ piece
+    → length (all_waiting (take i pieces)) + length piece.db ≤ length (all_waiting pieces)
+waiting-room pieces i piece within is =
+    let more = ap length (waiting-more pieces i piece within is) in
+    let both = length-append (all_waiting (take i pieces)) (sequences_waiting piece) in
+    let own = length-map piece.db (sequence_by (renumbered (numbers_below piece.known ++ piece.own.items))) in
+    let whole = ap length (ap all_waiting (sym (take-append-drop (i + 1) pieces)) ∙ flat_map-append sequences_waiting (take (i + 1) pieces) (drop (i + 1) pieces)) in
+    let parts = length-append (all_waiting (take (i + 1) pieces)) (all_waiting (drop (i + 1) pieces)) in
+    omega (arith, more, both, own, whole, parts)
 
 -- Pieces, one after another
 
@@ -182,28 +225,21 @@ AllZip-last R (x ∷ xs) (w ∷ ys) y zip =
     let (front, last, is, others, own) = AllZip-last R xs ys y zip.1 in
     (x ∷ front, last, ap (λ l. x ∷ l) is, (zip.0, others), own)
 
-pub pieces-none : (known : List (List ℕ)) (weighted : Bool) (v : Reading) → IsTaken known weighted [] v → (texts : List (List ℕ))
-    → AllZip (λ text reading. IsTaken known weighted (lines_behind text) (behind known reading)) texts [] → IsTaken known weighted (flat_map lines_behind texts) v
-pieces-none known weighted v start [] zip = start
-pieces-none known weighted v start (text ∷ texts) zip = absurd zip
+pub pieces-none : (names old : List (List ℕ)) (weighted : Bool) (earlier : List (List ℕ)) (v : Reading) → IsTaken names weighted earlier v → (texts : List (List ℕ))
+    → AllZip (λ text reading. IsTaken old weighted (lines_behind text) (behind old reading)) texts [] → IsTaken names weighted (earlier ++ flat_map lines_behind texts) v
+pieces-none names old weighted earlier v start [] zip = subst (λ l. IsTaken names weighted l v) (sym (append-nil earlier)) start
+pieces-none names old weighted earlier v start (text ∷ texts) zip = absurd zip
 
-pub pieces-more : (known : List (List ℕ)) (weighted : Bool) (seen : List Reading) (v piece w : Reading)
-    → ((texts : List (List ℕ)) → AllZip (λ text reading. IsTaken known weighted (lines_behind text) (behind known reading)) texts seen → IsTaken known weighted (flat_map lines_behind texts) v)
-    → ((earlier lines : List (List ℕ)) → IsTaken known weighted earlier v → IsTaken known weighted lines (behind known piece) → IsTaken known weighted (earlier ++ lines) w)
-    → (texts : List (List ℕ)) → AllZip (λ text reading. IsTaken known weighted (lines_behind text) (behind known reading)) texts (seen ++ piece ∷ []) → IsTaken known weighted (flat_map lines_behind texts) w
-pieces-more known weighted seen v piece w so_far step texts zip =
-    let (front, text, is, others, own) = AllZip-last (λ (text : List ℕ) (reading : Reading). IsTaken known weighted (lines_behind text) (behind known reading)) texts seen piece zip in
+pub pieces-more : (names old : List (List ℕ)) (weighted : Bool) (earlier : List (List ℕ)) (seen : List Reading) (v piece w : Reading)
+    → ((texts : List (List ℕ)) → AllZip (λ text reading. IsTaken old weighted (lines_behind text) (behind old reading)) texts seen → IsTaken names weighted (earlier ++ flat_map lines_behind texts) v)
+    → ((before lines : List (List ℕ)) → IsTaken names weighted before v → IsTaken old weighted lines (behind old piece) → IsTaken names weighted (before ++ lines) w)
+    → (texts : List (List ℕ)) → AllZip (λ text reading. IsTaken old weighted (lines_behind text) (behind old reading)) texts (seen ++ piece ∷ []) → IsTaken names weighted (earlier ++ flat_map lines_behind texts) w
+pieces-more names old weighted earlier seen v piece w so_far step texts zip =
+    let (front, text, is, others, own) = AllZip-last (λ (text : List ℕ) (reading : Reading). IsTaken old weighted (lines_behind text) (behind old reading)) texts seen piece zip in
     let whole : flat_map lines_behind texts ≡ flat_map lines_behind front ++ lines_behind text =
     ap (flat_map lines_behind) is ∙ flat_map-append lines_behind front (text ∷ []) ∙ ap (λ w. flat_map lines_behind front ++ w) (append-nil (lines_behind text)) in
-    subst (λ lines. IsTaken known weighted lines w) (sym whole) (step (flat_map lines_behind front) (lines_behind text) (so_far front others) own)
-
--- the items of each piece have names
-pub pieces-named : {X : Type 0} (known : List (List ℕ)) (weighted : Bool) (lines : X → List (List ℕ)) (pieces : List X) (readings : List Reading)
-    → AllZip (λ piece reading. IsTaken known weighted (lines piece) (behind known reading)) pieces readings
-    → AllByRecursion (λ reading. AllByRecursion (λ sequence. AllByRecursion (HasName (known ++ reading.names)) sequence.items) reading.db) readings
-pieces-named known weighted lines pieces [] zip = tt
-pieces-named known weighted lines [] (reading ∷ readings) zip = absurd zip
-pieces-named known weighted lines (piece ∷ pieces) (reading ∷ readings) zip = (zip.0.named, pieces-named known weighted lines pieces readings zip.1)
+    subst (λ lines. IsTaken names weighted lines w) (append_assoc earlier (flat_map lines_behind front) (lines_behind text) ∙ ap (λ l. earlier ++ l) (sym whole))
+    (step (earlier ++ flat_map lines_behind front) (lines_behind text) (so_far front others) own)
 
 -- pieces by their bytes
 pub pieces-bytes : {X : Type 0} (bytes : X → List ℕ) (R : List ℕ → Reading → Type 0) (pieces : List X) (readings : List Reading) → AllZip (λ piece reading. R (bytes piece) reading) pieces readings

@@ -3,3 +3,6 @@ mod JoiningLemmas
 mod CuttingLemmas
 mod PieceLemmas
 mod BehindLemmas
+mod BlockLemmas
+mod AddingLemmas
+mod RefusalLemmas

@@ -1,5 +1,5 @@
 -- Lemmas on the lines that were read, and on the first refusal.
-use Rattle.std.proofs.Common.{◌≡◌, ◌≢◌, ℕ, ◌+◌, ◌≤◌, ◌<◌, inl, inr, Bool, List, [], ◌∷◌, ◌++◌, map, length, refl, sym, ap, ◌∙◌, subst, arith, append_assoc, length-append}
+use Rattle.std.proofs.Common.{◌≡◌, ◌≢◌, ℕ, ◌+◌, ◌≤◌, ◌<◌, inl, inr, Bool, List, [], ◌∷◌, ◌++◌, map, length, Option, Some, None, IfSome, refl, sym, ap, ◌∙◌, subst, arith, append_assoc, length-append}
 use Rattle.std.specs.List.{AllByRecursion, Contains}
 use Rattle.std.proofs.lemmas.List.{append-nil, map-append, length-map, length_push}
 use Rattle.std.proofs.lemmas.List.Elements.{Contains-append_left, Contains-append_right, Contains-append_cases}
@@ -16,7 +16,7 @@ use Rattle.mine_model.specs.Limits.{most_file_bytes, most_sequences, most_items}
 use Rattle.mine_model.specs.Text.{lines_of, fields_of, placed_fields_of, bad_byte, long_name, IsSoundLine}
 use Rattle.mine_model.specs.Support.{Sequence}
 use Rattle.mine_model.specs.Names.{name_of, HasName, sequence_by, GrowBy}
-use Rattle.mine_model.specs.Refusal.{HasMoreNames, sequence_of, sequences_of_lines, items_of, IsBadWeight, IsSequenceLineRefusal, IsSequencesRefusal}
+use Rattle.mine_model.specs.Refusal.{HasMoreNames, sequence_of, sequences_of, sequences_of_lines, items_of, IsBadWeight, IsSequenceLineRefusal, IsSequencesRefusal}
 use Rattle.mine_model.proofs.ListLemmas.{of_both}
 use Rattle.mine_model.proofs.TextLemmas.{no_text_fault}
 use Rattle.mine_model.proofs.NameLemmas.{GrowBy-none, GrowBy-more, no_more_names}
@@ -214,53 +214,125 @@ module _ (known : List (List ℕ)) (weighted : Bool) where
       )
   line_refused lines v text NoMemory taken sound why apart = absurd (apart refl)
 
--- All lines
+-- Lines behind those that were taken
 
-module _ (reading after : Reading) (room : length reading.names ≤ most_items) (empty : reading.db ≡ []) where
-  start : IsTaken reading.names reading.weighted [] reading
-  start = IsTaken-start reading room empty
-
-  pub whole_taken : (lines : List (List ℕ)) → TookAll TookLine lines reading after → IsTaken reading.names reading.weighted lines after
-  whole_taken lines took = IsTaken-all reading.names reading.weighted [] lines 1 reading after start took.given
+module _ (known : List (List ℕ)) (weighted : Bool) (before : List (List ℕ)) (reading after : Reading) (start : IsTaken known weighted before reading) where
+  pub more_taken : (lines : List (List ℕ)) → TookAll TookLine lines reading after → IsTaken known weighted (before ++ lines) after
+  more_taken lines took = IsTaken-all known weighted before lines 1 reading after start took.given
 
   -- the first line that is refused
-  whole_refused : (lines earlier later : List (List ℕ)) (text : List ℕ) (between : Reading) (other : Fault) → lines ≡ earlier ++ text ∷ later → TookAll TookLine earlier reading between
-      → IsSequenceLineRefusal reading.weighted reading.names earlier text other
-      → FirstAmong (IsSequenceLineRefusal reading.weighted reading.names) [] lines other
-  whole_refused lines earlier later text between other cut took refusal =
-      subst (λ l. FirstAmong (IsSequenceLineRefusal reading.weighted reading.names) [] l other) (sym cut)
-      (first_behind reading.names reading.weighted [] earlier (text ∷ later) 1 reading between start took.given other (inl refusal))
+  more_refused : (lines earlier later : List (List ℕ)) (text : List ℕ) (between : Reading) (other : Fault) → lines ≡ earlier ++ text ∷ later → TookAll TookLine earlier reading between
+      → IsSequenceLineRefusal weighted known (before ++ earlier) text other
+      → FirstAmong (IsSequenceLineRefusal weighted known) before lines other
+  more_refused lines earlier later text between other cut took refusal =
+      subst (λ l. FirstAmong (IsSequenceLineRefusal weighted known) before l other) (sym cut)
+      (first_behind known weighted before earlier (text ∷ later) 1 reading between start took.given other (inl refusal))
 
   pub stopped_bad : (lines : List (List ℕ)) (line column : ℕ) → StoppedAt TookLine lines reading after bad_byte line column
-      → FirstAmong (IsSequenceLineRefusal reading.weighted reading.names) [] lines (fault.BadByte Sequences line column)
+      → FirstAmong (IsSequenceLineRefusal weighted known) before lines (fault.BadByte Sequences (length after.db + 1) column)
   stopped_bad lines line column stop =
-      whole_refused lines stop.earlier stop.later stop.text after _ stop.cut stop.taken (inl (column, inl (stop.stands, ap (λ n. fault.BadByte Sequences n column) stop.number)))
+      let count = counted known weighted (before ++ stop.earlier) after (more_taken stop.earlier stop.taken) in
+      more_refused lines stop.earlier stop.later stop.text after _ stop.cut stop.taken (inl (column, inl (stop.stands, ap (λ n. fault.BadByte Sequences (n + 1) column) count)))
 
   pub stopped_long : (lines : List (List ℕ)) (line column : ℕ) → StoppedAt TookLine lines reading after long_name line column
-      → FirstAmong (IsSequenceLineRefusal reading.weighted reading.names) [] lines (fault.NameTooLong Sequences line column)
+      → FirstAmong (IsSequenceLineRefusal weighted known) before lines (fault.NameTooLong Sequences (length after.db + 1) column)
   stopped_long lines line column stop =
-      whole_refused lines stop.earlier stop.later stop.text after _ stop.cut stop.taken (inl (column, inr (stop.stands, ap (λ n. fault.NameTooLong Sequences n column) stop.number)))
+      let count = counted known weighted (before ++ stop.earlier) after (more_taken stop.earlier stop.taken) in
+      more_refused lines stop.earlier stop.later stop.text after _ stop.cut stop.taken (inl (column, inr (stop.stands, ap (λ n. fault.NameTooLong Sequences (n + 1) column) count)))
 
+module _ (known : List (List ℕ)) (weighted : Bool) (before : List (List ℕ)) (reading after : Reading) (start : IsTaken known weighted before reading) where
   pub refused_line : (lines : List (List ℕ)) (why : SequenceFault) → Refused TookLine RefusedLine lines reading after why → why ≢ NoMemory
-      → FirstAmong (IsSequenceLineRefusal reading.weighted reading.names) [] lines (fault_of_sequences why)
+      → FirstAmong (IsSequenceLineRefusal weighted known) before lines (fault_of_sequences why)
   refused_line lines why refusal apart =
-      whole_refused lines refusal.earlier refusal.later refusal.text refusal.between _ refusal.cut refusal.taken
-      (line_refused reading.names reading.weighted refusal.earlier refusal.between refusal.text why
-      (IsTaken-all reading.names reading.weighted [] refusal.earlier 1 reading refusal.between start refusal.taken.given) refusal.sound refusal.answer.why apart)
+      let taken = more_taken known weighted before reading refusal.between start refusal.earlier refusal.taken in
+      let count = counted known weighted (before ++ refusal.earlier) refusal.between taken in
+      more_refused known weighted before reading refusal.between start lines refusal.earlier refusal.later refusal.text refusal.between _ refusal.cut refusal.taken
+      (line_refused known weighted (before ++ refusal.earlier) refusal.between refusal.text why taken refusal.sound
+      (subst (λ n. IsLineFault refusal.between (n + 1) refusal.text why) count refusal.answer.why) apart)
 
-  -- the old names stay in front
-  pub kept_all : (lines : List (List ℕ)) → TookAll TookLine lines reading after → (added : List (List ℕ)) × (after.names ≡ reading.names ++ added)
-  kept_all lines took = let taken = whole_taken lines took in (taken.grown.added, taken.grown.behind)
+-- The old names stay in front
 
-  pub kept_refused : (lines : List (List ℕ)) (why : SequenceFault) → Refused TookLine RefusedLine lines reading after why → (added : List (List ℕ)) × (after.names ≡ reading.names ++ added)
-  kept_refused lines why refusal =
-      let taken = IsTaken-all reading.names reading.weighted [] refusal.earlier 1 reading refusal.between start refusal.taken.given in (
-        taken.grown.added ++ refusal.answer.added,
-        refusal.answer.kept ∙ ap (λ w. w ++ refusal.answer.added) taken.grown.behind ∙ append_assoc reading.names taken.grown.added refusal.answer.added,
-      )
+given_kept : (lines : List (List ℕ)) (n : ℕ) (v w : Reading) → WasGiven TookLine n lines v w → (added : List (List ℕ)) × (w.names ≡ v.names ++ added)
+given_kept [] n v w same = ([], ap (λ (r : Reading). r.names) (sym same) ∙ sym (append-nil v.names))
+given_kept (text ∷ lines) n v w (between, took, given) =
+    let later = given_kept lines (n + 1) between w given in
+    (took.grown.added ++ later.0, later.1 ∙ ap (λ names. names ++ later.0) took.grown.behind ∙ append_assoc v.names took.grown.added later.0)
 
--- bytes of a file, whose lines were all taken, are not refused
-pub file_not_refused : (known : List (List ℕ)) (weighted : Bool) (bytes : List ℕ) (reading : Reading) → length bytes ≤ most_file_bytes → IsTaken known weighted (lines_of bytes) reading
-    → (other : Fault) → IsSequencesRefusal weighted known bytes other → ⊥
-file_not_refused known weighted bytes reading few taken other (inl large) = let over = large.0 in omega (arith, few, over)
-file_not_refused known weighted bytes reading few taken other (inr later) = none_refused known weighted (lines_of bytes) reading taken other later.1
+pub kept_all : (reading after : Reading) (lines : List (List ℕ)) → TookAll TookLine lines reading after → (added : List (List ℕ)) × (after.names ≡ reading.names ++ added)
+kept_all reading after lines took = given_kept lines 1 reading after took.given
+
+pub kept_refused : (reading after : Reading) (lines : List (List ℕ)) (why : SequenceFault) → Refused TookLine RefusedLine lines reading after why
+    → (added : List (List ℕ)) × (after.names ≡ reading.names ++ added)
+kept_refused reading after lines why refusal =
+    let taken = given_kept refusal.earlier 1 reading refusal.between refusal.taken.given in (
+      taken.0 ++ refusal.answer.added,
+      refusal.answer.kept ∙ ap (λ w. w ++ refusal.answer.added) taken.1 ∙ append_assoc reading.names taken.0 refusal.answer.added,
+    )
+
+-- The first refusal of lines, with other lines before and behind
+
+refused_among-from : (known : List (List ℕ)) (weighted : Bool) (all new : List (List ℕ)) → length all ≤ most_sequences → GrowBy known (items_of (sequences_of_lines weighted all)) new → length new ≤ most_items
+    → (earlier texts later : List (List ℕ)) → earlier ++ texts ≡ all → AllByRecursion (IsGoodLine weighted) texts
+    → (other : Fault) → FirstAmong (IsSequenceLineRefusal weighted known) all later other → FirstAmong (IsSequenceLineRefusal weighted known) earlier (texts ++ later) other
+refused_among-from known weighted all new few grown room earlier [] later is good other refusal =
+    subst (λ l. FirstAmong (IsSequenceLineRefusal weighted known) l later other) (sym is ∙ append-nil earlier) refusal
+refused_among-from known weighted all new few grown room earlier (text ∷ texts) later is good other refusal =
+    inr (
+      good_here known weighted all new few grown room earlier texts text is good.0,
+      refused_among-from known weighted all new few grown room (earlier ++ text ∷ []) texts later (append_assoc earlier (text ∷ []) texts ∙ is) good.1 other refusal,
+    )
+
+refused_behind : (known : List (List ℕ)) (weighted : Bool) (before texts later : List (List ℕ)) (other : Fault)
+    → FirstAmong (IsSequenceLineRefusal weighted known) before texts other → FirstAmong (IsSequenceLineRefusal weighted known) before (texts ++ later) other
+refused_behind known weighted before [] later other refusal = absurd refusal
+refused_behind known weighted before (text ∷ texts) later other (inl here) = inl here
+refused_behind known weighted before (text ∷ texts) later other (inr more) = inr (more.0, refused_behind known weighted (before ++ text ∷ []) texts later other more.1)
+
+-- the first refusal behind lines that were taken is the first of all
+pub refused_among : (known : List (List ℕ)) (weighted : Bool) (before texts later : List (List ℕ)) (v : Reading) → IsTaken known weighted before v
+    → (other : Fault) → FirstAmong (IsSequenceLineRefusal weighted known) before texts other
+    → FirstAmong (IsSequenceLineRefusal weighted known) [] (before ++ texts ++ later) other
+refused_among known weighted before texts later v taken other refusal =
+    subst (λ l. FirstAmong (IsSequenceLineRefusal weighted known) [] l other) (sym (append_assoc before texts later))
+    (refused_among-from known weighted before v.names taken.few taken.grown taken.room [] before (texts ++ later) refl taken.good other
+    (refused_behind known weighted before texts later other refusal))
+
+-- the same names and sequences
+pub IsTaken-same : (known : List (List ℕ)) (weighted : Bool) (lines : List (List ℕ)) (v w : Reading) → w.names ≡ v.names → w.db ≡ v.db → w.weighted ≡ v.weighted
+    → IsTaken known weighted lines v → IsTaken known weighted lines w
+IsTaken-same known weighted lines v w names db same taken = record {
+  same = same ∙ taken.same;
+  good = taken.good;
+  few = taken.few;
+  grown = subst (λ n. GrowBy known (items_of (sequences_of_lines weighted lines)) n) (sym names) taken.grown;
+  room = subst (λ (n : List (List ℕ)). length n ≤ most_items) (sym names) taken.room;
+  named =
+      subst (AllByRecursion (λ (sequence : Sequence Item). AllByRecursion (HasName w.names) sequence.items)) (sym db)
+      (subst (λ n. AllByRecursion (λ (sequence : Sequence Item). AllByRecursion (HasName n) sequence.items) v.db) (sym names) taken.named);
+  said =
+      ap (map (sequence_by (name_of w.names))) db
+      ∙ subst (λ n. map (sequence_by (name_of n)) v.db ≡ sequences_of_lines weighted lines) (sym names) taken.said;
+}
+
+-- Lines of a file that were all taken
+
+module _ (known : List (List ℕ)) (weighted : Bool) (reading : Reading) (lines : List (List ℕ)) (taken : IsTaken known weighted lines reading) where
+  pub file-said : (told : Option (List ℕ)) → IfSome told (λ whole. (lines_of whole ≡ lines) × (length whole ≤ most_file_bytes))
+      → IfSome told (λ bytes. map (sequence_by (name_of reading.names)) reading.db ≡ sequences_of weighted bytes)
+  file-said None is = tt
+  file-said (Some whole) is = taken.said ∙ ap (sequences_of_lines weighted) (sym is.0)
+
+  pub file-grown : (told : Option (List ℕ)) → IfSome told (λ whole. (lines_of whole ≡ lines) × (length whole ≤ most_file_bytes))
+      → IfSome told (λ bytes. GrowBy known (items_of (sequences_of weighted bytes)) reading.names)
+  file-grown None is = tt
+  file-grown (Some whole) is = subst (λ l. GrowBy known (items_of (sequences_of_lines weighted l)) reading.names) (sym is.0) taken.grown
+
+  not_refused : (whole : List ℕ) → lines_of whole ≡ lines → length whole ≤ most_file_bytes → (other : Fault) → IsSequencesRefusal weighted known whole other → ⊥
+  not_refused whole is few other (inl large) = let over = large.0 in omega (arith, over, few)
+  not_refused whole is few other (inr later) =
+      none_refused known weighted lines reading taken other (subst (λ l. FirstAmong (IsSequenceLineRefusal weighted known) [] l other) is later.1)
+
+  pub file-accepted : (told : Option (List ℕ)) → IfSome told (λ whole. (lines_of whole ≡ lines) × (length whole ≤ most_file_bytes))
+      → IfSome told (λ bytes. (fault : Fault) → IsSequencesRefusal weighted known bytes fault → ⊥)
+  file-accepted None is = tt
+  file-accepted (Some whole) is = not_refused whole is.0 is.1

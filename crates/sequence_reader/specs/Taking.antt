@@ -1,6 +1,6 @@
 -- How a line becomes a sequence, and why it is refused.
-use Rattle.std.specs.Prelude.{◌≡◌, ℕ, zero, suc, ◌≤◌, ◌<◌, Bool, List, [], ◌∷◌, ◌++◌, map, length}
-use Rattle.std.specs.List.{AllByRecursion, slice_index_or}
+use Rattle.std.specs.Prelude.{◌≡◌, ℕ, zero, suc, ◌+◌, ◌≤◌, ◌<◌, Bool, List, [], ◌∷◌, ◌++◌, map, length}
+use Rattle.std.specs.List.{AllByRecursion, flat_map, slice_index_or}
 use Rattle.mine_model.specs.declared.item.Item.{Item}
 use Rattle.sequence_reader.specs.declared.sequence_fault.SequenceFault.{SequenceFault}
 use Rattle.sequence_reader.specs.declared.sequence_fault.SequenceFault.TheVariants.{ReadFault, TooLarge, BadByte, NameTooLong, TooManySequences, BadWeight, TooLong, TooManyItems, NoMemory}
@@ -11,6 +11,7 @@ use Rattle.mine_model.specs.Names.{name_of, HasName, sequence_by, GrowBy}
 use Rattle.mine_model.specs.Refusal.{sequence_of, sequences_of_lines, items_of, IsBadWeight, HasMoreNames}
 use Rattle.sequence_reader.specs.declared.reading.Reading.{Reading}
 use Rattle.sequence_reader.specs.declared.piece.Piece.{Piece}
+use Rattle.sequence_reader.specs.declared.joining.Waiting.{Waiting}
 
 -- the sequence that a line says to a reader
 abbrev pub said_to : Reading → List ℕ → Sequence (List ℕ)
@@ -53,11 +54,11 @@ IsLineFault before number text (TooManyItems line) =
     × HasMoreNames most_items (before.names ++ (said_to before text).items)
 IsLineFault before number text NoMemory = Unit {0}
 
--- the line was refused, and the old names stay in front
+-- the line was refused, and the old names stay in front; its number is that of the next sequence
 pub record RefusedLine (before : Reading) (number : ℕ) (text : List ℕ) (fault : SequenceFault)
     (after : Reading)
     : Type 0 where
-  pub why : IsLineFault before number text fault
+  pub why : IsLineFault before (length before.db + 1) text fault
   pub added : List (List ℕ)
   pub kept : after.names ≡ before.names ++ added
 
@@ -100,3 +101,19 @@ pub record TookPieceLine (before : Piece) (number : ℕ) (text : List ℕ) (afte
 abbrev pub numbers_below : ℕ → List Item
 numbers_below zero = []
 numbers_below (suc n) = numbers_below n ++ (record { 0 = n }) ∷ []
+
+-- the sequences of a piece by the numbers that its items have got
+abbrev pub sequences_waiting : Waiting → List (Sequence Item)
+sequences_waiting piece = map (sequence_by (renumbered (numbers_below piece.known ++ piece.own.items))) piece.db
+
+abbrev pub all_waiting : List Waiting → List (Sequence Item)
+all_waiting pieces = flat_map sequences_waiting pieces
+
+-- the same with the sequences that wait behind the others
+abbrev pub with_waiting : Reading → List Waiting → Reading
+with_waiting reading pieces = record {
+  weighted = reading.weighted;
+  names = reading.names;
+  items = reading.items;
+  db = reading.db ++ all_waiting pieces;
+}

@@ -1,185 +1,180 @@
 //! Joins what was read of pieces.
 
-ghost use Rattle.std.specs.Prelude.{◌≡◌, ℕ, ◌+◌, ◌≤◌, ◌<◌, ◌++◌, Bool, true, List, [], map, Ok, length, slice_index_or, IsTrue, OnOk};
+ghost use Rattle.std.specs.Prelude.{◌≡◌, ℕ, ◌+◌, ◌≤◌, ◌<◌, ◌++◌, Bool, true, false, List, [], ◌∷◌, map, Ok, length, OnOk, OnErr};
 ghost use Rattle.std.specs.List.{AllByRecursion, AllZip, flat_map};
-ghost use Rattle.mine_model.specs.Limits.{most_sequences, most_items};
-ghost use Rattle.mine_model.specs.Names.{HasName, sequence_by};
+ghost use Rattle.mine_model.specs.Limits.{most_sequences};
+ghost use Rattle.mine_model.specs.Names.{sequence_by};
 ghost use Rattle.text_ports.specs.Scanning.{lines_behind};
-ghost use Rattle.sequence_reader.specs.Taking.{behind, IsTaken, numbers_below, renumbered};
+ghost use Rattle.sequence_reader.specs.Taking.{behind, IsTaken, numbers_below, renumbered, sequences_waiting, all_waiting, with_waiting};
 
 use super::reading::{MOST_SEQUENCES, Reading};
 use item_names::NamesFault;
 use mine_model::{Db, Item, NoMemory};
 use std::alloc::Global;
 
-/// Appends what was read of pieces by the names of all so far and names of their own, one after another. The
-/// answer is whether all stays within the limits. Where it does not, some of the names may be appended.
-pub(crate) fn append_all(
+/// What was read of a piece by so many known names, the first of all, and names of its own, which have got
+/// these numbers.
+#[derive(Debug, Drop)]
+pub(crate) struct Waiting {
+    known: u32,
+    own: Vec<Item>,
+    db: Db,
+}
+
+/// Gives numbers to the own names of what was read of pieces by the names of all so far. The answer is
+/// whether all stays within the limits. Where it does not, nothing is changed.
+pub(crate) fn number_all(
     alloc: Global,
     all: &mut Reading,
     readings: Vec<Reading>,
+    waiting: &mut Vec<Waiting>,
 ) -> Result<bool, NoMemory>
-    requires named { AllByRecursion (λ reading. AllByRecursion (λ sequence.
-        AllByRecursion (HasName (all.old.names ++ reading.names)) sequence.items) reading.db) readings.items }
-    requires room { length all.old.names ≤ most_items }
-    requires empty { all.old.db ≡ [] }
-    ensures joined { result ≡ Ok true → (texts : List (List ℕ))
+    requires none { waiting.old.items ≡ [] }
+    ensures joined { result ≡ Ok true → (known earlier texts : List (List ℕ)) (weighted : Bool)
+        → IsTaken known weighted earlier all.old
         → AllZip (λ text reading.
-        IsTaken all.old.names all.old.weighted (lines_behind text) (behind all.old.names reading))
+        IsTaken all.old.names weighted (lines_behind text) (behind all.old.names reading))
         texts readings.items
-        → IsTaken all.old.names all.old.weighted (flat_map lines_behind texts) all.new }
+        → IsTaken known weighted (earlier ++ flat_map lines_behind texts)
+        (with_waiting all.new waiting.new.items) }
+    ensures room { OnOk result
+        (length all.new.db + length (all_waiting waiting.new.items) ≤ most_sequences) }
+    ensures refused { result ≡ Ok false → all.new.names ≡ all.old.names }
+    ensures none { result ≡ Ok false → waiting.new.items ≡ [] }
     ensures kept { (added : List (List ℕ)) × (all.new.names ≡ all.old.names ++ added) }
+    ensures same_db { all.new.db ≡ all.old.db }
     ensures same { all.new.weighted ≡ all.old.weighted }
 {
     let known = all.names.count();
-    let mut numbers = Numbers {
-        own: Vec::new(alloc),
-        all: Vec::new(alloc),
-    };
+    let mut count = all.db.sequences();
     'readings: for reading in readings {
-        if !append(all, known, reading, &mut numbers)? {
-            return Ok(false);
+        let more = reading.db.sequences();
+        if more > MOST_SEQUENCES - count {
+            return take_back(alloc, all, known, waiting);
         }
+        if !number(alloc, all, known, reading, waiting)? {
+            return take_back(alloc, all, known, waiting);
+        }
+        count += more;
     }
     Ok(true)
 }
 
-/// The numbers that names of a piece get: its own ones, and these behind the known ones.
-#[derive(Debug, Drop)]
-struct Numbers {
-    own: Vec<Item>,
-    all: Vec<Item>,
-}
-
-/// Appends what was read of a piece by so many known names, the first of all, and names of its own. The
-/// answer is whether all stays within the limits. Where it does not, some of the names may be appended.
-fn append(
+/// Gives numbers to the own names of what was read of a piece by so many known names, the first of all. The
+/// answer is whether they are not too many. Where they are, some of the names may be appended.
+fn number(
+    alloc: Global,
     all: &mut Reading,
     known: u32,
     piece: Reading,
-    numbers: &mut Numbers,
+    waiting: &mut Vec<Waiting>,
 ) -> Result<bool, NoMemory>
-    requires { AllByRecursion (λ sequence. AllByRecursion
-        (λ item. item.0 < known + length piece.names) sequence.items) piece.db }
-    ensures joined { result ≡ Ok true → (names earlier lines : List (List ℕ)) (weighted : Bool)
-        → length names ≡ known → IsTaken names weighted earlier all.old
-        → IsTaken names weighted lines (behind names piece)
-        → IsTaken names weighted (earlier ++ lines) all.new }
+    requires few { length all.old.db + length (all_waiting waiting.old.items) + length piece.db
+        ≤ most_sequences }
+    ensures joined { result ≡ Ok true → (names old earlier lines added : List (List ℕ)) (weighted : Bool)
+        → length old ≡ known → all.old.names ≡ old ++ added
+        → IsTaken names weighted earlier (with_waiting all.old waiting.old.items)
+        → IsTaken old weighted lines (behind old piece)
+        → IsTaken names weighted (earlier ++ lines) (with_waiting all.new waiting.new.items) }
+    ensures more { OnOk result (length (all_waiting waiting.new.items)
+        ≤ length (all_waiting waiting.old.items) + length piece.db) }
+    ensures as_many { result ≡ Ok true → length (all_waiting waiting.new.items)
+        ≡ length (all_waiting waiting.old.items) + length piece.db }
     ensures kept { (added : List (List ℕ)) × (all.new.names ≡ all.old.names ++ added) }
+    ensures same_db { all.new.db ≡ all.old.db }
     ensures same { all.new.weighted ≡ all.old.weighted }
 {
-    if piece.db.sequences() > MOST_SEQUENCES - all.db.sequences() {
-        return Ok(false);
-    }
-    match all.names.intern_all(&piece.names, &mut numbers.own) {
+    let mut own = Vec::new(alloc);
+    match all.names.intern_all(&piece.names, &mut own) {
         Ok(()) => {}
         Err(NamesFault::TooMany) => return Ok(false),
         Err(NamesFault::NoMemory) => return Err(NoMemory),
     }
-    number_all(known, numbers.own.as_slice(), &mut numbers.all)?;
-    append_sequences(
-        &mut all.db,
-        piece.db,
-        numbers.all.as_slice(),
-        &mut all.items,
-    )?;
+    waiting.push(Waiting {
+        known,
+        own,
+        db: piece.db,
+    })?;
     Ok(true)
 }
 
-/// Leaves the numbers of so many known names, which they keep, and those of others behind them.
-fn number_all(known: u32, own: &[Item], numbers: &mut Vec<Item>) -> Result<(), NoMemory>
-    ensures { OnOk result (numbers.new.items ≡ numbers_below known ++ own.now) }
+/// Leaves the first names, so many of them, and nothing that waits. The answer is false.
+fn take_back(
+    alloc: Global,
+    all: &mut Reading,
+    known: u32,
+    waiting: &mut Vec<Waiting>,
+) -> Result<bool, NoMemory>
+    requires { (first added : List (List ℕ)) × (length first ≡ known) × (all.old.names ≡ first ++ added) }
+    ensures answer { OnOk result (result ≡ Ok false) }
+    ensures back { result ≡ Ok false → (first added : List (List ℕ)) → length first ≡ known
+        → all.old.names ≡ first ++ added → all.new.names ≡ first }
+    ensures none { OnOk result (waiting.new.items ≡ []) }
+    ensures kept { (first added : List (List ℕ)) → length first ≡ known → all.old.names ≡ first ++ added
+        → (more : List (List ℕ)) × (all.new.names ≡ first ++ more) }
+    ensures same_db { all.new.db ≡ all.old.db }
+    ensures same { all.new.weighted ≡ all.old.weighted }
 {
-    numbers.clear();
-    for number in 0..known {
-        numbers.push(Item(number))?;
+    match all.names.first(alloc, known) {
+        Ok(names) => all.names = names,
+        Err(_) => return Err(NoMemory),
     }
-    numbers.extend_from_slice(own)?;
-    Ok(())
+    waiting.clear();
+    Ok(false)
 }
 
-/// Appends sequences whose items get these numbers. `items` is where the items of a sequence are collected.
-fn append_sequences(
+/// Appends the sequences that wait. `items` is where the items of a sequence are collected.
+pub(crate) fn append_waiting(
     db: &mut Db,
-    more: Db,
-    numbers: &[Item],
+    waiting: &[Waiting],
     items: &mut Vec<Item>,
 ) -> Result<(), NoMemory>
-    requires within { AllByRecursion
-        (λ sequence. AllByRecursion (λ item. item.0 < length numbers.now) sequence.items) more }
-    requires room { length db.old + length more ≤ most_sequences }
-    ensures { OnOk result (db.new ≡ db.old ++ map (sequence_by (renumbered numbers.now)) more) }
+    requires { length db.old + length (all_waiting waiting.now) ≤ most_sequences }
+    ensures { OnOk result (db.new ≡ db.old ++ all_waiting waiting.now) }
 {
-    if are_kept(numbers) {
-        append_kept(db, more)
-    } else {
-        append_renumbered(db, &more, numbers, items)
-    }
-}
-
-/// Whether each number is that of its place.
-fn are_kept(numbers: &[Item]) -> bool
-    ensures { IsTrue result → (k : ℕ) → k < length numbers.now
-        → slice_index_or numbers.now k (record { 0 = 0 }) ≡ record { 0 = k } }
-{
-    for place in 0..numbers.len() {
-        if numbers[place].0 as usize != place {
-            return false;
-        }
-    }
-    true
-}
-
-/// Appends sequences. Where there are none before, they are taken as they lie in memory.
-fn append_kept(db: &mut Db, more: Db) -> Result<(), NoMemory>
-    requires { length db.old + length more ≤ most_sequences }
-    ensures { OnOk result (db.new ≡ db.old ++ more) }
-{
-    if db.sequences() == 0 {
-        *db = more;
-        return Ok(());
-    }
-    append_as_they_are(db, &more)
-}
-
-/// Appends sequences one by one.
-fn append_as_they_are(db: &mut Db, more: &Db) -> Result<(), NoMemory>
-    requires { length db.old + length more.now ≤ most_sequences }
-    ensures { OnOk result (db.new ≡ db.old ++ more.now) }
-{
-    for i in 0..more.sequences() {
-        db.push_weighted(more.sequence(i), more.weight(i))?;
+    for piece in waiting {
+        append_sequences(db, piece, items)?;
     }
     Ok(())
 }
 
-/// Appends sequences whose items get these numbers. `items` is where the items of a sequence are collected.
-fn append_renumbered(
-    db: &mut Db,
-    more: &Db,
-    numbers: &[Item],
-    items: &mut Vec<Item>,
-) -> Result<(), NoMemory>
-    requires within { AllByRecursion
-        (λ sequence. AllByRecursion (λ item. item.0 < length numbers.now) sequence.items) more.now }
-    requires room { length db.old + length more.now ≤ most_sequences }
-    ensures { OnOk result (db.new ≡ db.old ++ map (sequence_by (renumbered numbers.now)) more.now) }
+/// Appends the sequences of a piece, whose items get the numbers of all. `items` is where the items of a
+/// sequence are collected.
+fn append_sequences(db: &mut Db, piece: &Waiting, items: &mut Vec<Item>) -> Result<(), NoMemory>
+    requires { length db.old + length piece.now.db ≤ most_sequences }
+    ensures { OnOk result (db.new ≡ db.old ++ sequences_waiting piece.now) }
 {
-    for i in 0..more.sequences() {
-        renumber(more.sequence(i), numbers, items)?;
-        db.push_weighted(items.as_slice(), more.weight(i))?;
+    for i in 0..piece.db.sequences() {
+        renumber(piece.db.sequence(i), piece, items)?;
+        db.push_weighted(items.as_slice(), piece.db.weight(i))?;
     }
     Ok(())
 }
 
-/// Leaves the items of a sequence with the numbers that they get.
-fn renumber(sequence: &[Item], numbers: &[Item], items: &mut Vec<Item>) -> Result<(), NoMemory>
-    requires { AllByRecursion (λ item. item.0 < length numbers.now) sequence.now }
-    ensures { OnOk result (items.new.items ≡ map (renumbered numbers.now) sequence.now) }
+/// Leaves the items of a sequence of a piece with the numbers that they have got.
+fn renumber(sequence: &[Item], piece: &Waiting, items: &mut Vec<Item>) -> Result<(), NoMemory>
+    ensures { OnOk result (items.new.items
+        ≡ map (renumbered (numbers_below piece.now.known ++ piece.now.own.items)) sequence.now) }
 {
     items.clear();
     for item in sequence {
-        items.push(numbers[item.0 as usize])?;
+        items.push(new_number(*item, piece.known, piece.own.as_slice()))?;
     }
     Ok(())
+}
+
+/// The number that an item has got: so many known ones keep theirs, and the others are looked up.
+#[inline(always)]
+fn new_number(item: Item, known: u32, own: &[Item]) -> Item
+    ensures { result ≡ renumbered (numbers_below known ++ own.now) item }
+{
+    if item.0 < known {
+        return item;
+    }
+    let place = (item.0 - known) as usize;
+    if place < own.len() {
+        own[place]
+    } else {
+        Item(0)
+    }
 }

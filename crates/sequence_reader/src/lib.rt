@@ -1,6 +1,7 @@
 //! Reads a sequence file.
 #![tactic(auto)]
 
+mod block;
 mod cutting;
 mod joining;
 mod piece;

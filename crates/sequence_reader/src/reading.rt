@@ -1,18 +1,22 @@
-ghost use Rattle.std.specs.Prelude.{◌≡◌, ◌≢◌, ℕ, ◌≤◌, ◌<◌, List, [], ◌++◌, map, take, Err, length, All, IsTrue, IfOk, IfErr, OnOk, OnErr, IfSome};
+ghost use Rattle.std.specs.Prelude.{◌≡◌, ◌≢◌, ℕ, ◌+◌, ◌≤◌, ◌<◌, ◌⊎◌, Bool, true, false, List, [], Option, ◌++◌, map, Ok, Err, length, All, IsTrue, IfOk, IfErr, OnOk, IfSome};
 ghost use Rattle.std.specs.List.{AllByRecursion};
 ghost use Rattle.mine_model.specs.declared.fault.Fault.{Fault};
 ghost use Rattle.mine_model.specs.First.{FirstAmong};
 ghost use Rattle.mine_model.specs.Limits.{most_file_bytes, most_items, most_sequences, most_length, most_weight};
-ghost use Rattle.sequence_reader.specs.Faults.{fault_of_sequences};
+ghost use Rattle.sequence_reader.specs.Faults.{fault_of_sequences, IsReadingFault};
 ghost use Rattle.mine_model.specs.Names.{name_of, HasName, sequence_by, GrowBy};
 ghost use Rattle.mine_model.specs.Refusal.{sequences_of, items_of, IsSequenceLineRefusal, IsSequencesRefusal};
+ghost use Rattle.mine_model.specs.Text.{lines_of};
 ghost use Rattle.text_ports.specs.Faults.{Rose};
 ghost use Rattle.text_ports.specs.Lines.{AreFields, IsWithin};
 ghost use Rattle.text_ports.specs.Scanning.{lines_behind};
 ghost use Rattle.item_names.specs.Fields.{texts_at};
-ghost use Rattle.sequence_reader.specs.Taking.{said_to, IsWeighed, IsLineFault, TookLine, RefusedLine, IsTaken};
+ghost use Rattle.sequence_reader.specs.Blocks.{text_of, IsBlock, IsNext, IsAt};
+ghost use Rattle.sequence_reader.specs.Taking.{said_to, IsWeighed, IsLineFault, TookLine, RefusedLine, IsTaken, all_waiting, with_waiting};
 
-use super::pieces::read_in_pieces;
+use super::block::Block;
+use super::joining::{Waiting, append_waiting};
+use super::pieces::{append_and_follow, read_in_pieces};
 use super::sequence_fault::SequenceFault;
 use super::weighing::{Weighed, weigh};
 use item_names::{MOST_NAMES, Names, NamesFault};
@@ -20,9 +24,7 @@ use mine_model::{Db, Item, NoMemory};
 use std::alloc::Global;
 use std::mem;
 use std::thread::Threads;
-use text_ports::{
-    Files, LineVisitor, ReadFault, Span, TextFault, read_file, visit_lines, without_mark,
-};
+use text_ports::{Failed, Files, LineVisitor, Span, TextFault, visit_lines};
 
 /// The most sequences of a file.
 pub(crate) const MOST_SEQUENCES: u32 = 4_194_304;
@@ -30,8 +32,11 @@ pub(crate) const MOST_SEQUENCES: u32 = 4_194_304;
 /// The most items of a sequence.
 const MOST_LENGTH: usize = 65_535;
 
-/// Bytes below these are not worth pieces.
+/// Bytes below these are not worth pieces. One worker reads so many at once.
 const LEAST_BYTES: usize = 1_048_576;
+
+/// So many bytes are read at once where several workers share them.
+const SHARED_BYTES: usize = 4_194_304;
 
 /// What was read so far. `items` is where the items of a line are collected.
 #[derive(Debug, Drop)]
@@ -49,7 +54,8 @@ impl LineVisitor for Reading {
 
     ghost refused = { RefusedLine };
 
-    fn line(&mut self, number: u64, text: &[u8], fields: &[Span]) -> Result<(), SequenceFault> {
+    fn line(&mut self, _number: u64, text: &[u8], fields: &[Span]) -> Result<(), SequenceFault> {
+        let number = self.next_number();
         let line = self.next_line(number, text, fields)?;
         let items = &mut self.items;
         match self.names.intern_fields(text, line.items, items) {
@@ -63,6 +69,13 @@ impl LineVisitor for Reading {
 }
 
 impl Reading {
+    /// The number of the next line: each line became one sequence.
+    fn next_number(&self) -> u64
+        ensures { result ≡ length self.now.db + 1 }
+    {
+        u64::from(self.db.sequences()) + 1
+    }
+
     /// The next line, where there is room for it and nothing is wrong with it but perhaps its names.
     pub(crate) fn next_line<'a>(
         &self,
@@ -126,13 +139,10 @@ pub fn read<R: Threads + Sync, F: Files>(
     ensures same_files { F.holds files.new ≡ F.holds files.old }
     ensures never_falls { F.faults files.old ≤ F.faults files.new }
 {
-    let bytes = match read_file(alloc, files, name) {
-        Ok(bytes) => bytes,
-        Err(ReadFault::Failed) => return Err(SequenceFault::ReadFault),
-        Err(ReadFault::TooLarge) => return Err(SequenceFault::TooLarge),
-        Err(ReadFault::NoMemory) => return Err(SequenceFault::NoMemory),
-    };
-    prove!(names.count() <= MOST_NAMES);
+    match files.open(name) {
+        Ok(()) => {}
+        Err(Failed) => return Err(SequenceFault::ReadFault),
+    }
     let no_names = Names::new(alloc)?;
     let mut reading = Reading {
         weighted,
@@ -140,13 +150,7 @@ pub fn read<R: Threads + Sync, F: Files>(
         items: Vec::new(alloc),
         db: Db::new(alloc),
     };
-    let outcome = read_bytes(
-        rt,
-        workers,
-        alloc,
-        without_mark(bytes.as_slice()),
-        &mut reading,
-    );
+    let outcome = read_blocks(rt, workers, alloc, files, &mut reading);
     *names = reading.names;
     match outcome {
         Ok(()) => Ok(reading.db),
@@ -154,65 +158,213 @@ pub fn read<R: Threads + Sync, F: Files>(
     }
 }
 
-/// Reads bytes into what was read so far, which has no sequence yet: in pieces where that pays and all of
-/// them are accepted, and else in order.
-fn read_bytes<R: Threads + Sync>(
+/// How many bytes are read at once.
+fn block_bytes(workers: u32) -> usize
+    ensures { 0 < result }
+{
+    if workers > 1 {
+        SHARED_BYTES
+    } else {
+        LEAST_BYTES
+    }
+}
+
+/// Reads the file that was opened, by blocks, into what was read so far, which has no sequence yet.
+fn read_blocks<R: Threads + Sync, F: Files>(
     rt: &R,
     workers: u32,
     alloc: Global,
-    bytes: &[u8],
+    files: &mut F,
     reading: &mut Reading,
 ) -> Result<(), SequenceFault>
-    requires few { length bytes.now ≤ most_file_bytes }
-    requires room { length reading.old.names ≤ most_items }
     requires empty { reading.old.db ≡ [] }
-    ensures taken { OnOk result
-        (IsTaken reading.old.names reading.old.weighted (lines_behind bytes.now) reading.new) }
-    ensures refused { (fault : SequenceFault) → result ≡ Err fault → fault ≢ SequenceFault.NoMemory
-        → FirstAmong (IsSequenceLineRefusal reading.old.weighted reading.old.names) []
-        (lines_behind bytes.now) (fault_of_sequences fault) }
-    ensures read { result ≢ Err SequenceFault.ReadFault }
+    ensures taken { OnOk result ((lines : List (List ℕ))
+        × IsTaken reading.old.names reading.old.weighted lines reading.new
+        × IfSome (F.left files.old) (λ whole. (lines_of whole ≡ lines) × (length whole ≤ most_file_bytes))) }
+    ensures refused { (fault : SequenceFault) → result ≡ Err fault
+        → fault ≢ SequenceFault.ReadFault → fault ≢ SequenceFault.NoMemory
+        → IfSome (F.left files.old) (λ whole.
+        IsSequencesRefusal reading.old.weighted reading.old.names whole (fault_of_sequences fault)) }
+    ensures failed { result ≡ Err SequenceFault.ReadFault → Rose (F.faults files.old) (F.faults files.new) }
     ensures kept { (added : List (List ℕ)) × (reading.new.names ≡ reading.old.names ++ added) }
+    ensures same_names { F.may files.new ≡ F.may files.old }
+    ensures same_files { F.holds files.new ≡ F.holds files.old }
+    ensures never_falls { F.faults files.old ≤ F.faults files.new }
 {
-    if workers > 1 && bytes.len() >= LEAST_BYTES {
-        let known = reading.names.count();
-        if read_in_pieces(rt, workers, alloc, bytes, reading)? {
-            return Ok(());
-        }
-        begin_again(alloc, known, reading)?;
+    prove!(reading.names.count() <= MOST_NAMES);
+    let size = block_bytes(workers);
+    let mut block = Block::new(alloc, size)?;
+    let mut next = Block::new(alloc, size)?;
+    let mut waiting = Vec::new(alloc);
+    match block.begin(files) {
+        Ok(()) => {}
+        Err(fault) => return Err(SequenceFault::from(fault)),
     }
-    read_in_order(alloc, bytes, reading)
-}
-
-/// Leaves the first names, so many of them, and no sequence.
-fn begin_again(alloc: Global, known: u32, reading: &mut Reading) -> Result<(), NoMemory>
-    requires { known ≤ length reading.old.names }
-    ensures names { OnOk result (reading.new.names ≡ take known reading.old.names) }
-    ensures empty { OnOk result (reading.new.db ≡ []) }
-    ensures same { reading.new.weighted ≡ reading.old.weighted }
-    ensures kept { OnErr result (reading.new.names ≡ reading.old.names) }
-{
-    match reading.names.first(alloc, known) {
-        Ok(names) => reading.names = names,
-        Err(_) => return Err(NoMemory),
+    while !block.is_last() {
+        read_block(
+            rt,
+            workers,
+            alloc,
+            files,
+            &block,
+            &mut next,
+            reading,
+            &mut waiting,
+        )?;
+        mem::swap(&mut block, &mut next);
     }
-    reading.db = Db::new(alloc);
+    read_block(
+        rt,
+        workers,
+        alloc,
+        files,
+        &block,
+        &mut next,
+        reading,
+        &mut waiting,
+    )?;
+    append_waiting(&mut reading.db, waiting.as_slice(), &mut reading.items)?;
     Ok(())
 }
 
-/// Reads bytes line by line into what was read so far, which has no sequence yet.
+/// Reads the lines of a block behind what was read so far, where some sequences may wait: in pieces where
+/// that pays and all of them are accepted, and else in order. And reads the next block.
+fn read_block<R: Threads + Sync, F: Files>(
+    rt: &R,
+    workers: u32,
+    alloc: Global,
+    files: &mut F,
+    block: &Block,
+    next: &mut Block,
+    reading: &mut Reading,
+    waiting: &mut Vec<Waiting>,
+) -> Result<(), SequenceFault>
+    requires block { IsBlock block.now }
+    requires buffer { 0 < length next.old.buffer.items }
+    requires room { length reading.old.db + length (all_waiting waiting.old.items) ≤ most_sequences }
+    ensures taken { OnOk result ((known lines : List (List ℕ)) (weighted : Bool)
+        → IsTaken known weighted lines (with_waiting reading.old waiting.old.items)
+        → IsTaken known weighted (lines ++ lines_behind (text_of block.now))
+        (with_waiting reading.new waiting.new.items)) }
+    ensures refused { (fault : SequenceFault) → result ≡ Err fault
+        → fault ≢ SequenceFault.ReadFault → fault ≢ SequenceFault.NoMemory
+        → (told : Option (List ℕ)) (known lines : List (List ℕ)) (weighted : Bool)
+        → IsAt told (F.left files.old) lines block.now
+        → IsTaken known weighted lines (with_waiting reading.old waiting.old.items)
+        → IfSome told (λ whole. IsSequencesRefusal weighted known whole (fault_of_sequences fault)) }
+    ensures failed { result ≡ Err SequenceFault.ReadFault → Rose (F.faults files.old) (F.faults files.new) }
+    ensures room { OnOk result
+        (length reading.new.db + length (all_waiting waiting.new.items) ≤ most_sequences) }
+    ensures kept { (added : List (List ℕ)) × (reading.new.names ≡ reading.old.names ++ added) }
+    ensures block { OnOk result (IsNext block.now next.new) }
+    ensures at { OnOk result ((told : Option (List ℕ)) (lines : List (List ℕ))
+        → IsAt told (F.left files.old) lines block.now
+        → IsAt told (F.left files.new) (lines ++ lines_behind (text_of block.now)) next.new) }
+    ensures same_names { F.may files.new ≡ F.may files.old }
+    ensures same_files { F.holds files.new ≡ F.holds files.old }
+    ensures never_falls { F.faults files.old ≤ F.faults files.new }
+{
+    if read_apart(rt, workers, alloc, files, block, next, reading, waiting)? {
+        return Ok(());
+    }
+    match read_in_order(alloc, block.text(), reading) {
+        Ok(()) => {
+            prove!(reading.db.sequences() <= MOST_SEQUENCES);
+            Ok(())
+        }
+        Err(fault) => Err(refusal(files, next, fault)),
+    }
+}
+
+/// Reads the next block. Beside it the lines of this one are read in pieces, behind what was read so far,
+/// where that pays. The answer is whether they were and all of them were accepted. Else no sequence waits.
+fn read_apart<R: Threads + Sync, F: Files>(
+    rt: &R,
+    workers: u32,
+    alloc: Global,
+    files: &mut F,
+    block: &Block,
+    next: &mut Block,
+    reading: &mut Reading,
+    waiting: &mut Vec<Waiting>,
+) -> Result<bool, SequenceFault>
+    requires block { IsBlock block.now }
+    requires buffer { 0 < length next.old.buffer.items }
+    requires room { length reading.old.db + length (all_waiting waiting.old.items) ≤ most_sequences }
+    ensures taken { result ≡ Ok true → (known lines : List (List ℕ)) (weighted : Bool)
+        → IsTaken known weighted lines (with_waiting reading.old waiting.old.items)
+        → IsTaken known weighted (lines ++ lines_behind (text_of block.now))
+        (with_waiting reading.new waiting.new.items) }
+    ensures untaken { result ≡ Ok false → (known lines : List (List ℕ)) (weighted : Bool)
+        → IsTaken known weighted lines (with_waiting reading.old waiting.old.items)
+        → IsTaken known weighted lines reading.new }
+    ensures none { result ≡ Ok false → waiting.new.items ≡ [] }
+    ensures room { OnOk result
+        (length reading.new.db + length (all_waiting waiting.new.items) ≤ most_sequences) }
+    ensures kept { (added : List (List ℕ)) × (reading.new.names ≡ reading.old.names ++ added) }
+    ensures same { reading.new.weighted ≡ reading.old.weighted }
+    ensures block { OnOk result (IsNext block.now next.new) }
+    ensures at { OnOk result ((told : Option (List ℕ)) (lines : List (List ℕ))
+        → IsAt told (F.left files.old) lines block.now
+        → IsAt told (F.left files.new) (lines ++ lines_behind (text_of block.now)) next.new) }
+    ensures too_large { result ≡ Err SequenceFault.TooLarge
+        → (told : Option (List ℕ)) (lines : List (List ℕ)) → IsAt told (F.left files.old) lines block.now
+        → IfSome told (λ whole. most_file_bytes < length whole) }
+    ensures failed { result ≡ Err SequenceFault.ReadFault → Rose (F.faults files.old) (F.faults files.new) }
+    ensures why { (fault : SequenceFault) → result ≡ Err fault → IsReadingFault fault }
+    ensures same_names { F.may files.new ≡ F.may files.old }
+    ensures same_files { F.holds files.new ≡ F.holds files.old }
+    ensures never_falls { F.faults files.old ≤ F.faults files.new }
+{
+    if workers > 1 && block.text().len() >= LEAST_BYTES {
+        return read_in_pieces(rt, workers, alloc, files, block, next, reading, waiting);
+    }
+    append_and_follow(
+        files,
+        block,
+        next,
+        &mut reading.db,
+        waiting.as_slice(),
+        &mut reading.items,
+    )?;
+    waiting.clear();
+    Ok(false)
+}
+
+/// What comes before the refusal of a line, if the rest of the file cannot be read or is too large, or else
+/// this.
+fn refusal<F: Files>(files: &mut F, next: &mut Block, fault: SequenceFault) -> SequenceFault
+    requires block { IsBlock next.old }
+    requires line { fault ≢ SequenceFault.ReadFault }
+    ensures first { result ≢ SequenceFault.ReadFault → result ≢ SequenceFault.NoMemory
+        → (told : Option (List ℕ)) (lines : List (List ℕ)) → IsAt told (F.left files.old) lines next.old
+        → IfSome told (λ whole.
+        ((most_file_bytes < length whole) × (result ≡ SequenceFault.TooLarge))
+        ⊎ ((length whole ≤ most_file_bytes) × (result ≡ fault))) }
+    ensures failed { result ≡ SequenceFault.ReadFault → Rose (F.faults files.old) (F.faults files.new) }
+    ensures same_names { F.may files.new ≡ F.may files.old }
+    ensures same_files { F.holds files.new ≡ F.holds files.old }
+    ensures never_falls { F.faults files.old ≤ F.faults files.new }
+{
+    match next.skip_to_end(files) {
+        Ok(()) => fault,
+        Err(earlier) => SequenceFault::from(earlier),
+    }
+}
+
+/// Reads bytes line by line behind what was read so far.
 pub(crate) fn read_in_order(
     alloc: Global,
     bytes: &[u8],
     reading: &mut Reading,
 ) -> Result<(), SequenceFault>
     requires few { length bytes.now ≤ most_file_bytes }
-    requires room { length reading.old.names ≤ most_items }
-    requires empty { reading.old.db ≡ [] }
-    ensures taken { OnOk result
-        (IsTaken reading.old.names reading.old.weighted (lines_behind bytes.now) reading.new) }
+    ensures taken { OnOk result ((known lines : List (List ℕ)) (weighted : Bool)
+        → IsTaken known weighted lines reading.old
+        → IsTaken known weighted (lines ++ lines_behind bytes.now) reading.new) }
     ensures refused { (fault : SequenceFault) → result ≡ Err fault → fault ≢ SequenceFault.NoMemory
-        → FirstAmong (IsSequenceLineRefusal reading.old.weighted reading.old.names) []
+        → (known lines : List (List ℕ)) (weighted : Bool) → IsTaken known weighted lines reading.old
+        → FirstAmong (IsSequenceLineRefusal weighted known) lines
         (lines_behind bytes.now) (fault_of_sequences fault) }
     ensures read { result ≢ Err SequenceFault.ReadFault }
     ensures kept { (added : List (List ℕ)) × (reading.new.names ≡ reading.old.names ++ added) }
@@ -221,9 +373,12 @@ pub(crate) fn read_in_order(
         Ok(_) => Ok(()),
         Err(TextFault::ReadFault) => Err(SequenceFault::ReadFault),
         Err(TextFault::TooLarge) => Err(SequenceFault::TooLarge),
-        Err(TextFault::BadByte { line, column }) => Err(SequenceFault::BadByte { line, column }),
-        Err(TextFault::NameTooLong { line, column }) => Err(SequenceFault::NameTooLong {
-            line,
+        Err(TextFault::BadByte { column, .. }) => Err(SequenceFault::BadByte {
+            line: reading.next_number(),
+            column,
+        }),
+        Err(TextFault::NameTooLong { column, .. }) => Err(SequenceFault::NameTooLong {
+            line: reading.next_number(),
             column,
         }),
         Err(TextFault::Visitor(fault)) => Err(fault),

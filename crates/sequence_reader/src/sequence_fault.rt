@@ -1,4 +1,5 @@
 use mine_model::{Fault, NoMemory, Which};
+use text_ports::ReadFault;
 use thiserror::Error;
 
 /// Why a sequence file was not read. Lines and columns count from 1.
@@ -41,6 +42,21 @@ impl From<NoMemory> for SequenceFault {
 
     fn from(_e: NoMemory) -> SequenceFault {
         SequenceFault::NoMemory
+    }
+}
+
+impl From<ReadFault> for SequenceFault {
+    ghost use Rattle.std.specs.Prelude.{◌≡◌};
+    ghost use Rattle.sequence_reader.specs.Faults.{fault_of_reading};
+
+    ghost from_gives = { λ fault e. e ≡ fault_of_reading fault };
+
+    fn from(fault: ReadFault) -> SequenceFault {
+        match fault {
+            ReadFault::Failed => SequenceFault::ReadFault,
+            ReadFault::TooLarge => SequenceFault::TooLarge,
+            ReadFault::NoMemory => SequenceFault::NoMemory,
+        }
     }
 }
 

@@ -14,7 +14,7 @@ returns-in-Err-TooMany-clause-refused c =
     let said = c.in_ok-line.ensures.said in
     record {
       why = (
-        refl,
+        c.next_number-number.ensures,
         c.in_ok-line.ensures.few,
         c.in_ok-line.ensures.weighed,
         subst (λ (s : Sequence (List ℕ)). length s.items ≤ 65535) (sym said) short,
