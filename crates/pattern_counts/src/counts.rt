@@ -153,13 +153,6 @@ impl Counts {
         self.sums[number] += weight;
     }
 
-    /// Reads early where a list with this hash may stand.
-    pub(crate) fn touch(&mut self, hash: u32)
-        ensures { self.new ≡ self.old }
-    {
-        self.touched ^= u64::from(held_at_home(self.slots.as_slice(), hash));
-    }
-
     /// At every so many numbers reads early what may be held of the next lists with these hashes, from this
     /// number on: their slots, one after another with nothing between, so that they come to the processor
     /// side by side, and then the lists and sums that these name.

@@ -103,14 +103,6 @@ impl PatternCounts {
         Ok(())
     }
 
-    /// Reads early where the list may stand: lists that are touched one after another come to the processor
-    /// side by side. Takes no memory.
-    pub fn touch(&mut self, list: &[u32])
-        ensures { self.new ≡ self.old }
-    {
-        self.counts.touch(hash_of(list));
-    }
-
     /// The number of the list, which is added with the sum 0 if it is not held.
     pub fn number(&mut self, list: &[u32]) -> Result<u32, NoMemory>
         ensures number { IfOk result (λ number. slice_get self.new.lists number ≡ Some list.now) }
