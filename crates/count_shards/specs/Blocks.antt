@@ -13,7 +13,7 @@ use Rattle.pattern_counts.specs.Tally.{Tally, no_lists, sum_of}
 
 -- how many sequences a block has; the last one may have fewer
 abbrev pub block_size : ℕ
-block_size = 64
+block_size = 256
 
 -- how many homes there are, each with a shard of its own
 abbrev pub home_count : ℕ

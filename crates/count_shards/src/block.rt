@@ -6,7 +6,7 @@ ghost use Rattle.count_shards.specs.Tallied.{sum_at, AddsEach, HasCounted};
 use candidate_gen::CandidateList;
 use mine_model::NoMemory;
 use mining_job::Job;
-use pattern_counts::WeighedLists;
+use pattern_counts::PatternCounts;
 use std::alloc::Global;
 use std::marker::Model;
 
@@ -14,14 +14,17 @@ use std::marker::Model;
 pub(crate) const HOMES: u32 = 16;
 
 // How many sequences a block has; the last one may have fewer.
-const BLOCK: u32 = 64;
+const BLOCK: u32 = 256;
+
+// So many candidates at a time are looked for side by side.
+const TOUCHED: usize = 16;
 
 /// The candidates of one block of sequences of a job after another, each counted in its home. Each block uses
 /// the room of the one before.
 pub struct BlockCounts<'a> {
     job: &'a Job,
     candidates: CandidateList<'a>,
-    homes: Vec<WeighedLists>,
+    homes: Vec<PatternCounts>,
     pairs: u64,
     number: u32,
 }
@@ -108,7 +111,7 @@ impl<'a> BlockCounts<'a> {
     }
 
     /// What is counted in a home. Takes no memory.
-    pub(crate) fn home(&self, home: usize) -> &WeighedLists
+    pub(crate) fn home(&self, home: usize) -> &PatternCounts
         requires { home < home_count }
         ensures all { length self.now.tallies ≡ home_count }
         ensures tally { result.now ≡ tally_of self.now.tallies home }
@@ -135,19 +138,19 @@ pub fn count_block(alloc: Global, job: &Job, block: u32) -> Result<BlockCounts, 
 }
 
 // Sixteen counts of nothing.
-fn no_counts(alloc: Global) -> Result<Vec<WeighedLists>, NoMemory>
+fn no_counts(alloc: Global) -> Result<Vec<PatternCounts>, NoMemory>
     ensures { IfOk result (λ homes. (length homes.items ≡ home_count)
         × All (λ tally. tally ≡ no_lists) homes.items) }
 {
     let mut homes = Vec::with_capacity(alloc, HOMES as usize)?;
     for _ in 0..HOMES {
-        homes.push(WeighedLists::new(alloc))?;
+        homes.push(PatternCounts::new(alloc))?;
     }
     Ok(homes)
 }
 
 // Takes all counts away, and keeps the room.
-fn clear_all(homes: &mut Vec<WeighedLists>)
+fn clear_all(homes: &mut Vec<PatternCounts>)
     ensures same { length homes.new.items ≡ length homes.old.items }
     ensures nothing { All (λ tally. tally ≡ no_lists) homes.new.items }
 {
@@ -160,7 +163,7 @@ fn clear_all(homes: &mut Vec<WeighedLists>)
 fn count_all(
     job: &Job,
     candidates: &mut CandidateList,
-    homes: &mut Vec<WeighedLists>,
+    homes: &mut Vec<PatternCounts>,
     block: u32,
 ) -> Result<u64, NoMemory>
     requires block { block_size * block < length job.now.sequences }
@@ -188,20 +191,37 @@ fn count_all(
 
 // Adds the weight to the sum of each of the candidates, in its home.
 fn add_each(
-    homes: &mut Vec<WeighedLists>,
+    homes: &mut Vec<PatternCounts>,
     candidates: &CandidateList,
     weight: u64,
 ) -> Result<(), NoMemory>
     requires all { length homes.old.items ≡ home_count }
     requires each_once { AllPairs (λ first second. first ≢ second) candidates.now.listed }
+    requires room { (list : List ℕ) → sum_at homes.old.items list + weight < 2 ^ 64 }
     ensures all { length homes.new.items ≡ home_count }
     ensures added { OnOk result (AddsEach candidates.now.listed weight homes.old.items homes.new.items) }
 {
     for i in 0..candidates.len() {
+        touch_next(homes, candidates, i);
         let list = candidates.get(i);
         homes[home_of(list)].add(list, weight)?;
     }
     Ok(())
+}
+
+// At every so many candidates reads early where the next ones may stand, from this one on.
+fn touch_next(homes: &mut Vec<PatternCounts>, candidates: &CandidateList, from: usize)
+    requires all { length homes.old.items ≡ home_count }
+    ensures same { homes.new.items ≡ homes.old.items }
+{
+    if from % TOUCHED > 0 {
+        return;
+    }
+    let end = candidates.len().min(from.saturating_add(TOUCHED));
+    for i in from..end {
+        let list = candidates.get(i);
+        homes[home_of(list)].touch(list);
+    }
 }
 
 // The home of a list. That sums wrap does not matter, since 16 divides 2³².

@@ -98,7 +98,7 @@ impl Shard {
             return Err(NoMemory);
         }
         self.added.reserve(1)?;
-        self.counts.add_weighed(block.home(self.home as usize))?;
+        self.counts.add_all(block.home(self.home as usize))?;
         self.added.push_reserved((number, block.number()));
         Ok(())
     }

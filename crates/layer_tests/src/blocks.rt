@@ -1,4 +1,4 @@
-//! The candidates of blocks of 64 sequences.
+//! The candidates of blocks of 256 sequences.
 ghost use Rattle.std.specs.Prelude.{◌*◌, ◌<◌, length};
 
 use super::data::{C, Lines, RUNNING, Shape, job};
@@ -10,7 +10,7 @@ use std::thread::Threads;
 
 /// How many pairs are counted, and then, in their place, of this block.
 fn pairs_with(counts: &mut BlockCounts, block: u32) -> Result<(u64, u64), NoMemory>
-    requires { 64 * block < length counts.old.problem.sequences }
+    requires { 256 * block < length counts.old.problem.sequences }
 {
     let first = counts.pairs();
     counts.fill(block)?;
@@ -19,7 +19,7 @@ fn pairs_with(counts: &mut BlockCounts, block: u32) -> Result<(u64, u64), NoMemo
 
 /// How many pairs are counted of the first block, and then of the second.
 fn pairs_of(alloc: Global, job: &Job) -> Result<(u64, u64), NoMemory> {
-    if job.db().sequences() <= 64 {
+    if job.db().sequences() <= 256 {
         return Ok((0, 0));
     }
     let mut counts = count_block(alloc, job, 0)?;
@@ -29,16 +29,16 @@ fn pairs_of(alloc: Global, job: &Job) -> Result<(u64, u64), NoMemory> {
 /// The expression, the lines and how often each stands, the threshold, and the pairs of the two blocks.
 type Case = (Shape, Lines<'static>, u32, u64, (u64, u64));
 
-// Fifteen of each of the running sequences: the last 11 of the fifth are in the second block. The last block is
+// Sixty of each of the running sequences: the last 44 of the fifth are in the second block. The last block is
 // counted to its end.
 const COUNTED: [Case; 2] = [
-    (Shape::Climbing, &RUNNING, 15, 16, (162, 33)),
+    (Shape::Climbing, &RUNNING, 60, 61, (648, 132)),
     (
         Shape::Subsequence,
         &[(1_000_000_000, &[C])],
-        75,
+        300,
         1,
-        (64, 11),
+        (256, 44),
     ),
 ];
 

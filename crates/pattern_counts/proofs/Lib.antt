@@ -1,3 +1,2 @@
 mod HashLemmas
 mod SumLemmas
-mod WeighedLemmas

@@ -19,7 +19,7 @@ by_test : (xs ys : List ℕ) (r : Bool) → Decides r (xs ≡ ys) → ((xs ≡ y
 by_test xs ys true d = inl (d.0 refl, refl)
 by_test xs ys false d = inr ((λ e. let wrong : false ≡ true = d.1 e in cc), refl)
 
-pub same_or_not : (xs ys : List ℕ) → ((xs ≡ ys) × (pointwise nat_eq xs ys ≡ true)) ⊎ ((xs ≢ ys) × (pointwise nat_eq xs ys ≡ false))
+same_or_not : (xs ys : List ℕ) → ((xs ≡ ys) × (pointwise nat_eq xs ys ≡ true)) ⊎ ((xs ≢ ys) × (pointwise nat_eq xs ys ≡ false))
 same_or_not xs ys = by_test xs ys (pointwise nat_eq xs ys) (decides xs ys)
 
 -- Lists that differ
@@ -35,10 +35,10 @@ tail_distinct first lists d = λ i j i_in j_in same. omega (arith, d (suc i) (su
 
 -- The sum of a list
 
-pub sum_at_first : (first list : List ℕ) (lists : List (List ℕ)) (sum : ℕ) (sums : List ℕ) → first ≡ list → sum_in (first ∷ lists) (sum ∷ sums) list ≡ sum
+sum_at_first : (first list : List ℕ) (lists : List (List ℕ)) (sum : ℕ) (sums : List ℕ) → first ≡ list → sum_in (first ∷ lists) (sum ∷ sums) list ≡ sum
 sum_at_first first list lists sum sums same = ap (λ b. cond b sum (sum_in lists sums list)) ((decides first list).1 same)
 
-pub sum_past_first : (first list : List ℕ) (lists : List (List ℕ)) (sum : ℕ) (sums : List ℕ) → first ≢ list → sum_in (first ∷ lists) (sum ∷ sums) list ≡ sum_in lists sums list
+sum_past_first : (first list : List ℕ) (lists : List (List ℕ)) (sum : ℕ) (sums : List ℕ) → first ≢ list → sum_in (first ∷ lists) (sum ∷ sums) list ≡ sum_in lists sums list
 sum_past_first first list lists sum sums apart = elim (same_or_not first list) [
   | inl same ↦ absurd (apart same.0)
   | inr other ↦ ap (λ b. cond b sum (sum_in lists sums list)) other.1

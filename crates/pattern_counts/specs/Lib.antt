@@ -4,4 +4,3 @@ pub mod Tally
 pub mod Hashes
 pub mod Table
 pub mod Counted
-pub mod Weighed

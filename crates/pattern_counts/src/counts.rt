@@ -127,10 +127,6 @@ impl Counts {
         self.hashes[number]
     }
 
-    pub(crate) fn hashes(&self) -> &[u32] {
-        self.hashes.as_slice()
-    }
-
     /// The number of the list with this hash, if it is held.
     pub(crate) fn find(&self, hash: u32, list: &[u32]) -> Option<usize>
         requires { hash ≡ hash_of list.now }
@@ -153,22 +149,29 @@ impl Counts {
         self.sums[number] += weight;
     }
 
-    /// At every so many numbers reads early what may be held of the next lists with these hashes, from this
+    /// Reads early where a list with this hash may stand.
+    pub(crate) fn touch(&mut self, hash: u32)
+        ensures { self.new ≡ self.old }
+    {
+        self.touched ^= u64::from(held_at_home(self.slots.as_slice(), hash));
+    }
+
+    /// At every so many numbers reads early what may be held of the next lists of the others, from this
     /// number on: their slots, one after another with nothing between, so that they come to the processor
     /// side by side, and then the lists and sums that these name.
-    pub(crate) fn touch_next(&mut self, hashes: &[u32], from: usize)
+    pub(crate) fn touch_next(&mut self, others: &Counts, from: usize)
         ensures { self.new ≡ self.old }
     {
         if from % TOUCHED > 0 {
             return;
         }
-        let end = hashes.len().min(from.saturating_add(TOUCHED));
+        let end = others.hashes.len().min(from.saturating_add(TOUCHED));
         let mut touched: u64 = 0;
         for number in from..end {
-            touched ^= u64::from(held_at_home(self.slots.as_slice(), hashes[number]));
+            touched ^= u64::from(held_at_home(self.slots.as_slice(), others.hashes[number]));
         }
         for number in from..end {
-            let held = held_at_home(self.slots.as_slice(), hashes[number]) as usize;
+            let held = held_at_home(self.slots.as_slice(), others.hashes[number]) as usize;
             touched ^= self.read_early(held);
         }
         self.touched ^= touched;

@@ -4,8 +4,6 @@
 mod counts;
 mod hashes;
 mod table;
-mod weighed;
-mod weights;
 
 ghost use Rattle.std.specs.Prelude.{◌≡◌, ℕ, ◌+◌, ◌^◌, ◌<◌, ◌⊎◌, ◌↔◌, ◌∷◌, ◌++◌, [], List, length, slice_get, Some, Contains, IsTrue, IfOk, IsOk, OnOk, OnErr};
 ghost use Rattle.pattern_counts.specs.Tally.{no_lists, IsTally, sum_of, Adds, AddsAll};
@@ -15,7 +13,6 @@ use hashes::hash_of;
 use mine_model::NoMemory;
 use std::alloc::Global;
 use std::marker::Model;
-pub use weighed::WeighedLists;
 
 /// Lists of ranks by numbers from 0 on, each with the sum of the weights that were added to it.
 ///
@@ -103,6 +100,14 @@ impl PatternCounts {
         Ok(())
     }
 
+    /// Reads early where the list may stand: lists that are touched one after another come to the processor
+    /// side by side. Takes no memory.
+    pub fn touch(&mut self, list: &[u32])
+        ensures { self.new ≡ self.old }
+    {
+        self.counts.touch(hash_of(list));
+    }
+
     /// The number of the list, which is added with the sum 0 if it is not held.
     pub fn number(&mut self, list: &[u32]) -> Result<u32, NoMemory>
         ensures number { IfOk result (λ number. slice_get self.new.lists number ≡ Some list.now) }
@@ -131,29 +136,10 @@ impl PatternCounts {
         let count = other.counts.len();
         self.counts.reserve(count, other.counts.ranks())?;
         for number in 0..count {
-            self.counts.touch_next(other.counts.hashes(), number);
+            self.counts.touch_next(&other.counts, number);
             let list = other.counts.list(number);
             self.counts
                 .put(other.counts.hash(number), list, other.counts.sum(number));
-        }
-        Ok(())
-    }
-
-    /// Adds to the sum of each list the other's sum of it. Takes all memory before the first sum.
-    pub fn add_weighed(&mut self, other: &WeighedLists) -> Result<(), NoMemory>
-        requires { (list : List ℕ) → sum_of self.old list + sum_of other.now list < 2 ^ 64 }
-        ensures ok { OnOk result (AddsAll other.now self.old self.new) }
-        ensures tally { IsTally self.new }
-        ensures err { OnErr result (self.new ≡ self.old) }
-    {
-        let weights = other.weights();
-        let count = weights.len();
-        self.counts.reserve(count, weights.ranks())?;
-        for number in 0..count {
-            self.counts.touch_next(weights.hashes(), number);
-            let list = weights.list(number);
-            self.counts
-                .put(weights.hash(number), list, weights.weight(number));
         }
         Ok(())
     }

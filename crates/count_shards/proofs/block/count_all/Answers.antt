@@ -14,6 +14,17 @@ use Rattle.count_shards.proofs.block.count_all.Goals as goal
 pub add_each-requires-clause-each_once : goal.add_each-requires-clause-each_once
 add_each-requires-clause-each_once c = each_once c.fill.new.self.listed c.in_ok-fill.ensures.candidates.rises
 
+pub add_each-requires-clause-room : goal.add_each-requires-clause-room
+add_each-requires-clause-room c = λ list.
+    let problem = c.args.job.now in
+    let first = block_size * c.args.block in
+    let n = c.loop-number.number in
+    let end : c.min-end.result ≡ min c.sequences-count.result (first + block_size) = c.min-end.ensures in
+    let whole : length c.db-db.result.now ≡ length problem.sequences = ap length c.db-db.ensures.sequences in
+    let limits : All IsWithinLimits problem.sequences = rw c.db-db.ensures.sequences at c.sequences-count.ensures.limits in
+    let most = tallied_most problem first n c.loop-number.homes.items limits (omega arith) (omega arith) c.loop-number.invariant.tallied (home_of list) list in
+    omega (arith, most, c.weight-weight.ensures.most)
+
 pub loop-number-preserved : goal.loop-number-preserved
 loop-number-preserved c =
     let problem = c.args.job.now in
