@@ -13,7 +13,7 @@ use Rattle.turn_lock.specs.History.{Made}
 use Rattle.turn_lock.specs.Passes.{IsPassOf, AreAllPasses, number, made, pass_count}
 use Rattle.count_shards.specs.Blocks.{home_count, block_count}
 use Rattle.count_shards.specs.Shard.{entry_of, history_of, blocks_of}
-use Rattle.count_shards.specs.Shards.{Lock, ShardPass, PassLists, AreShardsOf, ArePassesOf, AreAllLists, AreNewLists, AddedEachOnce, column}
+use Rattle.count_shards.specs.Shards.{Lock, ShardPass, PassLists, AreShardsOf, ArePassesOf, AreAllLists, AreNewLists, column}
 use Rattle.count_shards.specs.Merging.{IsOpened, AreOpened, HasMerged}
 use Rattle.count_shards.specs.declared.shards.Shards.{Shards}
 use Rattle.mine_model.proofs.ElementLemmas.{get_set_same, get_set_other, get_snoc}

@@ -7,8 +7,6 @@ mod table;
 mod weighed;
 mod weights;
 
-pub use weighed::WeighedLists;
-
 ghost use Rattle.std.specs.Prelude.{◌≡◌, ℕ, ◌+◌, ◌^◌, ◌<◌, ◌⊎◌, ◌↔◌, ◌∷◌, ◌++◌, [], List, length, slice_get, Some, Contains, IsTrue, IfOk, IsOk, OnOk, OnErr};
 ghost use Rattle.pattern_counts.specs.Tally.{no_lists, IsTally, sum_of, Adds, AddsAll};
 
@@ -17,6 +15,7 @@ use hashes::hash_of;
 use mine_model::NoMemory;
 use std::alloc::Global;
 use std::marker::Model;
+pub use weighed::WeighedLists;
 
 /// Lists of ranks by numbers from 0 on, each with the sum of the weights that were added to it.
 ///

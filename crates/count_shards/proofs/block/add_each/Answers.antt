@@ -1,9 +1,8 @@
-use Rattle.std.proofs.Common.{◌≡◌, ◌+◌, ◌<◌, List, length, set, take, ap, sym, subst, ◌∙◌, arith}
+use Rattle.std.proofs.Common.{◌≡◌, ◌+◌, ◌<◌, length, set, take, subst, ◌∙◌, arith}
 use Rattle.std.proofs.lemmas.List.{get_or_default}
 use Rattle.std.proofs.Math.ListN.{length-set}
 use Rattle.pattern_counts.specs.Tally.{Tally, no_lists, Adds}
 use Rattle.count_shards.specs.Blocks.{tally_of}
-use Rattle.count_shards.specs.Tallied.{AddsEach}
 use Rattle.count_shards.proofs.AddLemmas.{adds_home, adds_more, not_before}
 use Rattle.count_shards.proofs.block.add_each.Goals as goal
 use Rattle.mine_model.proofs.ElementLemmas.{take-next}

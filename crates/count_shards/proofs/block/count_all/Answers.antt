@@ -5,7 +5,7 @@ use Rattle.mine_model.specs.Counted.{told_of}
 use Rattle.mine_model.specs.Database.{IsWithinLimits, sequence_at}
 use Rattle.mine_model.specs.Support.{Sequence}
 use Rattle.candidate_gen.specs.Candidates.{AreCandidateRanks}
-use Rattle.count_shards.specs.Blocks.{block_size, home_of}
+use Rattle.count_shards.specs.Blocks.{block_size}
 use Rattle.count_shards.specs.Tallied.{AddsEach, AreTallied, ArePairs}
 use Rattle.count_shards.proofs.PairLemmas.{each_once, candidates_listed, pairs_more}
 use Rattle.count_shards.proofs.TalliedLemmas.{sequences_between, between_more, between_block, tallied_more, tallied_most}
