@@ -1,6 +1,7 @@
 #!/usr/bin/env python3
-"""Sequence files that several workers read in pieces. Whatever a line holds, in the first, a middle or the last piece or at a
-border between two, the answer is that of the file and a refusal tells its place in it, with one worker as with many."""
+"""Sequence files that are read by blocks, and by several workers in pieces of them. Whatever a line holds, in the first, a middle or
+the last piece or block or at a border between two, the answer is that of the file and a refusal tells its place in it, with one
+worker as with many."""
 import sys
 from collections import Counter
 
@@ -90,6 +91,33 @@ accepts("empty lines before all others", "\n" * LEAST_BYTES + whole, wanted)
 accepts("empty lines behind all others", whole + "\n" * LEAST_BYTES, wanted)
 accepts("one line of two million blanks", " " * 2_000_000 + "\n" + whole, wanted)
 accepts("weights", "\n".join(heavy) + "\n", answer(heavy, True), "--weighted")
+
+# A file is read by blocks of so many bytes: by one worker, and by several. A line that a border of blocks cuts at each of its bytes,
+# or just before it or behind it, in a file of three blocks.
+BLOCKS = (1 << 20, 4 << 20)
+
+
+def cut_by_block(size, cut, text):
+    """A file in which the first block ends behind so many bytes of this line, and the number of lines before it."""
+    begin = size - cut
+    count = (begin - 1) // 4
+    return "q w\n" * count + " " * (begin - 1 - 4 * count) + "\n" + text + "q w\n" * (size // 3), count + 1
+
+
+for size in BLOCKS:
+    for text, status, told in (("q zz\n", 0, ""), ("w zz\r\n", 0, ""), ("\r\n", 0, ""), ("q \x01\n", 3, " column 3: bad byte"),
+                               ("a\rb\n", 3, " column 2: bad byte"), (LONG_NAME + "\n", 4, " column 256: name over 255 bytes")):
+        for cut in {-1, 0, 1, len(text) // 2, *range(len(text) - 3, len(text) + 2)}:
+            file, before = cut_by_block(size, cut, text)
+            name = f"{text!r:.12} of which {cut} bytes stand in a block of {size}"
+            if status:
+                refuses(name, file, status, f"line {before + 1}{told}")
+            else:
+                accepts(name, file, sorted(f"{file.count(item)}\t{item}".encode() for item in "qw"))
+whole_blocks = "q w\n" * (BLOCKS[1] // 2)
+refuses("a bad byte in the last block alone", whole_blocks + "\x01\n", 3, f"line {BLOCKS[1] // 2 + 1} column 1: bad byte")
+refuses("a bad byte in the first block, and one in the last", "\x01\n" + whole_blocks + "\x01\n", 3, "line 1 column 1: bad byte")
+accepts("a line longer than a block", "q w\n" + " " * (3 * BLOCKS[1]) + "q w\n" * 3, [b"4\tq", b"4\tw"])
 
 # Names that the hierarchy has are known before the first piece, and the others are new in some of them.
 for name, first, step in (("each second name", 0, 2), ("all names of one form", 0, 1), ("one name alone", 976, 1)):
