@@ -13,6 +13,9 @@ use text_ports::{Failed, Files, ReadFault, without_mark};
 /// The most bytes of a file.
 const MOST_FILE_BYTES: usize = 67_108_864;
 
+/// The most bytes that are read at once: a file of the kernel's own may refuse to give 4 MiB.
+const MOST_READ: usize = 1_048_576;
+
 /// The bytes of a file that were read last: so many first ones of the buffer.
 #[derive(Debug, Drop)]
 pub(crate) struct Block {
@@ -89,7 +92,8 @@ impl Block {
         ensures same_files { F.holds files.new ≡ F.holds files.old }
         ensures never_falls { F.faults files.old ≤ F.faults files.new }
     {
-        let most = (MOST_FILE_BYTES + 1 - self.total).min(self.buffer.len() - self.filled);
+        let free = (self.buffer.len() - self.filled).min(MOST_READ);
+        let most = (MOST_FILE_BYTES + 1 - self.total).min(free);
         let count = files.read(&mut self.buffer[self.filled..self.filled + most])?;
         self.filled += count;
         self.total += count;
