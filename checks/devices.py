@@ -118,8 +118,9 @@ TOO_LARGE = {file: (4, b"", f"desq: {file}: more than 67108864 bytes\n".encode()
 WRITE_FAULT = b"desq: write fault\n"
 NO_MEMORY = (7, b"", b"desq: out of memory\n")
 MOST_FILE_BYTES = 67_108_864
-# The most bytes that are read at once.
+# The most bytes of a hierarchy, and of sequences, that are read at once.
 MOST_READ = 16_384
+MOST_BLOCK = 1 << 20
 LONG = 60_000
 LONG_ANSWER = b"1\t" + b" ".join([b"a"] * LONG) + b"\n"
 ENDLESS = 1 << 62
@@ -271,10 +272,10 @@ def odd_files():
         grown = write("grown", b"a\n" * 3_000)
         rows.ends(f"a file that gains a line at each of five reads, {by}",
                   faulty(["--support", "1", *search, "(a)", grown], GROWS=grown)[0], (0, b"3005\ta\n", b""))
-        shrunk = write("shrunk", b"a\n" * MOST_READ)
-        rows.ends(f"a file that is emptied after {MOST_READ:,} bytes were read, {by}",
+        shrunk = write("shrunk", b"a\n" * MOST_BLOCK)
+        rows.ends(f"a file that is emptied after {MOST_BLOCK:,} bytes were read, {by}",
                   faulty(["--support", "1", *search, "(a)", shrunk], SHRINKS=shrunk)[0],
-                  (0, f"{MOST_READ // 2}\ta\n".encode(), b""))
+                  (0, f"{MOST_BLOCK // 2}\ta\n".encode(), b""))
         both = write("both", first_bytes[running])
         with open(both, "ab") as out:
             ran = run(*example(*search, sequences=both), stdout=out)
@@ -398,11 +399,12 @@ def failing_reads(search, by):
                    named="or", first=call, fault=fault, CUT=4)
     # Each of these files is read by two reads, and by one that finds its end.
     malformed = write("malformed", b"\x01\n" * MOST_READ)
+    longer = write("longer", b"\x01\n" * MOST_BLOCK)
     for call in (2, 3, 4):
         faults(f"read {call - 1} of a malformed hierarchy fails, {by}", example(*search, hierarchy=malformed),
                READ_FAULT["hierarchy"], 1, named="or", first=call)
         faults(f"read {call - 1} of malformed sequences fails, {by}",
-               ["--support", "1", *search, "(a)", malformed], READ_FAULT["sequences"], 1, named="or", first=call)
+               ["--support", "1", *search, "(a)", longer], READ_FAULT["sequences"], 1, named="or", first=call)
 
 
 def failing_writes(search, by):

@@ -124,6 +124,7 @@ fn no_hierarchy(alloc: Global) -> Hierarchy
     ensures within { AreLinksWithin result }
 {
     let hierarchy = Hierarchy::new(Vec::new(alloc), Vec::new(alloc));
+    // No link leads out of the items of a hierarchy.
     let _items = hierarchy.items();
     hierarchy
 }
