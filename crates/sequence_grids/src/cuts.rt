@@ -18,8 +18,8 @@ use super::tables::Tables;
 use mine_model::{Item, NoMemory};
 use mining_job::{Bound, Job};
 
-/// The places of sequences behind the others, those of each from the last to the first, and where those of each
-/// end.
+/// The places of sequences behind the others, those of each from the last to the first, and where those of
+/// each end.
 pub(crate) fn push_all(
     job: &Job,
     bound: Bound,

@@ -40,8 +40,8 @@ pub struct Kinds {
     pub kinds: Vec<Kind>,
     pub ends: Vec<u32>,
     pub ranks: Vec<u32>,
-    // By a hash of its outputs what leads to a kind that may have the same ones: its number, or that of an item
-    // which has it. It is no more than a hint.
+    // By a hash of its outputs what leads to a kind that may have the same ones: its number, or that of an
+    // item which has it. It is no more than a hint.
     pub hints: Vec<u32>,
 }
 
@@ -227,8 +227,8 @@ pub(crate) fn kind_of(
     Ok(number)
 }
 
-/// The number of a kind of an item, which is found out by the alphabet. Items that do the same share one where
-/// a hint leads to it.
+/// The number of a kind of an item, which is found out by the alphabet. Items that do the same share one
+/// where a hint leads to it.
 #[inline(never)]
 pub(crate) fn new_kind(
     job: &Job,
@@ -304,8 +304,9 @@ fn hints_for(items: u32) -> usize {
     }
 }
 
-// Where among so many the hint stands for outputs of a class. A class and one rank are not to stand where the next
-// class and the rank before do: two kinds of many items that take turns at one place are found again each time.
+// Where among so many the hint stands for outputs of a class. A class and one rank are not to stand where the
+// next class and the rank before do: two kinds of many items that take turns at one place are found again
+// each time.
 fn hint_of(class: u32, ranks: &[u32], hints: usize) -> usize {
     let mut hash = u64::from(class)
         .wrapping_add(1)
@@ -316,8 +317,8 @@ fn hint_of(class: u32, ranks: &[u32], hints: usize) -> usize {
     ((hash >> 16) % (hints as u64).max(1)) as usize
 }
 
-// Keeps what leads to the kind with the number as a hint. Where hints become many, the few stand elsewhere than
-// they are looked for, and are lost.
+// Keeps what leads to the kind with the number as a hint. Where hints become many, the few stand elsewhere
+// than they are looked for, and are lost.
 fn keep_hint(hints: &mut Vec<u32>, number: u32, hint: usize, to: u32) -> Result<(), NoMemory> {
     if hints.len() < MANY_HINTS && number as usize >= FEW_HINTS {
         hints.resize(MANY_HINTS, NONE)?;
@@ -415,8 +416,9 @@ fn alike_kind(
     }
 }
 
-// Takes back the ends and the ranks behind the first so many, where those of the item's kind stand among these:
-// they are twins of what stands there, and kinds that lie near each other are near for the processor too.
+// Takes back the ends and the ranks behind the first so many, where those of the item's kind stand among
+// these: they are twins of what stands there, and kinds that lie near each other are near for the processor
+// too.
 fn take_back(
     job: &Job,
     bound: Bound,

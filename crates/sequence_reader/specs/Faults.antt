@@ -26,4 +26,5 @@ fault_of_reading reading.NoMemory = sequences.NoMemory
 
 -- no line is refused
 abbrev pub IsReadingFault : SequenceFault → Type 0
-IsReadingFault fault = (fault ≡ sequences.ReadFault) ⊎ (fault ≡ sequences.TooLarge) ⊎ (fault ≡ sequences.NoMemory)
+IsReadingFault fault =
+    (fault ≡ sequences.ReadFault) ⊎ (fault ≡ sequences.TooLarge) ⊎ (fault ≡ sequences.NoMemory)

@@ -104,7 +104,8 @@ numbers_below (suc n) = numbers_below n ++ (record { 0 = n }) ∷ []
 
 -- the sequences of a piece by the numbers that its items have got
 abbrev pub sequences_waiting : Waiting → List (Sequence Item)
-sequences_waiting piece = map (sequence_by (renumbered (numbers_below piece.known ++ piece.own.items))) piece.db
+sequences_waiting piece =
+    map (sequence_by (renumbered (numbers_below piece.known ++ piece.own.items))) piece.db
 
 abbrev pub all_waiting : List Waiting → List (Sequence Item)
 all_waiting pieces = flat_map sequences_waiting pieces
