@@ -1,6 +1,7 @@
 -- Lemmas on bytes that are read into a buffer.
 use Rattle.std.proofs.Common.{◌≡◌, ℕ, ◌+◌, ◌≤◌, ◌<◌, ◌↔◌, List, [], ◌++◌, length, take, drop, Option, Some, None, IfSome, refl, sym, ap, ◌∙◌, arith, append_assoc, length-append}
-use Rattle.std.proofs.Math.Seq.{take-append-add, take-append_seam}
+use Rattle.std.proofs.Math.Seq.{take-append-add}
+use Rattle.std.proofs.lemmas.Option.{same_Some}
 use Rattle.std.proofs.lemmas.List.{take-append-drop, take-append-le, length-take-le, append-nil}
 use Rattle.mine_model.specs.Limits.{most_file_bytes}
 use Rattle.sequence_reader.specs.declared.block.Block.{Block}
@@ -13,9 +14,6 @@ bytes-behind buffer piece tail filled n within fits =
     ap (λ k. take (k + n) (take filled buffer ++ (piece ++ tail))) (sym (length-take-le filled buffer within))
     ∙ take-append-add (take filled buffer) (piece ++ tail) n
     ∙ ap (λ w. take filled buffer ++ w) (take-append-le n piece tail fits)
-
-pub front-replaced : (piece tail : List ℕ) → take (length piece) (piece ++ tail) ≡ piece
-front-replaced piece tail = take-append_seam piece tail
 
 pub added-some : (left after : Option (List ℕ)) (old new piece : List ℕ) (from to n : ℕ) → IfSome left (λ bytes. take n piece ≡ take n bytes)
     → IfSome left (λ bytes. after ≡ Some (drop n bytes)) → IfSome left (λ bytes. n ≤ length bytes)
@@ -53,20 +51,7 @@ WereAdded-more (Some whole) between after before middle from block bytes total (
       (let both = length-append more others in omega (arith, both, counted, counted-2, total)),
     )
 
--- how much was left before, where so much is left now
-pub large-before : (left between : Option (List ℕ)) (before middle : Block) (n : ℕ) → n ≡ middle.total → WereAdded left between before middle → IfSome between (λ rest. most_file_bytes < n + length rest)
-    → IfSome left (λ rest. most_file_bytes < before.total + length rest)
-large-before None between before middle n is added large = tt
-large-before (Some whole) between before middle n is (more, later, cut, stays, grown, counted) large =
-    let over : 67108864 < n + length later = rw stays at large in
-    let all = ap length cut in
-    let both = length-append more later in
-    omega (arith, over, all, both, counted, is)
-
 -- Counted bytes
-
-alike : (x y : List ℕ) → Some x ≡ Some y → x ≡ y
-alike x y e = cc
 
 pub WereCounted-none : (left : Option (List ℕ)) (n : ℕ) → WereCounted left left n n
 WereCounted-none None n = tt
@@ -90,7 +75,7 @@ pub WereCounted-few : (left after : Option (List ℕ)) (n total : ℕ) → WereC
     → IfSome left (λ rest. n + length rest ≤ most_file_bytes)
 WereCounted-few None after n total counted none few = tt
 WereCounted-few (Some whole) after n total (later, stays, counted) none few =
-    let zero : length later ≡ 0 = ap length (alike later [] (sym stays ∙ none)) in
+    let zero : length later ≡ 0 = ap length (same_Some later [] (sym stays ∙ none)) in
     omega (arith, zero, counted, few)
 
 -- At the end
@@ -98,11 +83,3 @@ WereCounted-few (Some whole) after n total (later, stays, counted) none few =
 pub end-of-read : (left after : Option (List ℕ)) (n : ℕ) → n ≡ 0 → IfSome left (λ bytes. (n ≡ 0) ↔ (bytes ≡ [])) → IfSome left (λ bytes. after ≡ Some (drop n bytes)) → IfSome left (λ rest. after ≡ Some [])
 end-of-read None after n zero end rest = tt
 end-of-read (Some whole) after n zero end rest = rest ∙ ap Some (ap (λ k. drop k whole) zero ∙ end.0 zero)
-
-pub end-added : (left between after : Option (List ℕ)) (before middle : Block) → WereAdded left between before middle → IfSome between (λ rest. after ≡ Some []) → IfSome left (λ rest. after ≡ Some [])
-end-added None between after before middle added end = tt
-end-added (Some whole) between after before middle (more, later, cut, stays, grown, counted) end = rw stays at end
-
-pub end-counted : (left between after : Option (List ℕ)) (n total : ℕ) → WereCounted left between n total → IfSome between (λ rest. after ≡ Some []) → IfSome left (λ rest. after ≡ Some [])
-end-counted None between after n total added end = tt
-end-counted (Some whole) between after n total (later, stays, counted) end = rw stays at end

@@ -1,6 +1,7 @@
 -- Lemmas on the blocks of a file.
-use Rattle.std.proofs.Common.{◌≡◌, ℕ, ◌+◌, ◌≤◌, ◌<◌, ◌&&◌, Bool, true, false, if◌then◌else◌, List, [], ◌∷◌, ◌++◌, length, take, drop, Option, Some, None, IsTrue, IfSome, refl, sym, ap, ◌∙◌, subst, arith, append_assoc, length-append, length-drop}
+use Rattle.std.proofs.Common.{◌≡◌, ℕ, ◌+◌, ◌≤◌, ◌&&◌, Bool, true, false, if◌then◌else◌, List, [], ◌∷◌, ◌++◌, length, take, drop, Option, Some, None, IsTrue, IfSome, refl, sym, ap, ◌∙◌, subst, arith, append_assoc, length-append, length-drop}
 use Rattle.std.specs.Prelude.{nat_eq}
+use Rattle.std.proofs.lemmas.Option.{same_Some}
 use Rattle.std.proofs.lemmas.List.{append-nil, take-append-drop, take-append-le, length-take-le, drop-take}
 use Rattle.mine_model.specs.Bytes.{line_feed}
 use Rattle.mine_model.specs.Limits.{most_file_bytes}
@@ -90,16 +91,6 @@ IsNext-read before from block was is filled total place = record {
   place = let rest = rest-length before was in omega (arith, rest, filled, total, place);
 }
 
--- the end of its lines moves on
-pub moves-on : (before block : Block) → IsBlock before → IsNext before block → block.is_last ≡ false → before.total + before.lines + block.filled < block.total + block.lines + before.filled
-moves-on before block was next more =
-    let (front, is) = next.is.ends more in
-    let size = ap length is in
-    let both = length-append front (line_feed ∷ []) in
-    let lines = length-take-le block.lines block.buffer.items (let a = next.is.lines in let b = next.is.filled in omega (arith, a, b)) in
-    let place = next.place in
-    omega (arith, size, both, lines, place)
-
 -- the first lines of a file
 start-lines : (block : Block) → IsBlock block → block.is_first ≡ true → (rest : List ℕ) → (t : Bool) → block.is_last ≡ t → (IsTrue t → rest ≡ [])
     → lines_of (bytes_of block ++ rest) ≡ lines_behind (text_of block) ++ lines_behind (rest_of block ++ rest)
@@ -138,14 +129,11 @@ more-lines block is first rest true e ended =
 
 -- Where a block stands in its file
 
-same : (x y : List ℕ) → Some x ≡ Some y → x ≡ y
-same x y e = cc
-
 pub IsAt-start : (left after : Option (List ℕ)) (before block : Block) → bytes_of before ≡ [] → before.total ≡ 0 → IsBlock block → block.is_first ≡ true
     → WereAdded left after before block → (IsTrue block.is_last → IfSome left (λ rest. after ≡ Some [])) → IsAt left after [] block
 IsAt-start None after before block none zero is first added ended = tt
 IsAt-start (Some whole) after before block none zero is first (more, later, cut, stays, bytes, total) ended =
-    let last : IsTrue block.is_last → later ≡ [] = λ t. same later [] (sym stays ∙ ended t) in
+    let last : IsTrue block.is_last → later ≡ [] = λ t. same_Some later [] (sym stays ∙ ended t) in
     let all : whole ≡ bytes_of block ++ later = cut ∙ ap (λ w. w ++ later) (sym (bytes ∙ ap (λ w. w ++ more) none)) in (
       later,
       stays,
@@ -161,7 +149,7 @@ pub IsAt-behind : (told left after : Option (List ℕ)) (lines : List (List ℕ)
 IsAt-behind None left after lines before between block was is more_left first bytes total added ended at = tt
 IsAt-behind (Some whole) left after lines before between block was is more_left first bytes total added ended (rest, stays, last, said, size) =
     let (more, later, cut, leaves, grown, counted) = rw stays at added in
-    let ends : IsTrue block.is_last → later ≡ [] = λ t. same later [] (sym leaves ∙ (rw stays at (ended t))) in
+    let ends : IsTrue block.is_last → later ≡ [] = λ t. same_Some later [] (sym leaves ∙ (rw stays at (ended t))) in
     let all : rest_of before ++ rest ≡ bytes_of block ++ later =
     ap (λ w. rest_of before ++ w) cut ∙ sym (append_assoc (rest_of before) more later) ∙ ap (λ w. w ++ later) (sym (grown ∙ ap (λ w. w ++ more) bytes)) in (
       later,
@@ -191,24 +179,6 @@ IsAt-end (Some whole) left lines before block was ended first bytes none total (
     )
 
 -- How many bytes the file has
-
-pub large-behind : (told left : Option (List ℕ)) (lines : List (List ℕ)) (block : Block) (n : ℕ) → n ≡ block.total → IfSome left (λ rest. most_file_bytes < n + length rest)
-    → IsAt told left lines block → IfSome told (λ whole. most_file_bytes < length whole)
-large-behind None left lines block n is large at = tt
-large-behind (Some whole) left lines block n is large (rest, stays, last, said, size) =
-    let over : 67108864 < n + length rest = rw stays at large in omega (arith, over, size, is)
-
-pub few-behind : (told left : Option (List ℕ)) (lines : List (List ℕ)) (block : Block) → IfSome left (λ rest. block.total + length rest ≤ most_file_bytes)
-    → IsAt told left lines block → IfSome told (λ whole. length whole ≤ most_file_bytes)
-few-behind None left lines block few at = tt
-few-behind (Some whole) left lines block few (rest, stays, last, said, size) =
-    let within : block.total + length rest ≤ 67108864 = rw stays at few in omega (arith, within, size)
-
-pub few-last : (told left : Option (List ℕ)) (lines : List (List ℕ)) (block : Block) → IsBlock block → IsTrue block.is_last
-    → IsAt told left lines block → IfSome told (λ whole. length whole ≤ most_file_bytes)
-few-last None left lines block is ended at = tt
-few-last (Some whole) left lines block is ended (rest, stays, last, said, size) =
-    let none = ap length (last ended) in let few = is.few in omega (arith, few, size, none)
 
 -- the lines up to the end of the last block are those of the file
 pub whole-file : (told left : Option (List ℕ)) (lines : List (List ℕ)) (block : Block) → IsBlock block → IsTrue block.is_last → IsAt told left lines block

@@ -189,13 +189,6 @@ waiting-joined names old added weighted earlier lines all new piece before last 
     same
     (let both = length-append all.db (all_waiting before) in omega (arith, both, few))
 
--- how many wait with one piece more
-pub waiting-length : (before : List Waiting) (last : Waiting) → length (all_waiting (before ++ last ∷ [])) ≡ length (all_waiting before) + length last.db
-waiting-length before last =
-    ap length (flat_map-append sequences_waiting before (last ∷ []) ∙ ap (λ w. all_waiting before ++ w) (append-nil (sequences_waiting last)))
-    ∙ length-append (all_waiting before) (sequences_waiting last)
-    ∙ ap (λ n. length (all_waiting before) + n) (length-map last.db (sequence_by (renumbered (numbers_below last.known ++ last.own.items))))
-
 -- those that wait up to a place
 pub waiting-more : (pieces : List Waiting) (i : ℕ) (piece : Waiting) → i < length pieces → get_or pieces i piece ≡ piece → all_waiting (take (i + 1) pieces) ≡ all_waiting (take i pieces) ++ sequences_waiting piece
 waiting-more pieces i piece within is =

@@ -8,8 +8,8 @@ use Rattle.text_ports.specs.Scanning.{lines_behind}
 use Rattle.sequence_reader.specs.declared.block.Block.{Block}
 use Rattle.sequence_reader.specs.declared.reading.Reading.{Reading}
 use Rattle.sequence_reader.specs.declared.sequence_fault.SequenceFault.{SequenceFault}
-use Rattle.sequence_reader.specs.declared.sequence_fault.SequenceFault.TheVariants.{ReadFault, TooLarge, NoMemory}
-use Rattle.sequence_reader.specs.Faults.{fault_of_sequences, IsReadingFault}
+use Rattle.sequence_reader.specs.declared.sequence_fault.SequenceFault.TheVariants.{TooLarge, NoMemory}
+use Rattle.sequence_reader.specs.Faults.{fault_of_sequences}
 use Rattle.sequence_reader.specs.Blocks.{rest_of, text_of, IsAt}
 use Rattle.sequence_reader.specs.Taking.{IsTaken}
 use Rattle.sequence_reader.proofs.TakingLemmas.{refused_among}
@@ -19,14 +19,6 @@ pub large-refused : (told : Option (List ℕ)) (weighted : Bool) (known : List (
     → IfSome told (λ whole. IsSequencesRefusal weighted known whole (fault_of_sequences TooLarge))
 large-refused None weighted known large = tt
 large-refused (Some whole) weighted known large = inl (large, refl)
-
--- what comes before any line
-pub early-refused : (told : Option (List ℕ)) (weighted : Bool) (known : List (List ℕ)) (fault : SequenceFault) → IsReadingFault fault → fault ≢ ReadFault → fault ≢ NoMemory
-    → (fault ≡ TooLarge → IfSome told (λ whole. most_file_bytes < length whole)) → IfSome told (λ whole. IsSequencesRefusal weighted known whole (fault_of_sequences fault))
-early-refused told weighted known fault (inl read) no_read no_memory large = absurd (no_read read)
-early-refused told weighted known fault (inr (inl is)) no_read no_memory large =
-    subst (λ f. IfSome told (λ whole. IsSequencesRefusal weighted known whole (fault_of_sequences f))) (sym is) (large-refused told weighted known (large is))
-early-refused told weighted known fault (inr (inr memory)) no_read no_memory large = absurd (no_memory memory)
 
 -- the first line that is refused, unless the file is too large
 pub line-refused : (told left : Option (List ℕ)) (weighted : Bool) (known lines : List (List ℕ)) (block : Block) (v : Reading) (line fault : SequenceFault)
