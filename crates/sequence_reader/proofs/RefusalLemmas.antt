@@ -1,5 +1,5 @@
 -- Which refusal of a file comes first.
-use Rattle.std.proofs.Common.{◌≡◌, ◌≢◌, ℕ, ◌≤◌, ◌<◌, Bool, List, [], ◌++◌, length, Option, Some, None, IfSome, inl, inr, ◌⊎◌, refl, sym, ap, ◌∙◌, subst, arith}
+use Rattle.std.proofs.Common.{◌≡◌, ◌≢◌, ℕ, ◌≤◌, ◌<◌, Bool, List, [], ◌++◌, length, Option, Some, None, IfSome, inl, inr, ◌⊎◌, sym, ap, ◌∙◌, subst, arith}
 use Rattle.mine_model.specs.First.{FirstAmong}
 use Rattle.mine_model.specs.Limits.{most_file_bytes}
 use Rattle.mine_model.specs.Text.{lines_of}
@@ -13,12 +13,6 @@ use Rattle.sequence_reader.specs.Faults.{fault_of_sequences}
 use Rattle.sequence_reader.specs.Blocks.{rest_of, text_of, IsAt}
 use Rattle.sequence_reader.specs.Taking.{IsTaken}
 use Rattle.sequence_reader.proofs.TakingLemmas.{refused_among}
-
--- a file that is too large is refused
-pub large-refused : (told : Option (List ℕ)) (weighted : Bool) (known : List (List ℕ)) → IfSome told (λ whole. most_file_bytes < length whole)
-    → IfSome told (λ whole. IsSequencesRefusal weighted known whole (fault_of_sequences TooLarge))
-large-refused None weighted known large = tt
-large-refused (Some whole) weighted known large = inl (large, refl)
 
 -- the first line that is refused, unless the file is too large
 pub line-refused : (told left : Option (List ℕ)) (weighted : Bool) (known lines : List (List ℕ)) (block : Block) (v : Reading) (line fault : SequenceFault)
