@@ -107,8 +107,8 @@ impl Reading {
 
 /// The sequences of a file, by the numbers of their names. Where lines have weights, the first field of each
 /// is its weight. A new name gets the next number. After a refusal the names that were met so far are held as
-/// well. Several workers read a large file in as many pieces, each in a thread of its own where one can be
-/// had.
+/// well. The file is read by blocks; several workers read a large one in as many pieces, each in a thread of
+/// its own where one can be had.
 pub fn read<R: Threads + Sync, F: Files>(
     rt: &R,
     workers: u32,
