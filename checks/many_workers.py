@@ -28,34 +28,44 @@ with multiprocessing.get_context("fork").Pool(processors()) as pool:
 
 
 def shares(words):
-    """The status and the output of a run, and for how many milliseconds each of its threads used a processor, the longest first.
-    """
+    """The status and the output of a run, and which of its threads were seen side by side, the calling thread first: for how many
+    nanoseconds each used a processor, in all."""
     ran = subprocess.Popen([PROGRAM, *words], stdin=subprocess.DEVNULL, stdout=subprocess.PIPE, stderr=subprocess.DEVNULL)
-    used, give_up = {}, time.monotonic() + SECONDS
+    used, seen, give_up = {}, set(), time.monotonic() + SECONDS
     while ran.poll() is None and time.monotonic() < give_up:
+        live = []
         try:
             for thread in os.listdir(f"/proc/{ran.pid}/task"):
                 with open(f"/proc/{ran.pid}/task/{thread}/schedstat", encoding="utf-8") as file:
-                    used[thread] = int(file.read().split()[0]) // 1_000_000
+                    used[thread] = int(file.read().split()[0])
+                live.append(thread)
         except OSError:
             pass
+        seen.add(tuple(sorted(live, key=lambda thread: thread != str(ran.pid))))
         time.sleep(0.002)
     ran.kill()
-    return ran.wait(), ran.stdout.read(), sorted(used.values(), reverse=True)
+    return ran.wait(), ran.stdout.read(), [[used[thread] for thread in live] for live in seen if live]
+
+
+def at_work(used):
+    """How many of these threads are at work: none with less than a tenth of another's time, but that the calling thread, which
+    works all the time, may have up to a hundred times as much. A thread that does nothing has none of it."""
+    most = max(used[1:], default=0)
+    return sum(time * 10 >= most and time * 100 >= used[0] for time in used)
 
 
 def shared(name, words, answer, threads):
-    """A row: the answer comes, and so many threads are seen at work, none with less than a tenth of another's time. A thread that
-    does nothing has none of it. What a thread does at last may be missed, and one that begins late may find less to do, so a run
-    is tried five times."""
+    """A row: the answer comes, and so many threads are seen at work side by side. What a thread does at last may be missed, and
+    one that begins late may find less to do, so a run is tried five times."""
     tried = []
     for _ in range(5):
-        status, out, used = shares(words)
-        tried.append(used[:threads + 2])
-        is_shared = len(used) >= threads and used[threads - 1] * 10 >= used[0]
-        if (status, out) != (0, answer) or is_shared:
+        status, out, seen = shares(words)
+        most = max(seen, key=at_work)
+        tried.append([time // 1_000_000 for time in most])
+        if (status, out) != (0, answer) or at_work(most) >= threads:
             break
-    rows.hold(name, (status, out) == (0, answer) and is_shared, f"status {status}, milliseconds of each thread {tried}")
+    rows.hold(name, (status, out) == (0, answer) and at_work(most) >= threads,
+              f"status {status}, milliseconds of each thread {tried}")
 
 
 # Little but the frequencies of the items above the one that each line has.

@@ -51,15 +51,24 @@ def with_line(at, text, others=lines):
     return "\n".join([*others[:at], text, *others[at:]]) + "\n"
 
 
-def border(workers, text, others=lines):
-    """The place at which this line, as one more, has the first byte behind the first piece."""
+def border(share, text, others=lines):
+    """The place at which this line, as one more, has the first byte behind a border: where it would stand for so many bytes in all."""
+    size = share(sum(map(len, others)) + len(others) + len(text) + 1)
     low, high = 0, len(others)
     while low < high:
         middle = (low + high) // 2
-        size = (sum(map(len, others)) + len(others) + len(text) + 1) // workers + 1
         begin = sum(map(len, others[:middle])) + middle
         low, high = (middle + 1, high) if begin + len(text) + 1 <= size else (low, middle)
     return low
+
+
+# Four workers read a block in four pieces: the calling thread reads the last, five of 32 parts, and the others a third of the rest each.
+def first_border(count):
+    return count // 32 * 27 // 3 + 1
+
+
+def last_border(count):
+    return count // 32 * 27
 
 
 # Of each kind of refusal a line, and behind its number what is told of it.
@@ -68,12 +77,14 @@ REFUSED = (("a \x01 b", 3, " column 3: bad byte"), ("a\rb", 3, " column 2: bad b
            (LONG_NAME, 4, " column 256: name over 255 bytes"),
            ("i " * (MOST_ITEMS + 1), 4, f": more than {MOST_ITEMS} items in a sequence"))
 for text, status, told in REFUSED:
-    at_border = border(4, text)
-    for place, at in (("first", 0), ("in the first piece", 7), ("before a border", at_border - 1), ("at a border", at_border),
-                      ("behind a border", at_border + 1), ("in a middle piece", LINES // 2 + 40), ("last", LINES)):
+    at_first, at_last = border(first_border, text), border(last_border, text)
+    for place, at in (("first", 0), ("in the first piece", 7), ("before a border", at_first - 1), ("at a border", at_first),
+                      ("behind a border", at_first + 1), ("in a middle piece", LINES // 2 + 40), ("before the last border", at_last - 1),
+                      ("at the last border", at_last), ("behind the last border", at_last + 1), ("last", LINES)):
         refuses(f"{told[1:].strip()}, {place}", with_line(at, text), status, f"line {at + 1}{told}")
 heavy = [f"{number % 5 + 1} {text}" for number, text in enumerate(lines)]
-for place, at in (("first", 0), ("at a border", border(4, "0 a", heavy)), ("last", LINES)):
+for place, at in (("first", 0), ("at a border", border(first_border, "0 a", heavy)), ("at the last border", border(last_border, "0 a", heavy)),
+                  ("last", LINES)):
     refuses(f"bad weight, {place}", with_line(at, "0 a", heavy), 3, f"line {at + 1} column 1: bad weight", "--weighted")
 refuses("of two refusals the first", with_line(LINES // 3, "\x02") + "\x03\n", 3, f"line {LINES // 3 + 1} column 1: bad byte")
 

@@ -57,7 +57,7 @@ for name, below in listed.items():
     own = [crate for crate in below if crate in listed]
     told = [] if mapped.get(name) == "none" else re.findall(r"\w+", mapped.get(name, ""))
     rows.hold(f"the map tells what {name} stands on", sorted(own) == sorted(told), f"it stands on {own}, told {told}")
-tests = {"layer_tests", "reader_tests", "run_tests"}
+tests = {"layer_tests", "reader_tests", "run_tests", "structure_tests", "test_facts"}
 wanting = [name for row in rows_behind(map_page, "| Crate | What could give up |") for name in re.findall(r"`(\w+)`", row[0])]
 rows.hold("the map says of each crate but those of tests what could want memory without cause",
           sorted(wanting) == sorted(set(listed) - tests), f"in one of both alone: {set(wanting) ^ (set(listed) - tests)}")

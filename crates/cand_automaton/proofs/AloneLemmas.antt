@@ -1,16 +1,16 @@
 -- The state of a pivot's candidates, from the whole graph of the sequence.
-use Rattle.std.proofs.Common.{◌≡◌, ◌≢◌, ◌↔◌, ℕ, ◌≤◌, ◌<◌, ◌∙◌, inl, inr, Option, Some, None, List, [], ◌∷◌, length, refl, sym, ap, subst, arith}
+use Rattle.std.proofs.Common.{◌≡◌, ◌≢◌, ◌↔◌, ℕ, ◌≤◌, inl, inr, Some, List, [], ◌∷◌, length, sym, subst}
 use Rattle.std.specs.List.{AllByRecursion, AllPairs, Contains}
 use Rattle.mine_model.specs.declared.item.Item.{Item}
 use Rattle.mine_model.specs.Ranks.{HasRank, AreRanked}
-use Rattle.mine_model.specs.Pivots.{IsRankedUpTo, HoldsRank, IsWithin, IsWithinPivot}
+use Rattle.mine_model.specs.Pivots.{IsRankedUpTo, HoldsRank}
 use Rattle.mine_model.proofs.ListLemmas.{Contains-cases, Contains-none, Contains-first, Contains-other}
 use Rattle.mine_model.proofs.RankLemmas.{HasRank-most}
 use Rattle.mine_model.proofs.RankedLemmas.{item_rank}
 use Rattle.mining_job.specs.Problems.{Problem, data_of, items_of}
 use Rattle.snapshot_project.specs.Extensions.{GeneratesWithin}
 use Rattle.snapshot_project.proofs.BoundLemmas.{within-pivot}
-use Rattle.automaton_model.specs.Automata.{StateValue, Accepts}
+use Rattle.automaton_model.specs.Automata.{StateValue}
 use Rattle.automaton_model.specs.Members.{IsPivotMember}
 use Rattle.candidate_graph.specs.Graphs.{Node}
 use Rattle.candidate_graph.specs.Paths.{Accepts as IsPath}

@@ -7,7 +7,7 @@ use Rattle.std.proofs.lemmas.List.Elements.{Contains-get_or}
 use Rattle.mine_model.specs.declared.item.Item.{Item}
 use Rattle.mine_model.specs.Database.{sequence_at, IsWithinLimits}
 use Rattle.mine_model.specs.Limits.{most_weight}
-use Rattle.mine_model.specs.Support.{Sequence, Counts}
+use Rattle.mine_model.specs.Support.{Sequence}
 use Rattle.mine_model.specs.Answer.{Data}
 use Rattle.mine_model.proofs.ListLemmas.{Contains-from, AllByRecursion-from}
 use Rattle.mine_model.proofs.FrequencyLemmas.{Counts-most}

@@ -1,12 +1,12 @@
 -- The loads of the sequences of a part, one sequence after another.
-use Rattle.std.proofs.Common.{take, map, ◌≡◌, ◌≢◌, ◌↔◌, ◌⊎◌, ℕ, ◌+◌, ◌≤◌, ◌<◌, inl, inr, List, [], ◌∷◌, ◌++◌, length, get_or, sum_by, refl, sym, ap, ◌∙◌, subst, arith, length-append}
+use Rattle.std.proofs.Common.{take, ◌≡◌, ◌≢◌, ◌⊎◌, ℕ, ◌+◌, ◌≤◌, ◌<◌, inl, inr, List, [], ◌∷◌, ◌++◌, length, get_or, sum_by, refl, sym, ap, ◌∙◌, subst, arith, length-append}
 use Rattle.std.specs.List.{AllPairs, Contains}
 use Rattle.std.proofs.lemmas.List.{take_more, get_or-map, length-map}
 use Rattle.std.proofs.lemmas.List.Sums.{sum_by-append, sum_by-cons, sum_by-take-le}
 use Rattle.std.proofs.lemmas.List.Elements.{Contains-append_left, Contains-append_right, Contains-append_cases}
 use Rattle.mine_model.specs.declared.item.Item.{Item}
 use Rattle.mine_model.specs.Database.{sequence_at}
-use Rattle.mine_model.specs.Support.{Sequence, Counts}
+use Rattle.mine_model.specs.Support.{Sequence}
 use Rattle.mine_model.specs.Answer.{Data}
 use Rattle.mine_model.proofs.ListLemmas.{Contains-cases, Contains-none, Contains-first, Contains-other, AllPairs-append, AllPairs-tail, AllPairs-head}
 use Rattle.automaton_model.specs.Automata.{StateValue, Accepts}
@@ -16,7 +16,7 @@ use Rattle.automaton_model.specs.Registry.{IsRegistry}
 use Rattle.automaton_model.specs.Searches.{Load, Weigh}
 use Rattle.automaton_model.proofs.LanguageLemmas.{accepts-more, accepts-less, node-stays}
 use Rattle.cand_automaton.specs.Roots.{IsRootFor}
-use Rattle.cand_automaton.specs.Loads.{IsLoaded, IsLoadOf, AreLoadsOf}
+use Rattle.cand_automaton.specs.Loads.{IsLoaded, AreLoadsOf}
 use Rattle.cand_automaton.proofs.WeighLemmas.{Weigh-within, Weigh-append, Weigh-more, Weigh-no_more, Counts-split}
 
 abbrev pub Apart : Load → Load → Type 0

@@ -1,12 +1,11 @@
 -- The rows and the sets of the parts of some pivots, put together.
-use Rattle.std.proofs.Common.{◌≡◌, ◌≢◌, ◌↔◌, ℕ, ◌+◌, ◌≤◌, ◌<◌, inl, inr, List, [], ◌∷◌, ◌++◌, length, refl, sym, ap, ◌∙◌, subst, arith, length-append}
+use Rattle.std.proofs.Common.{◌≢◌, ◌↔◌, ℕ, ◌+◌, ◌≤◌, inl, inr, List, [], ◌∷◌, ◌++◌, refl, sym, ap, subst, arith, length-append}
 use Rattle.std.specs.List.{AllPairs, Contains}
 use Rattle.std.proofs.lemmas.List.Elements.{Contains-append_left, Contains-append_right, Contains-append_cases}
 use Rattle.mine_model.specs.declared.item.Item.{Item}
 use Rattle.mine_model.specs.declared.row.Row.{Row}
-use Rattle.mine_model.specs.declared.mined.Work.{Work}
 use Rattle.mine_model.specs.Support.{HasFrequency}
-use Rattle.mine_model.specs.Answer.{Data, IsFrequent}
+use Rattle.mine_model.specs.Answer.{Data}
 use Rattle.mine_model.specs.Numbered.{AreFrequent}
 use Rattle.mine_model.specs.Ranks.{Ranking, AreRanks}
 use Rattle.mine_model.specs.Pivots.{IsWithinPivot, IsAliveLabel}
@@ -16,8 +15,7 @@ use Rattle.mine_model.proofs.AliveLemmas.{IsAlive-frequent, IsAlive-shorter}
 use Rattle.search_tree.proofs.PivotLemmas.{pivot-same, place_of}
 use Rattle.search_tree.proofs.SearchAnswerLemmas.{frequent-ranks}
 use Rattle.automaton_model.specs.Groups.{AreRowsOfPivot}
-use Rattle.automaton_model.specs.Work.{CodeOfPart, IsCounted, IsAutomatonWork}
-use Rattle.pivot_partition.specs.Pivots.{HasPivotIn}
+use Rattle.automaton_model.specs.Work.{CodeOfPart, IsAutomatonWork}
 use Rattle.cand_automaton.specs.Pivots.{AreRowsOfPivots, AreSetsOfPivots}
 
 module _ (d : Data Item) (order : List Item) where

@@ -1,6 +1,7 @@
 -- The state of a sequence's candidates, whatever pivot the part is that of.
-use Rattle.std.proofs.Common.{◌≡◌, ◌≢◌, ◌↔◌, ℕ, ◌≤◌, ◌<◌, Option, Some, List, [], ◌∷◌, length, refl, sym, ap, ◌∙◌, subst, arith}
+use Rattle.std.proofs.Common.{◌≡◌, ◌≢◌, ◌↔◌, ℕ, ◌≤◌, Option, Some, List, [], ◌∷◌, length, refl, sym, ap, ◌∙◌, subst}
 use Rattle.std.specs.Prelude.{IfSome}
+use Rattle.std.proofs.lemmas.List.{nil_from_length}
 use Rattle.mine_model.specs.declared.item.Item.{Item}
 use Rattle.mine_model.specs.Pivots.{IsWithin}
 use Rattle.mine_model.proofs.RankedLemmas.{ranked-length}
@@ -33,7 +34,7 @@ member-within part items pivot least bound list = (
     within = (within-pivot part.problem.ranking.order pivot least pattern).0 (subst (λ (b : Bound). IsWithin part.problem.ranking.order b.top b.need pattern) bound within);
   }),
   (λ member. (
-    (λ none. member.generated.0 (no_items member.pattern (ranked-length part.problem.ranking.order member.pattern list member.ranked ∙ ap (λ (l : List ℕ). length l) none))),
+    (λ none. member.generated.0 (nil_from_length member.pattern (ranked-length part.problem.ranking.order member.pattern list member.ranked ∙ ap (λ (l : List ℕ). length l) none))),
     (
       member.pattern,
       member.ranked,
@@ -42,10 +43,6 @@ member-within part items pivot least bound list = (
     ),
   )),
 )
-  where
-    no_items : (xs : List Item) → length xs ≡ 0 → xs ≡ []
-    no_items [] none = refl
-    no_items (x ∷ xs) none = absurd (omega (arith, none))
 
 -- the state of a graph's root
 pub root-within : (part : GridList) (items : List Item) (nodes : List Node) (states : List StateValue) (root : ℕ)

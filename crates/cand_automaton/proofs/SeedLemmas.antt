@@ -1,11 +1,11 @@
 -- Seeds as parts of pivots.
-use Rattle.std.proofs.Common.{◌≡◌, ℕ, ◌+◌, ◌*◌, ◌≤◌, ◌<◌, ◌^◌, Some, List, [], ◌∷◌, ◌++◌, map, take, length, get_or, sum_by, refl, sym, ap, ◌∙◌, subst, arith}
-use Rattle.std.specs.List.{All, AllByRecursion, Contains, slice_get, slice_index}
+use Rattle.std.proofs.Common.{◌≡◌, ℕ, ◌*◌, ◌≤◌, ◌<◌, Some, List, length, get_or, sum_by, sym, ap, ◌∙◌, arith}
+use Rattle.std.specs.List.{All, AllByRecursion, Contains, slice_get}
 use Rattle.std.proofs.lemmas.List.Elements.{Contains-get_or}
 use Rattle.std.proofs.lemmas.Option.{slice_get-get_or}
 use Rattle.mine_model.specs.declared.item.Item.{Item}
-use Rattle.mine_model.specs.Database.{sequence_at, IsWithinLimits}
-use Rattle.mine_model.specs.Limits.{most_sequences, most_weight}
+use Rattle.mine_model.specs.Database.{IsWithinLimits}
+use Rattle.mine_model.specs.Limits.{most_sequences}
 use Rattle.mine_model.specs.Support.{Sequence}
 use Rattle.mine_model.proofs.ListLemmas.{AllByRecursion-from}
 use Rattle.mine_model.proofs.ElementLemmas.{slice_get-mapped_by}
@@ -16,7 +16,6 @@ use Rattle.pivot_partition.specs.Pivots.{pivots_in}
 use Rattle.snapshot_project.proofs.PartLemmas.{rising-few}
 use Rattle.automaton_model.specs.Groups.{AreOfPivot, part_of}
 use Rattle.cand_automaton.proofs.PartLemmas.{part-most}
-use Rattle.cand_automaton.proofs.LoadLemmas.{part-room}
 
 module _ (problem : Problem) (seed : PartSeed) (complete : IsComplete problem seed) where
   pub seed-pivot : AreOfPivot (data_of problem) problem.ranking.order (pivot_of seed.pivot) seed.sequences.items

@@ -1,8 +1,7 @@
 -- What workers are given and what they find.
-use Rattle.std.specs.Prelude.{◌≡◌, ℕ, ◌%◌, ◌≤◌, ◌<◌, ◌↔◌, List, [], map, length, slice_get, Some, Result, Ok, Err, IfOk, All, AllPairs, Contains, sum_by}
+use Rattle.std.specs.Prelude.{◌≡◌, ℕ, ◌%◌, ◌≤◌, ◌<◌, List, [], map, length, slice_get, Some, Result, Ok, All, AllPairs, Contains, sum_by}
 use Rattle.std.specs.List.{flat_map}
 use Rattle.mine_model.specs.declared.memory.NoMemory.{NoMemory}
-use Rattle.mine_model.specs.declared.row.Row.{Row}
 use Rattle.mine_model.specs.Pivots.{IsAliveLabel}
 use Rattle.mining_job.specs.declared.part_seed.PartSeed.{PartSeed}
 use Rattle.mining_job.specs.Problems.{Problem, data_of}

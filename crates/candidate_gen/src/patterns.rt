@@ -29,6 +29,7 @@ fn listed_patterns(
 {
     list.fill(seq)?;
     let patterns = patterns_of(alloc, job, list)?;
+    // For the proof alone: the job is whole, so no item has two ranks.
     let _ranks = job.ranks();
     Ok(patterns)
 }

@@ -43,6 +43,7 @@ impl<'a, 'b> View<'a, 'b> {
         ensures space { result ≡ record { problem = job.now; sequence = items_of job.now seq } }
         ensures whole { IsWhole job.now }
     {
+        // For the proof alone: the final states are among the transducer's, and these are few.
         let _states = job.fst().states();
         let length = job.db().sequence(seq).len() as u32;
         View { grids, length }

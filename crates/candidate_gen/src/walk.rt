@@ -77,6 +77,7 @@ impl Walk {
         requires none { listed.old.lists ≡ [] }
         ensures { OnOk result (AreWritten view.now listed.new.lists) }
     {
+        // For the proof alone: positions and states are small, and the job is whole.
         let _length = view.length();
         self.begin(view, successors)?;
         'prefixes: while let Some(top) = self.waiting.last().copied() {

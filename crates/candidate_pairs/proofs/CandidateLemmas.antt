@@ -1,5 +1,6 @@
 -- From lists of ranks to candidates.
-use Rattle.std.proofs.Common.{◌≡◌, ◌≢◌, ◌↔◌, ℕ, ◌<◌, None, List, [], ◌∷◌, length, map, refl, sym, ap, ◌∙◌, subst, arith}
+use Rattle.std.proofs.Common.{◌≡◌, ◌≢◌, ◌↔◌, ℕ, None, List, [], length, map, sym, ap, ◌∙◌, subst}
+use Rattle.std.proofs.lemmas.List.{nil_from_length}
 use Rattle.mine_model.specs.declared.item.Item.{Item}
 use Rattle.mine_model.specs.Answer.{Data}
 use Rattle.mine_model.specs.Candidates.{IsCandidate}
@@ -21,10 +22,6 @@ use Rattle.candidate_graph.specs.Paths.{Accepts}
 use Rattle.graph_order.specs.Orders.{IsSomeGraph}
 use Rattle.sequence_candidates.specs.Candidates.{AreCandidates}
 use Rattle.candidate_pairs.specs.Paths.{HasPaths}
-
-no-items : (xs : List Item) → length xs ≡ 0 → xs ≡ []
-no-items [] none = refl
-no-items (x ∷ xs) none = absurd (omega (arith, none))
 
 module _ (part : GridList) (whole : IsWhole part.problem) (bound : part.bound ≡ bound_of (length part.problem.ranking.order) None) (items : List Item) where
   abbrev order : List Item
@@ -55,7 +52,7 @@ module _ (part : GridList) (whole : IsWhole part.problem) (bound : part.bound �
       let (list, ranked) = frequent-ranks data' part.problem.ranking whole.ranks pattern is.allowed in (
         list,
         sym (ranked-items order pattern list ranked),
-        (λ none. is.generated.0 (no-items pattern (ranked-length order pattern list ranked ∙ ap (λ (l : List ℕ). length l) none))),
+        (λ none. is.generated.0 (nil_from_length pattern (ranked-length order pattern list ranked ∙ ap (λ (l : List ℕ). length l) none))),
         (pattern, ranked, is.generated, within-of pattern is.allowed),
       )
 

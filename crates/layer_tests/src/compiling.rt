@@ -5,11 +5,11 @@ ghost use Rattle.mine_model.specs.Expression.{named_by, unfolded_leaves, unfolde
 ghost use Rattle.mine_model.specs.Numbered.{tree_of, leaf_of};
 
 use super::data::{A, P, Q, R, Shape, X, expression, hierarchy};
-use super::facts::first_false;
 use fst_compile::{Fst, State, compile, outputs};
 use mine_model::{Expr, Item, Leaf, NoMemory};
 use std::alloc::{AllocError, Global};
 use std::fmt::Write;
+use test_facts::first_false;
 
 /// Writes the edges as `from>to`.
 fn add_edges(text: &mut String, fst: &Fst) -> Result<(), NoMemory> {

@@ -4,15 +4,11 @@
 #[cfg(test)]
 mod automata;
 #[cfg(test)]
-mod bits;
-#[cfg(test)]
 mod blocks;
 #[cfg(test)]
 mod compiling;
 #[cfg(test)]
 mod data;
-#[cfg(test)]
-mod facts;
 #[cfg(test)]
 mod frequencies;
 #[cfg(test)]
@@ -24,24 +20,12 @@ mod judging;
 #[cfg(test)]
 mod listing;
 #[cfg(test)]
-mod members;
-#[cfg(test)]
 mod mining;
-#[cfg(test)]
-mod packing;
 #[cfg(test)]
 mod pivots;
 #[cfg(test)]
-mod pools;
-#[cfg(test)]
 mod proving;
-#[cfg(test)]
-mod schedules;
 #[cfg(test)]
 mod searching;
 #[cfg(test)]
 mod snapshots;
-#[cfg(test)]
-mod sums;
-#[cfg(test)]
-mod turns;

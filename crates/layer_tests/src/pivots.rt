@@ -2,13 +2,13 @@
 ghost use Rattle.std.specs.Prelude.{◌≢◌, ◌<◌, ◌≤◌, [], AllPairs};
 
 use super::data::{RUNNING, Shape, add_numbers, job};
-use super::facts::first_false;
 use mine_model::NoMemory;
 use mining_job::{Job, PartSeed};
 use pivot_partition::{merge_pivots, pivots_of, split, split_alone};
 use std::alloc::Global;
 use std::fmt::Write;
 use std::thread::Threads;
+use test_facts::first_false;
 
 /// The pivots of each sequence, and then the parts, as text.
 fn told(alloc: Global, job: &Job) -> Result<String, NoMemory> {

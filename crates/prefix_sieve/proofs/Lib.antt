@@ -1,4 +1,5 @@
 mod BitLemmas
 mod FrontLemmas
 mod HashLemmas
+pub mod PathLemmas
 mod SieveLemmas

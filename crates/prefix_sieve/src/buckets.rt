@@ -42,6 +42,7 @@ impl Buckets {
     #[inline]
     pub fn add(&mut self, hash: u64, weight: u64)
         ensures raised { self.new ≡ raised self.old hash weight }
+        ensures long { length self.new ≡ length self.old }
         ensures here { sum_of self.new hash ≡ capped (sum_of self.old hash) weight }
         ensures never_less { (other : ℕ) → sum_of self.old other ≤ sum_of self.new other }
     {

@@ -33,6 +33,7 @@ pub(crate) fn go_on<B: Branches>(
     requires begun { B.IsBegun branches.old }
     requires within { (front : Fronted) → Contains here.now front
         → front.node < length (B.nodes branches.old) }
+    ensures ground { B.ground_of branches.new ≡ B.ground_of branches.old }
     ensures begun { B.IsBegun branches.new }
     ensures grows { Grows (B.nodes branches.old) (B.nodes branches.new) }
     ensures gone { OnOk result (AreGone (slice_get sieve.now before) (B.nodes branches.new) here.now
@@ -55,6 +56,7 @@ fn go_behind<B: Branches>(
 ) -> Result<(), NoMemory>
     requires begun { B.IsBegun branches.old }
     requires node { front.node < length (B.nodes branches.old) }
+    ensures ground { B.ground_of branches.new ≡ B.ground_of branches.old }
     ensures begun { B.IsBegun branches.new }
     ensures grows { Grows (B.nodes branches.old) (B.nodes branches.new) }
     ensures gone { OnOk result (HasGone (slice_get sieve.now before) (B.nodes branches.new) front
@@ -115,6 +117,7 @@ pub(crate) fn go_down<B: Branches>(
     requires begun { B.IsBegun branches.old }
     requires root { 0 < length (B.nodes branches.old) }
     requires here { here.old.items ≡ root_front ∷ [] }
+    ensures ground { B.ground_of branches.new ≡ B.ground_of branches.old }
     ensures begun { B.IsBegun branches.new }
     ensures grows { Grows (B.nodes branches.old) (B.nodes branches.new) }
     ensures fronts { OnOk result (AreFronts sieve.now (B.nodes branches.new) (length sieve.now)

@@ -41,8 +41,10 @@ pub fn pass<B: Branches>(
 ) -> Result<(), NoMemory>
     requires begun { B.IsBegun branches.old }
     requires root { 0 < length (B.nodes branches.old) }
+    ensures ground { B.ground_of branches.new ≡ B.ground_of branches.old }
     ensures begun { B.IsBegun branches.new }
     ensures grows { Grows (B.nodes branches.old) (B.nodes branches.new) }
+    ensures long { length buckets.new ≡ length buckets.old }
     ensures passed { OnOk result (IsPassed sieve.now weight (B.nodes branches.new) buckets.old
         buckets.new) }
 {

@@ -23,8 +23,10 @@ pub(crate) fn raise_all<B: Branches>(
     requires begun { B.IsBegun branches.old }
     requires within { (front : Fronted) → Contains here.now front
         → front.node < length (B.nodes branches.old) }
+    ensures ground { B.ground_of branches.new ≡ B.ground_of branches.old }
     ensures begun { B.IsBegun branches.new }
     ensures grows { Grows (B.nodes branches.old) (B.nodes branches.new) }
+    ensures long { length buckets.new ≡ length buckets.old }
     ensures raised { OnOk result (HaveRaised (B.nodes branches.new) here.now weight buckets.old
         buckets.new) }
 {
@@ -43,8 +45,10 @@ fn raise_behind<B: Branches>(
 ) -> Result<(), NoMemory>
     requires begun { B.IsBegun branches.old }
     requires node { front.node < length (B.nodes branches.old) }
+    ensures ground { B.ground_of branches.new ≡ B.ground_of branches.old }
     ensures begun { B.IsBegun branches.new }
     ensures grows { Grows (B.nodes branches.old) (B.nodes branches.new) }
+    ensures long { length buckets.new ≡ length buckets.old }
     ensures raised { OnOk result (HasRaisedBehind (B.nodes branches.new) front weight buckets.old
         buckets.new) }
 {
@@ -56,7 +60,8 @@ fn raise_behind<B: Branches>(
 
 // Adds the weight to the bucket of the prefix with each of the edges.
 fn raise_edges(edges: &[Edge], hash: u64, weight: u64, buckets: &mut Buckets)
-    ensures { AreRaised edges.now hash weight buckets.old buckets.new }
+    ensures long { length buckets.new ≡ length buckets.old }
+    ensures raised { AreRaised edges.now hash weight buckets.old buckets.new }
 {
     for edge in edges {
         buckets.add(mixed(hash, edge.rank), weight);

@@ -3,10 +3,10 @@
 ghost use Rattle.std.specs.Prelude.{◌≤◌};
 ghost use Rattle.gap_front.specs.Embedding.{most_gap, most_rule_length};
 
-use super::facts::first_false;
 use gap_front::{GapRule, expression};
 use mine_model::NoMemory;
 use std::alloc::Global;
+use test_facts::first_false;
 
 // The leaves of a rule with this greatest gap and this greatest length.
 fn leaves_of(max_gap: u32, max_length: u32) -> u64

@@ -2,12 +2,12 @@
 
 ghost use Rattle.std.specs.Prelude.{◌<◌};
 
-use super::facts::first_false;
 use super::one_file::one_file;
 use item_hierarchy::{close, read};
 use item_names::Names;
 use mine_model::{Fault, Hierarchy, Item, NoMemory};
 use std::alloc::{AllocError, Global};
+use test_facts::first_false;
 use text_ports::MemFiles;
 
 /// The hierarchy of these files, with these names, or why there is none.

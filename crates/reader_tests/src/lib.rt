@@ -4,8 +4,6 @@
 #[cfg(test)]
 mod expressions;
 #[cfg(test)]
-mod facts;
-#[cfg(test)]
 mod gap_rules;
 #[cfg(test)]
 mod hierarchies;

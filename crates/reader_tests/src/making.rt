@@ -1,9 +1,9 @@
 //! Made input and its summary.
 
-use super::facts::first_false;
 use made_input::{Made, make, summary};
 use mine_model::{Item, NoMemory, Pattern, Row};
 use std::alloc::Global;
+use test_facts::first_false;
 
 /// The number of the first wrong fact of the input of one sequence.
 fn wrong_fact(made: &Made) -> Option<usize> {

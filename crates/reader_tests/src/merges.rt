@@ -1,11 +1,11 @@
 //! Shares, and the rows of outputs that are merged.
 
-use super::facts::first_false;
 use super::one_file::one_file;
 use item_names::Names;
 use mine_model::{Item, NoMemory, Row};
 use split_merge::{MergeFault, MergedRows, is_in_share, read_rows};
 use std::alloc::Global;
+use test_facts::first_false;
 
 #[test]
 fn a_rank_is_in_one_share(rt: HostRuntime) {

@@ -1,9 +1,9 @@
 //! Names and their numbers.
 
-use super::facts::first_false;
 use item_names::{Names, NamesFault};
 use mine_model::{Item, NoMemory};
 use std::alloc::{AllocError, Global};
+use test_facts::first_false;
 use text_ports::Span;
 
 /// Whether the numbers of these names are theirs.

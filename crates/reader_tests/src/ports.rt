@@ -1,10 +1,10 @@
 //! The objects that stand for files and streams.
 
-use super::facts::first_false;
 use mine_model::NoMemory;
 use std::alloc::{AllocError, Global};
 use std::io::{ErrorKind, Write};
 use std::{fs, io};
+use test_facts::first_false;
 use text_ports::{
     DiskFiles, Failed, Files, MemFile, MemFiles, MemSink, Sink, StdSink, SureFiles, SureSink,
     write_all,

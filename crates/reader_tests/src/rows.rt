@@ -4,11 +4,11 @@ ghost use Rattle.std.specs.Prelude.{◌≢◌, ℕ, ◌<◌, length, slice_index
 ghost use Rattle.mine_model.specs.declared.row.Row.{Row};
 ghost use Rattle.mine_model.specs.Names.{HasName};
 
-use super::facts::first_false;
 use item_names::Names;
 use mine_model::{Item, NoMemory, Pattern, Row};
 use pattern_writer::{order, write};
 use std::alloc::Global;
+use test_facts::first_false;
 use text_ports::MemSink;
 
 fn have_names(items: &[Item], names: &Names) -> bool

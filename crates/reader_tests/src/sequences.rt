@@ -2,7 +2,6 @@
 
 ghost use Rattle.std.specs.Prelude.{◌<◌};
 
-use super::facts::first_false;
 use super::one_file::one_file;
 use item_names::Names;
 use mine_model::{Db, Item, NoMemory};
@@ -12,6 +11,7 @@ use sequence_reader::SequenceFault::{
 use sequence_reader::{SequenceFault, read};
 use std::alloc::{AllocError, Global};
 use std::thread::Threads;
+use test_facts::first_false;
 
 /// The sequences of a file with these bytes, or why there are none. The call with this number fails.
 fn sequences_of<R: Threads + Sync>(

@@ -1,6 +1,6 @@
 -- What was read of a piece by known names and names of its own becomes a part of all.
 use Rattle.std.proofs.Common.{◌≡◌, ℕ, zero, suc, ◌+◌, ◌≤◌, ◌<◌, Bool, List, [], ◌∷◌, ◌++◌, map, length, take, drop, get_or, inl, inr, refl, sym, ap, ◌∙◌, subst, arith, append_assoc, length-append}
-use Rattle.std.specs.List.{AllByRecursion, AllZip, Contains, flat_map, slice_index_or}
+use Rattle.std.specs.List.{All, AllByRecursion, AllZip, Contains, flat_map, slice_index_or}
 use Rattle.std.proofs.Math.Seq.{take-append_seam}
 use Rattle.std.proofs.lemmas.List.{map-append, append-nil, length-map, get_or-map, take_more, take-append-drop, get_or_append_left, get_or-append-add, get_or_push}
 use Rattle.std.proofs.lemmas.List.Concat.{flat_map-append}
@@ -95,6 +95,11 @@ numbers_below-get (suc n) i d within = elim (eq-or-lt_of_le {n = i} {m = n} (ome
 pub number-known : (known : ℕ) (own : List Item) (item : Item) → item.0 < known → renumbered (numbers_below known ++ own) item ≡ item
 number-known known own item within =
     get_or_append_left (numbers_below known) own _ item.0 (let size = numbers_below-length known in omega (arith, within, size)) ∙ numbers_below-get known item.0 _ within
+
+pub numbers-known : (known : ℕ) (own sequence : List Item) → All (λ item. item.0 < known) sequence → map (renumbered (numbers_below known ++ own)) sequence ≡ sequence
+numbers-known known own [] all = refl
+numbers-known known own (item ∷ sequence) all =
+    (λ j. number-known known own item (all 0 item (omega arith)) j ∷ numbers-known known own sequence (λ k d within. all (suc k) d (omega (arith, within))) j)
 
 pub number-own : (known : ℕ) (own : List Item) (item : Item) (i : ℕ) → item.0 ≡ known + i → renumbered (numbers_below known ++ own) item ≡ slice_index_or own i (record { 0 = 0 })
 number-own known own item i is =
@@ -217,6 +222,12 @@ AllZip-last R [] (w ∷ ys) y zip = absurd zip
 AllZip-last R (x ∷ xs) (w ∷ ys) y zip =
     let (front, last, is, others, own) = AllZip-last R xs ys y zip.1 in
     (x ∷ front, last, ap (λ l. x ∷ l) is, (zip.0, others), own)
+
+pub AllZip-more : {X Y : Type 0} (R : X → Y → Type 0) (xs : List X) (ys : List Y) (x : X) (y : Y) → AllZip R xs ys → R x y → AllZip R (xs ++ x ∷ []) (ys ++ y ∷ [])
+AllZip-more R [] [] x y zip own = (own, tt)
+AllZip-more R [] (w ∷ ys) x y zip own = absurd zip
+AllZip-more R (z ∷ xs) [] x y zip own = absurd zip
+AllZip-more R (z ∷ xs) (w ∷ ys) x y zip own = (zip.0, AllZip-more R xs ys x y zip.1 own)
 
 pub pieces-none : (names old : List (List ℕ)) (weighted : Bool) (earlier : List (List ℕ)) (v : Reading) → IsTaken names weighted earlier v → (texts : List (List ℕ))
     → AllZip (λ text reading. IsTaken old weighted (lines_behind text) (behind old reading)) texts [] → IsTaken names weighted (earlier ++ flat_map lines_behind texts) v

@@ -26,7 +26,7 @@ pub(crate) fn cut<'a>(alloc: Global, bytes: &'a [u8], most: u32) -> Result<Vec<&
 }
 
 /// Where the next line begins behind this place, or the end of the bytes.
-fn line_end(bytes: &[u8], from: usize) -> usize
+pub(crate) fn line_end(bytes: &[u8], from: usize) -> usize
     requires { from ≤ length bytes.now }
     ensures within { (from ≤ result) × (result ≤ length bytes.now) }
     ensures between { lines_behind bytes.now

@@ -1,8 +1,8 @@
 //! Joins what was read of pieces.
 
-ghost use Rattle.std.specs.Prelude.{◌≡◌, ℕ, ◌+◌, ◌≤◌, ◌<◌, ◌++◌, Bool, true, false, List, [], ◌∷◌, map, Ok, length, OnOk, OnErr};
+ghost use Rattle.std.specs.Prelude.{◌≡◌, ℕ, ◌+◌, ◌≤◌, ◌<◌, ◌++◌, Bool, true, false, List, [], ◌∷◌, map, Ok, length, All, IsTrue, OnOk, OnErr};
 ghost use Rattle.std.specs.List.{AllByRecursion, AllZip, flat_map};
-ghost use Rattle.mine_model.specs.Limits.{most_sequences};
+ghost use Rattle.mine_model.specs.Limits.{most_sequences, most_length, most_weight};
 ghost use Rattle.mine_model.specs.Names.{sequence_by};
 ghost use Rattle.text_ports.specs.Scanning.{lines_behind};
 ghost use Rattle.sequence_reader.specs.Taking.{behind, IsTaken, numbers_below, renumbered, sequences_waiting, all_waiting, with_waiting};
@@ -145,10 +145,40 @@ fn append_sequences(db: &mut Db, piece: &Waiting, items: &mut Vec<Item>) -> Resu
     ensures { OnOk result (db.new ≡ db.old ++ sequences_waiting piece.now) }
 {
     for i in 0..piece.db.sequences() {
-        renumber(piece.db.sequence(i), piece, items)?;
-        db.push_weighted(items.as_slice(), piece.db.weight(i))?;
+        append_sequence(db, piece.db.sequence(i), piece.db.weight(i), piece, items)?;
     }
     Ok(())
+}
+
+/// Appends a sequence of a piece, whose items get the numbers of all. Most sequences have known items alone,
+/// which keep theirs.
+fn append_sequence(
+    db: &mut Db,
+    sequence: &[Item],
+    weight: u64,
+    piece: &Waiting,
+    items: &mut Vec<Item>,
+) -> Result<(), NoMemory>
+    requires few { length db.old < most_sequences }
+    requires short { length sequence.now ≤ most_length }
+    requires least { 1 ≤ weight }
+    requires most { weight ≤ most_weight }
+    ensures { OnOk result (db.new ≡ db.old ++ sequence_by
+        (renumbered (numbers_below piece.now.known ++ piece.now.own.items))
+        (record { items = sequence.now; weight = weight }) ∷ []) }
+{
+    if !are_known(sequence, piece.known) {
+        renumber(sequence, piece, items)?;
+        return db.push_weighted(items.as_slice(), weight);
+    }
+    db.push_weighted(sequence, weight)
+}
+
+/// Whether all items are among so many known ones, the first of all.
+fn are_known(sequence: &[Item], known: u32) -> bool
+    ensures { IsTrue result → All (λ item. item.0 < known) sequence.now }
+{
+    sequence.iter().all(|item| item.0 < known)
 }
 
 /// Leaves the items of a sequence of a piece with the numbers that they have got.

@@ -10,7 +10,7 @@ ghost use Rattle.sequence_reader.specs.Blocks.{text_of, IsBlock, IsNext, IsAt};
 ghost use Rattle.sequence_reader.specs.Taking.{behind, IsTaken, all_waiting, with_waiting};
 
 use super::block::Block;
-use super::cutting::cut;
+use super::cutting::{cut, line_end};
 use super::joining::{Waiting, append_waiting, number_all};
 use super::piece::read_piece;
 use super::reading::Reading;
@@ -36,7 +36,7 @@ pub(crate) fn read_in_pieces<R: Threads + Sync, F: Files>(
     all: &mut Reading,
     waiting: &mut Vec<Waiting>,
 ) -> Result<bool, SequenceFault>
-    requires some { 0 < workers }
+    requires several { 1 < workers }
     requires block { IsBlock block.now }
     requires buffer { 0 < length next.old.buffer.items }
     requires room { length all.old.db + length (all_waiting waiting.old.items) ≤ most_sequences }
@@ -65,7 +65,9 @@ pub(crate) fn read_in_pieces<R: Threads + Sync, F: Files>(
     ensures same_files { F.holds files.new ≡ F.holds files.old }
     ensures never_falls { F.faults files.old ≤ F.faults files.new }
 {
-    let pieces = cut(alloc, block.text(), workers)?;
+    let text = block.text();
+    let (others, own) = text.split_at(line_end(text, bytes_of_others(text.len(), workers)));
+    let pieces = cut(alloc, others, workers - 1)?;
     let (readings, outcome) = read_beside(
         rt,
         alloc,
@@ -73,19 +75,44 @@ pub(crate) fn read_in_pieces<R: Threads + Sync, F: Files>(
         block,
         next,
         pieces.as_slice(),
+        own,
         all,
         waiting.as_slice(),
     );
-    outcome?;
+    let last = outcome?;
     waiting.clear();
     match readings {
-        Ok(readings) => Ok(number_all(alloc, all, readings, waiting)?),
+        Ok(mut readings) => match last {
+            Ok(last) => {
+                match readings.push(last) {
+                    Ok(()) => {}
+                    Err(_) => return Err(SequenceFault::NoMemory),
+                }
+                Ok(number_all(alloc, all, readings, waiting)?)
+            }
+            Err(_) => Ok(false),
+        },
         Err(_) => Ok(false),
     }
 }
 
-/// What is read of pieces by the names so far. Beside that the sequences that wait are appended, and the
-/// block behind another is read.
+/// So many of the bytes of a block other threads read, in pieces. The calling thread, which is one of the
+/// workers, reads the rest: it also appends the sequences that wait and reads the next block, which takes
+/// about as long as an eighth of all pieces.
+fn bytes_of_others(count: usize, workers: u32) -> usize
+    ensures { result ≤ count }
+{
+    match workers {
+        2 => count / 16 * 9,
+        3 => count / 4 * 3,
+        4 => count / 32 * 27,
+        5 => count / 10 * 9,
+        _ => count,
+    }
+}
+
+/// What is read of pieces by the names so far. Beside that the calling thread appends the sequences that
+/// wait, reads the block behind another, and then reads a piece of its own.
 fn read_beside<R: Threads + Sync, F: Files>(
     rt: &R,
     alloc: Global,
@@ -93,19 +120,23 @@ fn read_beside<R: Threads + Sync, F: Files>(
     block: &Block,
     next: &mut Block,
     pieces: &[&[u8]],
+    own: &[u8],
     all: &mut Reading,
     waiting: &[Waiting],
 ) -> (
     Result<Vec<Reading>, SequenceFault>,
-    Result<(), SequenceFault>,
+    Result<Result<Reading, SequenceFault>, SequenceFault>,
 )
     requires few { All (λ piece. length piece.now ≤ most_file_bytes) pieces.now }
+    requires few_own { length own.now ≤ most_file_bytes }
     requires block { IsBlock block.now }
     requires buffer { 0 < length next.old.buffer.items }
     requires room { length all.old.db + length (all_waiting waiting.now) ≤ most_sequences }
     ensures pieces { IfOk result.0 (λ readings. AllZip
         (λ piece reading. IsTaken all.old.names all.old.weighted (lines_behind piece.now)
         (behind all.old.names reading)) pieces.now readings.items) }
+    ensures own { IfOk result.1 (λ last. IfOk last (λ reading.
+        IsTaken all.old.names all.old.weighted (lines_behind own.now) (behind all.old.names reading))) }
     ensures appended { OnOk result.1 (all.new.db ≡ all.old.db ++ all_waiting waiting.now) }
     ensures block { OnOk result.1 (IsNext block.now next.new) }
     ensures at { OnOk result.1 ((told : Option (List ℕ)) (lines : List (List ℕ))
@@ -137,10 +168,14 @@ fn read_beside<R: Threads + Sync, F: Files>(
                 (λ piece reading. IsTaken names.entry.now weighted (lines_behind piece.now)
                 (behind names.entry.now reading)) pieces.entry.now readings.items) }
         { read_pieces(rt, alloc, names, pieces, weighted) },
-        &mut || -> Result<(), SequenceFault>
+        &mut || -> Result<Result<Reading, SequenceFault>, SequenceFault>
             requires block { IsBlock block.now }
             requires buffer { 0 < length next.now.buffer.items }
             requires room { length db.now + length (all_waiting waiting.now) ≤ most_sequences }
+            requires few { length own.now ≤ most_file_bytes }
+            requires names { length names.now ≤ most_items }
+            ensures own { IfOk result (λ last. IfOk last (λ reading. IsTaken names.entry.now weighted
+                (lines_behind own.entry.now) (behind names.entry.now reading))) }
             ensures appended { OnOk result (db.exit.now ≡ db.entry.now ++ all_waiting waiting.entry.now) }
             ensures block { OnOk result (IsNext block.entry.now next.exit.now) }
             ensures at { OnOk result ((told : Option (List ℕ)) (lines : List (List ℕ))
@@ -157,7 +192,10 @@ fn read_beside<R: Threads + Sync, F: Files>(
             ensures same_names { F.may files.exit.now ≡ F.may files.entry.now }
             ensures same_files { F.holds files.exit.now ≡ F.holds files.entry.now }
             ensures never_falls { F.faults files.entry.now ≤ F.faults files.exit.now }
-        { append_and_follow(files, block, next, db, waiting, items) },
+        {
+            append_and_follow(files, block, next, db, waiting, items)?;
+            Ok(read_piece(alloc, names, own, weighted))
+        },
     )
 }
 

@@ -258,6 +258,7 @@ pub(crate) fn first_places(
         starts.push(to_place(place)?)?;
         place += places_of(job, *number);
     }
+    // The place behind the last sequence has to be one too.
     let _end = to_place(place)?;
     Ok(starts)
 }

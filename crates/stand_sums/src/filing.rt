@@ -210,6 +210,7 @@ fn file_rank(
         ≡ map (filed_for rank visit end) (filings_in run.old.stands shelves.old.items) }
 {
     if let Some(place) = shelf_at(rank, places, shelves.as_slice()) {
+        // For the proof alone: there are no more stands than a place counts.
         let _room = run.len();
         let shelf = shelves[place];
         let stand = Stand {

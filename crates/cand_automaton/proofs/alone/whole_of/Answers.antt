@@ -1,4 +1,4 @@
-use Rattle.std.proofs.Common.{Bool, false, Result, Ok, ap}
+use Rattle.std.proofs.Common.{Bool, Result, Ok, ap}
 use Rattle.mine_model.specs.declared.memory.NoMemory.{NoMemory}
 use Rattle.cand_automaton.proofs.alone.whole_of.Goals as goal
 

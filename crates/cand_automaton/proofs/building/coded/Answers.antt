@@ -1,4 +1,3 @@
-use Rattle.std.proofs.Common.{◌≡◌, ◌∙◌, ◌∷◌, [], Some, arith, ap, ℕ, List, length}
 use Rattle.std.proofs.lemmas.Result.{IfOk-weaker}
 use Rattle.mining_job.specs.Problems.{data_of, items_of}
 use Rattle.sequence_grids.specs.Grids.{items_at}

@@ -1,7 +1,6 @@
-use Rattle.std.proofs.Common.{◌≡◌, ◌∙◌, List, sym, subst}
+use Rattle.std.proofs.Common.{◌∙◌, List, sym, subst}
 use Rattle.std.proofs.lemmas.Result.{IfOk-weaker}
 use Rattle.candidate_graph.specs.Graphs.{Node, IsWhole}
-use Rattle.candidate_graph.specs.Paths.{Accepts}
 use Rattle.sequence_grids.specs.Grids.{items_at}
 use Rattle.candidate_states.specs.Roots.{IsRootOf}
 use Rattle.cand_automaton.specs.Roots.{IsRootWithin}

@@ -1,6 +1,5 @@
-use Rattle.std.proofs.Common.{◌≡◌, ◌<◌, ◌≤◌, ◌∙◌, List, length, sum_by, ap, arith}
+use Rattle.std.proofs.Common.{◌<◌, length, sum_by, ap, arith}
 use Rattle.std.proofs.lemmas.Result.{IfOk-weaker}
-use Rattle.mine_model.specs.Support.{Sequence}
 use Rattle.mining_job.specs.Problems.{data_of}
 use Rattle.mining_job.specs.Parts.{pivot_of}
 use Rattle.automaton_model.specs.declared.groups.Group.{Group}

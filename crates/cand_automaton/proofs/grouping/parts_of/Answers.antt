@@ -1,11 +1,11 @@
-use Rattle.std.proofs.Common.{◌≡◌, ◌<◌, ◌≤◌, ◌+◌, ◌++◌, ◌∷◌, ◌∙◌, [], ℕ, List, length, take, get_or, sum_by, sym, ap, subst, arith, refl}
+use Rattle.std.proofs.Common.{◌≡◌, ◌<◌, ◌≤◌, ◌+◌, ◌++◌, ◌∷◌, ◌∙◌, [], ℕ, List, length, take, get_or, sym, ap, subst, arith, refl}
 use Rattle.std.specs.Prelude.{IfSome}
 use Rattle.std.specs.List.{AllPairs, AllByRecursion, AllZip}
 use Rattle.std.proofs.lemmas.List.{take_all, length-map}
 use Rattle.mine_model.specs.declared.item.Item.{Item}
 use Rattle.mine_model.specs.Database.{sequence_at}
 use Rattle.mine_model.specs.Support.{Sequence}
-use Rattle.mining_job.specs.Problems.{Problem, data_of, items_of}
+use Rattle.mining_job.specs.Problems.{Problem, data_of}
 use Rattle.mining_job.specs.Parts.{pivot_of}
 use Rattle.sequence_grids.specs.Grids.{GridList, items_at}
 use Rattle.snapshot_project.specs.Snapshots.{bound_of}

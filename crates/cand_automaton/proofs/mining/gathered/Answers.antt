@@ -1,9 +1,4 @@
-use Rattle.std.proofs.Common.{◌≡◌, ◌+◌, ◌++◌, ◌∷◌, ◌∙◌, [], List, Result, Ok, length, map, append_assoc, sum_by, ap, sym, arith, refl, subst}
-use Rattle.std.specs.List.{flat_map}
-use Rattle.std.specs.Vec.Iter.{into_iter_items}
-use Rattle.mine_model.specs.declared.memory.NoMemory.{NoMemory}
-use Rattle.cand_automaton.specs.declared.parts.Done.{Done}
-use Rattle.cand_automaton.specs.Workers.{AreGathered}
+use Rattle.std.proofs.Common.{◌++◌, ◌∙◌, [], length, append_assoc, ap, sym, arith, refl}
 use Rattle.cand_automaton.proofs.WorkerLemmas.{gathered-more}
 use Rattle.cand_automaton.proofs.mining.gathered.Goals as goal
 

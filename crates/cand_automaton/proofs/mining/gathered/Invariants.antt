@@ -1,7 +1,5 @@
-use Rattle.std.proofs.Common.{◌≡◌, ◌++◌, List, map, length, Ok, sum_by}
-use Rattle.std.specs.List.{flat_map}
+use Rattle.std.proofs.Common.{◌≡◌, ◌++◌, length}
 use Rattle.std.specs.Vec.Iter.{into_iter_items, into_iter_len}
-use Rattle.cand_automaton.specs.declared.parts.Done.{Done}
 use Rattle.cand_automaton.specs.Workers.{AreGathered}
 use Rattle.cand_automaton.proofs.mining.gathered.Given as goal
 

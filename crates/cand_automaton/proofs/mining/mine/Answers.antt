@@ -1,4 +1,4 @@
-use Rattle.std.proofs.Common.{◌≡◌, List, sym, subst}
+use Rattle.std.proofs.Common.{List, sym, subst}
 use Rattle.mining_job.specs.declared.part_seed.PartSeed.{PartSeed}
 use Rattle.cand_automaton.specs.Workers.{AreSeeds, AreTried}
 use Rattle.cand_automaton.proofs.MinedLemmas.{mined-rows, mined-items, mined-work}

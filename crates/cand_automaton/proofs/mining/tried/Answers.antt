@@ -1,4 +1,4 @@
-use Rattle.std.proofs.Common.{◌≡◌, ◌<◌, Some, Ok, ℕ, Result, IfOk, length, subst, arith}
+use Rattle.std.proofs.Common.{◌<◌, Ok, Result, IfOk, subst, arith}
 use Rattle.std.proofs.lemmas.Option.{slice_get_within, get_or_from_slice_get}
 use Rattle.mine_model.specs.declared.memory.NoMemory.{NoMemory}
 use Rattle.cand_automaton.specs.declared.parts.Done.{Done}

@@ -1,4 +1,4 @@
-use Rattle.std.proofs.Common.{◌≡◌, ◌<◌, ◌≤◌, ◌+◌, ◌++◌, ◌∷◌, ◌∙◌, [], ℕ, List, length, take, get_or, sum_by, sym, ap, subst, arith, refl}
+use Rattle.std.proofs.Common.{◌≡◌, ◌<◌, ◌++◌, ◌∷◌, ◌∙◌, [], ℕ, List, length, take, get_or, sum_by, sym, ap, subst, arith, refl}
 use Rattle.std.proofs.lemmas.List.{take_all, length-map}
 use Rattle.mine_model.specs.declared.item.Item.{Item}
 use Rattle.mine_model.specs.Database.{sequence_at}
@@ -7,7 +7,6 @@ use Rattle.mining_job.specs.Problems.{data_of, items_of}
 use Rattle.mining_job.specs.Parts.{pivot_of}
 use Rattle.sequence_grids.specs.Grids.{GridList, items_at}
 use Rattle.automaton_model.specs.Groups.{part_of}
-use Rattle.automaton_model.specs.Searches.{Load}
 use Rattle.cand_automaton.specs.Loads.{AreLoadsOf, AreLoadedWith}
 use Rattle.cand_automaton.proofs.LoadLemmas.{loads-none, part-next, part-room}
 use Rattle.cand_automaton.proofs.SeedLemmas.{seed-at, seed-few, seed-weight}

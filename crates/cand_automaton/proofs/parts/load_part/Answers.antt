@@ -4,22 +4,11 @@ use Rattle.mine_model.specs.declared.memory.NoMemory.{NoMemory}
 use Rattle.cand_automaton.specs.declared.alone.Kept.{Kept}
 use Rattle.cand_automaton.specs.Wholes.{IsFree, IsKept}
 use Rattle.std.specs.List.{AllPairs, AllByRecursion, Contains}
-use Rattle.std.proofs.lemmas.List.{length-map}
 use Rattle.std.specs.Prelude.{IfSome}
-use Rattle.mine_model.specs.declared.row.Row.{Row}
-use Rattle.mine_model.specs.Limits.{most_length}
-use Rattle.mine_model.specs.Ranks.{Ranking}
 use Rattle.mine_model.proofs.ListLemmas.{Contains-first}
-use Rattle.mining_job.specs.Problems.{Problem, data_of}
-use Rattle.mining_job.specs.Parts.{pivot_of}
+use Rattle.mining_job.specs.Problems.{Problem}
 use Rattle.snapshot_project.specs.Snapshots.{bound_of}
-use Rattle.automaton_model.specs.Searches.{Load}
-use Rattle.group_search.specs.declared.loads.LoadedState.{LoadedState}
-use Rattle.group_search.specs.Found.{load_of, AreLoadedRows}
-use Rattle.group_search.specs.Searched.{AreFinite}
-use Rattle.cand_automaton.proofs.HeldLemmas.{held-sum}
 use Rattle.cand_automaton.proofs.SeedLemmas.{seed-within, seed-inside}
-use Rattle.cand_automaton.proofs.PartLemmas.{loads-rows, loads-sets, loads-finite}
 use Rattle.cand_automaton.proofs.parts.load_part.Goals as goal
 
 pub enter-requires-clause-rising : goal.enter-requires-clause-rising

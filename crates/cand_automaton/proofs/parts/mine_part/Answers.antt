@@ -1,20 +1,17 @@
-use Rattle.std.proofs.Common.{◌≡◌, ◌∙◌, ◌≤◌, ◌<◌, ℕ, Option, List, [], map, length, sum_by, sym, ap, subst, arith}
-use Rattle.std.specs.List.{AllPairs, AllByRecursion, Contains}
+use Rattle.std.proofs.Common.{ℕ, List, map, length, sum_by, sym, ap, subst, arith}
+use Rattle.std.specs.List.{Contains}
 use Rattle.std.proofs.lemmas.List.{length-map}
-use Rattle.std.specs.Prelude.{IfSome}
 use Rattle.mine_model.specs.declared.row.Row.{Row}
 use Rattle.mine_model.specs.Limits.{most_length}
 use Rattle.mine_model.specs.Ranks.{Ranking}
 use Rattle.mine_model.proofs.ListLemmas.{Contains-by}
-use Rattle.mining_job.specs.Problems.{Problem, data_of}
+use Rattle.mining_job.specs.Problems.{data_of}
 use Rattle.mining_job.specs.Parts.{pivot_of}
-use Rattle.snapshot_project.specs.Snapshots.{bound_of}
 use Rattle.automaton_model.specs.Searches.{Load}
-use Rattle.group_search.specs.declared.loads.LoadedState.{LoadedState}
 use Rattle.group_search.specs.Found.{load_of, AreLoadedRows}
 use Rattle.group_search.specs.Searched.{AreFinite}
 use Rattle.cand_automaton.proofs.HeldLemmas.{held-sum}
-use Rattle.cand_automaton.proofs.SeedLemmas.{seed-pivot, seed-inside}
+use Rattle.cand_automaton.proofs.SeedLemmas.{seed-pivot}
 use Rattle.cand_automaton.proofs.PartLemmas.{loads-rows, loads-sets, loads-finite}
 use Rattle.cand_automaton.proofs.parts.mine_part.Goals as goal
 

@@ -1,13 +1,15 @@
-use Rattle.std.proofs.Common.{◌≡◌, ℕ, ◌+◌, ◌<◌, List, Vec, Global, length, sym, subst, arith}
+use Rattle.std.proofs.Common.{◌≡◌, ◌∙◌, refl, ℕ, ◌+◌, ◌<◌, List, Vec, Global, length, sym, subst, arith}
 use Rattle.std.specs.List.{slice_get, Contains}
 use Rattle.candidate_graph.specs.Graphs.{Node}
 use Rattle.prefix_sieve.specs.declared.fronts.Front.{Front}
 use Rattle.prefix_sieve.specs.Fronts.{AreFronts, AreGone}
-use Rattle.prefix_sieve.proofs.FrontLemmas.{grows-same, grows-both, fronts-first, fronts-next}
+use Rattle.prefix_sieve.proofs.FrontLemmas.{fronts-first, fronts-next}
+use Rattle.prefix_sieve.proofs.PathLemmas.{grows-same, grows-both}
 use Rattle.prefix_sieve.proofs.fronts.go_down.Goals as goal
 
 pub loop-before-init : goal.loop-before-init
 loop-before-init g c = record {
+  ground = refl;
   begun = c.requires.begun;
   grows = grows-same (g.B.Branches.nodes c.args.branches.now);
   fronts = fronts-first c.args.sieve.now (g.B.Branches.nodes c.args.branches.now) c.args.here.now.items c.requires.root c.requires.here;
@@ -24,6 +26,7 @@ loop-before-preserved g c =
     let gone : AreGone (slice_get levels c.loop-before.before) now c.loop-before.here.items c.go_on.new.next.items =
     subst (λ (fs : List Front). AreGone (slice_get levels c.loop-before.before) now fs c.go_on.new.next.items) c.as_slice.ensures.value c.in_ok-go_on.ensures.gone in
     record {
+      ground = c.go_on.ensures.ground ∙ c.loop-before.invariant.ground;
       begun = c.go_on.ensures.begun;
       grows = grows-both (g.B.Branches.nodes c.args.branches.now) mid now c.loop-before.invariant.grows c.go_on.ensures.grows;
       fronts = subst (λ (v : Vec Front Global). AreFronts levels now (c.loop-before.before + 1) v.items) (sym c.swap.ensures.x_after)

@@ -3,7 +3,8 @@ use Rattle.std.specs.List.{Contains}
 use Rattle.candidate_graph.specs.Graphs.{Node}
 use Rattle.prefix_sieve.specs.declared.fronts.Front.{Front}
 use Rattle.prefix_sieve.specs.Fronts.{HaveRaised}
-use Rattle.prefix_sieve.proofs.FrontLemmas.{grows-both, passed}
+use Rattle.prefix_sieve.proofs.FrontLemmas.{passed}
+use Rattle.prefix_sieve.proofs.PathLemmas.{grows-both}
 use Rattle.prefix_sieve.proofs.passing.pass.Goals as goal
 
 pub raise_all-requires-clause-within : goal.raise_all-requires-clause-within

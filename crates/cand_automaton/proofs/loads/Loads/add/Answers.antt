@@ -1,5 +1,5 @@
-use Rattle.std.proofs.Common.{◌≡◌, ◌<◌, ◌+◌, ◌≤◌, ◌++◌, ◌∷◌, [], map, sum_by, ℕ, arith, Bool, List, false, eqb, slice_set, ap, sym, ◌∙◌, subst}
-use Rattle.std.specs.List.{list_any, slice_get}
+use Rattle.std.proofs.Common.{◌≡◌, ◌+◌, ◌++◌, ◌∷◌, [], map, sum_by, ℕ, arith, List, false, eqb, slice_set, ap, sym, ◌∙◌, subst}
+use Rattle.std.specs.List.{list_any}
 use Rattle.automaton_model.specs.Searches.{Load}
 use Rattle.group_search.specs.declared.loads.LoadedState.{LoadedState}
 use Rattle.group_search.specs.Found.{load_of}

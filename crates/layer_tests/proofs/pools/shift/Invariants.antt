@@ -1,5 +1,0 @@
-use Rattle.node_pool.specs.Pool.{SameSeat}
-use Rattle.layer_tests.proofs.pools.shift.Given as goal
-
-abbrev pub invariant-rounds : goal.invariant-rounds
-invariant-rounds l = SameSeat l.fn.seat l.seat

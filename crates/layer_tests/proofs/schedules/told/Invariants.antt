@@ -1,5 +1,0 @@
-use Rattle.layer_tests.specs.Trees.{small_tree}
-use Rattle.layer_tests.proofs.schedules.told.Given as goal
-
-abbrev pub ghost-run_schedule : goal.ghost-run_schedule
-ghost-run_schedule a = small_tree

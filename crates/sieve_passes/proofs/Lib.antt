@@ -1,0 +1,6 @@
+mod ShareLemmas
+mod SumLemmas
+mod LevelLemmas
+mod LeadLemmas
+mod NumberLemmas
+mod WorkerLemmas

@@ -1,0 +1,5 @@
+-- the words of the promise
+pub mod Sums
+pub mod Counted
+-- what the proofs keep
+pub mod Fronts
