@@ -16,7 +16,7 @@ use Rattle.proof_names.specs.Numberings.{IsNumbering, fault_of}
 use Rattle.proof_names.proofs.NumberedLemmas.{good-named, refused-named}
 use Rattle.command_line.specs.Words.{Task, check, Command, IsCommand, IsOfFile}
 use Rattle.desq_run.specs.Said.{checked_text}
-use Rattle.desq_run.specs.Ends.{Input, IsInput, bytes_named, checked_in, known_names, input_data, RefusesProof, IsAccepted, HasGoodProof, IsTextOf, IsAnswerText, IsOfKind, HoldsData, Ends}
+use Rattle.desq_run.specs.Ends.{Input, IsInput, bytes_named, checked_in, known_names, input_data, RefusesProof, IsAccepted, HasGoodProof, IsTextOf, IsAnswerText, IsOfKind, HoldsData, MayEndWith}
 use Rattle.desq_run.specs.Ends as ends
 use Rattle.desq_run.specs.Inputs.{IsJobFor}
 use Rattle.desq_run.specs.Tasks.{IsDone, IsJudged}
@@ -103,7 +103,7 @@ module _ (words : List (List ℕ)) (holds : List ℕ → Option (List ℕ)) (c :
   }
 
   refused_end : (fault : ProofFault) → IfSome (holds file) (λ bytes. IsProofRefusal problem names bytes fault) → IsOfKind Proof (fault_of fault)
-      → Ends words holds (Err (fault_of fault))
+      → MayEndWith words holds (Err (fault_of fault))
   refused_end fault refused of_kind = ends.refused_file c (fault_of fault) (job-source words holds c said names problem job)
       (λ input is. inr ((λ other first. job-rows words holds c said names problem job input is other first), refused_here input is fault refused))
       (λ bytes other read also. absurd (job-hierarchy words holds c said names problem job bytes other read also))
@@ -113,7 +113,7 @@ module _ (words : List (List ℕ)) (holds : List ℕ → Option (List ℕ)) (c :
   -- how a run ends where the proof is refused or not read
   pub judging-ends : (fault : ProofFault)
       → (fault ≢ own.ReadFault → fault ≢ own.NoMemory → IfSome (holds file) (λ bytes. IsProofRefusal problem names bytes fault))
-      → Ends words holds (Err (fault_of fault))
+      → MayEndWith words holds (Err (fault_of fault))
   judging-ends own.ReadFault refused =
       ends.read_fault c Proof (job-source words holds c said names problem job) (file, task) (λ other. cc)
       (λ same. (job-hierarchy words holds c said names problem job, job-data words holds c said names problem job))

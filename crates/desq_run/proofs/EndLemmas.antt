@@ -22,7 +22,7 @@ use Rattle.command_line.proofs.CommandLemmas.{IsCommand-unique, IsUsage-excludes
 use Rattle.desq_run.specs.Sources.{IsSourceRefusal, IsUnknownIn, SaysTree}
 use Rattle.desq_run.specs.Said.{RefusesHierarchy, RefusesSequences}
 use Rattle.desq_run.specs.Merged.{RefusesMerged}
-use Rattle.desq_run.specs.Ends.{Input, IsInput, bytes_named, hierarchy_names, known_names, IsDataRefusal, IsRowsRefusal, RefusesProof, IsFirstRefusal, IsAccepted, HasSource, IsOfKind, IsOfFiles, AcceptsHierarchy, HoldsData, AcceptsData, ComesInTurn, RefusesNoOther, NeedsNoFile, Ends, done, no_command, refused_source, refused_file, read_fault, write_fault, no_memory}
+use Rattle.desq_run.specs.Ends.{Input, IsInput, bytes_named, hierarchy_names, known_names, IsDataRefusal, IsRowsRefusal, RefusesProof, IsFirstRefusal, IsAccepted, HasSource, IsOfKind, IsOfFiles, AcceptsHierarchy, HoldsData, AcceptsData, ComesInTurn, RefusesNoOther, NeedsNoFile, MayEndWith, done, no_command, refused_source, refused_file, read_fault, write_fault, no_memory}
 use Rattle.desq_run.specs.Inputs.{IsHierarchySaid, IsDatabaseSaid, IsRead}
 use Rattle.desq_run.proofs.LinkLemmas.{Contains-both, Contains-front, Contains-back}
 use Rattle.desq_run.proofs.SameRefusals.{HoldSame, sequences-alike, unknown-alike}
@@ -200,12 +200,12 @@ module _ (words : List (List ℕ)) (holds : List ℕ → Option (List ℕ)) (c :
 
   -- a refusal of what is mined ends the run so
   data-refused : (fault : Fault) → ((input : Input) → HoldsData holds c input → IsDataRefusal input fault) → RefusesNoOther holds c fault
-      → IsOfFiles c fault → (IsOfKind Proof fault → ⊥) → Ends words holds (Err fault)
+      → IsOfFiles c fault → (IsOfKind Proof fault → ⊥) → MayEndWith words holds (Err fault)
   data-refused fault refused no_other of_files no_proof = refused_file c fault has (λ input is. inl (inl (refused input (held input is)))) no_other of_files
       (record { proof = λ of_proof. absurd (no_proof of_proof); other = λ none unmerged input is. refused input is })
 
   pub hierarchy-refused : (fault : Fault) → IfSome (bytes_named holds c.hierarchy) (λ bytes. RefusesHierarchy c.source bytes fault)
-      → IsOfFiles c fault → (IsOfKind Proof fault → ⊥) → Ends words holds (Err fault)
+      → IsOfFiles c fault → (IsOfKind Proof fault → ⊥) → MayEndWith words holds (Err fault)
   hierarchy-refused fault refused of_files no_proof = data-refused fault
       (λ input is. inr (
         no_source input is,
@@ -229,7 +229,7 @@ module _ (words : List (List ℕ)) (holds : List ℕ → Option (List ℕ)) (c :
     known_same input is = (read_at input is).held
 
     pub sequences-refused : (fault : Fault) → IfSome (bytes_named holds (file_of c.source)) (λ bytes. RefusesSequences c.source c.weighted known bytes fault)
-        → IsOfFiles c fault → (IsOfKind Proof fault → ⊥) → Ends words holds (Err fault)
+        → IsOfFiles c fault → (IsOfKind Proof fault → ⊥) → MayEndWith words holds (Err fault)
     sequences-refused fault refused of_files no_proof = data-refused fault
         (λ input is. inr (
           no_source input is,
@@ -276,7 +276,7 @@ module _ (words : List (List ℕ)) (holds : List ℕ → Option (List ℕ)) (c :
             let alike = unknown-alike names (known_names input) uses (names_same input is) fault in
             ((λ p. alike.1 (here.0 p)), (λ p. here.1 (alike.0 p)))
 
-        pub unknown-refused : (fault : Fault) → IsUnknown names uses fault → Ends words holds (Err fault)
+        pub unknown-refused : (fault : Fault) → IsUnknown names uses fault → MayEndWith words holds (Err fault)
         unknown-refused fault unknown =
             let (u, inside, same) = unknown-use names [] uses fault unknown in
             data-refused fault
@@ -313,7 +313,7 @@ other_status s n (inl three) same not_three not_four = not_three (sym same ∙ t
 other_status s n (inr four) same not_three not_four = not_four (sym same ∙ four)
 
 module _ (words : List (List ℕ)) (holds : List ℕ → Option (List ℕ)) where
-  pub usage-ended : (outcome : Result (Option Work) Fault) → Ends words holds outcome → status_of outcome ≡ 2 → IsUsage words
+  pub usage-ended : (outcome : Result (Option Work) Fault) → MayEndWith words holds outcome → status_of outcome ≡ 2 → IsUsage words
   usage-ended _ (done c told has asked accepts both ends) status = absurd (omega (arith, status))
   usage-ended _ (no_command usage) status = usage
   usage-ended _ (refused_source c fault is refused) status =
@@ -325,7 +325,7 @@ module _ (words : List (List ℕ)) (holds : List ℕ → Option (List ℕ)) wher
   usage-ended _ no_memory status = absurd (omega (arith, status))
 
   -- words of no command end so, unless memory ran out
-  pub ended-usage : (outcome : Result (Option Work) Fault) → Ends words holds outcome → IsUsage words → (status_of outcome ≡ 2) ⊎ (status_of outcome ≡ 7)
+  pub ended-usage : (outcome : Result (Option Work) Fault) → MayEndWith words holds outcome → IsUsage words → (status_of outcome ≡ 2) ⊎ (status_of outcome ≡ 7)
   ended-usage _ (done c told has asked accepts both ends) usage = absurd (IsUsage-excludes words c usage has.0)
   ended-usage _ (no_command is) usage = inl refl
   ended-usage _ (refused_source c fault is refused) usage = absurd (IsUsage-excludes words c usage is)
@@ -335,14 +335,14 @@ module _ (words : List (List ℕ)) (holds : List ℕ → Option (List ℕ)) wher
   ended-usage _ no_memory usage = inr refl
 
   -- a command whose source is refused ends so, unless memory ran out
-  pub ended-source : (outcome : Result (Option Work) Fault) → Ends words holds outcome → (c : Command) (fault : Fault) → IsCommand words c
+  pub ended-source : (outcome : Result (Option Work) Fault) → MayEndWith words holds outcome → (c : Command) (fault : Fault) → IsCommand words c
       → IsSourceRefusal c.source fault → (status_of outcome ≡ fault_status fault) ⊎ (status_of outcome ≡ 7)
   ended-source _ ended c fault is refused = by _ ended
     where
       contradicts : (d : Command) → HasSource words d → ⊥
       contradicts d has = has.1 fault (subst (λ (e : Command). IsSourceRefusal e.source fault) (IsCommand-unique words c d is has.0) refused)
 
-      by : (outcome : Result (Option Work) Fault) → Ends words holds outcome → (status_of outcome ≡ fault_status fault) ⊎ (status_of outcome ≡ 7)
+      by : (outcome : Result (Option Work) Fault) → MayEndWith words holds outcome → (status_of outcome ≡ fault_status fault) ⊎ (status_of outcome ≡ 7)
       by _ (done d told has asked accepts both ends) = absurd (contradicts d has)
       by _ (no_command usage) = absurd (IsUsage-excludes words c usage is)
       by _ (refused_source d other is_d refused_d) =
@@ -354,7 +354,7 @@ module _ (words : List (List ℕ)) (holds : List ℕ → Option (List ℕ)) wher
       by _ no_memory = inr refl
 
   -- a hierarchy that is refused ends the run so, unless memory ran out or a fault of reading came
-  pub ended-hierarchy : (outcome : Result (Option Work) Fault) → Ends words holds outcome → (c : Command) (bytes : List ℕ) (fault : Fault) → HasSource words c
+  pub ended-hierarchy : (outcome : Result (Option Work) Fault) → MayEndWith words holds outcome → (c : Command) (bytes : List ℕ) (fault : Fault) → HasSource words c
       → bytes_named holds c.hierarchy ≡ Some bytes → RefusesHierarchy c.source bytes fault
       → (status_of outcome ≡ fault_status fault) ⊎ (status_of outcome ≡ 7) ⊎ (status_of outcome ≡ 5)
   ended-hierarchy _ ended c bytes fault has told refused = by _ ended
@@ -363,7 +363,7 @@ module _ (words : List (List ℕ)) (holds : List ℕ → Option (List ℕ)) wher
       accepted d has_d accepts =
           subst (AcceptsHierarchy holds) (IsCommand-unique words d c has_d.0 has.0) accepts bytes fault told refused
 
-      by : (outcome : Result (Option Work) Fault) → Ends words holds outcome
+      by : (outcome : Result (Option Work) Fault) → MayEndWith words holds outcome
           → (status_of outcome ≡ fault_status fault) ⊎ (status_of outcome ≡ 7) ⊎ (status_of outcome ≡ 5)
       by _ (done d work has_d asked accepts both ends) = absurd (accepted d has_d accepts)
       by _ (no_command usage) = absurd (IsUsage-excludes words c usage has.0)
@@ -376,7 +376,7 @@ module _ (words : List (List ℕ)) (holds : List ℕ → Option (List ℕ)) wher
       by _ no_memory = inr (inl refl)
 
   -- data that are refused end the run so, unless memory ran out or a fault of reading came
-  pub ended-data : (outcome : Result (Option Work) Fault) → Ends words holds outcome → (c : Command) (input : Input) (fault : Fault) → HasSource words c
+  pub ended-data : (outcome : Result (Option Work) Fault) → MayEndWith words holds outcome → (c : Command) (input : Input) (fault : Fault) → HasSource words c
       → merged_in c.source ≡ [] → HoldsData holds c input → IsDataRefusal input fault
       → (status_of outcome ≡ fault_status fault) ⊎ (status_of outcome ≡ 7) ⊎ (status_of outcome ≡ 5)
   ended-data _ ended c input fault has unmerged is refused = by _ ended
@@ -387,7 +387,7 @@ module _ (words : List (List ℕ)) (holds : List ℕ → Option (List ℕ)) wher
       accepted : (d : Command) → HasSource words d → AcceptsData holds d → ⊥
       accepted d has_d accepts = subst (AcceptsData holds) (one d has_d.0) accepts input fault is refused
 
-      by : (outcome : Result (Option Work) Fault) → Ends words holds outcome
+      by : (outcome : Result (Option Work) Fault) → MayEndWith words holds outcome
           → (status_of outcome ≡ fault_status fault) ⊎ (status_of outcome ≡ 7) ⊎ (status_of outcome ≡ 5)
       by _ (done d work has_d asked accepts both ends) = absurd (accepted d has_d both)
       by _ (no_command usage) = absurd (IsUsage-excludes words c usage has.0)
@@ -405,7 +405,7 @@ module _ (words : List (List ℕ)) (holds : List ℕ → Option (List ℕ)) wher
 
   module _ (input : Input) (is : IsInput words holds input) where
     -- what is malformed or beyond a limit is the first refusal
-    pub refusal-ended : (outcome : Result (Option Work) Fault) → Ends words holds outcome → (status_of outcome ≡ 3) ⊎ (status_of outcome ≡ 4)
+    pub refusal-ended : (outcome : Result (Option Work) Fault) → MayEndWith words holds outcome → (status_of outcome ≡ 3) ⊎ (status_of outcome ≡ 4)
         → (fault : Fault) × IsFirstRefusal input fault × (fault_status fault ≡ status_of outcome)
     refusal-ended _ (done c told has asked accepts both ends) (inl e) = absurd (omega (arith, e))
     refusal-ended _ (done c told has asked accepts both ends) (inr e) = absurd (omega (arith, e))
@@ -422,7 +422,7 @@ module _ (words : List (List ℕ)) (holds : List ℕ → Option (List ℕ)) wher
     refusal-ended _ no_memory (inr e) = absurd (omega (arith, e))
 
     -- the first refusal ends the run, unless memory ran out or a fault of reading came
-    pub ended-refusal : (outcome : Result (Option Work) Fault) → Ends words holds outcome → (fault : Fault) → IsFirstRefusal input fault
+    pub ended-refusal : (outcome : Result (Option Work) Fault) → MayEndWith words holds outcome → (fault : Fault) → IsFirstRefusal input fault
         → (status_of outcome ≡ fault_status fault) ⊎ (status_of outcome ≡ 7) ⊎ (status_of outcome ≡ 5)
     ended-refusal _ (done c told has asked accepts both ends) fault refused = absurd ((ends input is).0 fault refused)
     ended-refusal _ (no_command usage) fault refused = absurd (IsUsage-excludes words input.command usage is.said)
@@ -437,7 +437,7 @@ module _ (words : List (List ℕ)) (holds : List ℕ → Option (List ℕ)) wher
     ended-refusal _ no_memory fault refused = inr (inl refl)
 
     -- where nothing is refused the run is done, or a fault of reading or writing came, or memory ran out
-    pub ended-accepted : (outcome : Result (Option Work) Fault) → Ends words holds outcome → IsAccepted input
+    pub ended-accepted : (outcome : Result (Option Work) Fault) → MayEndWith words holds outcome → IsAccepted input
         → (status_of outcome ≡ 0) ⊎ (status_of outcome ≡ 5) ⊎ (status_of outcome ≡ 6) ⊎ (status_of outcome ≡ 7)
     ended-accepted _ (done c told has asked accepts both ends) all = inl refl
     ended-accepted _ (no_command usage) all = absurd (IsUsage-excludes words input.command usage is.said)
@@ -542,7 +542,7 @@ needs-none words c is (inr (d, is_d, needs)) = subst (λ (e : Command). NeedsNoF
 
 -- where a run is done, or the answer was not written, nothing is refused
 pub accepted-ended : (words : List (List ℕ)) (holds : List ℕ → Option (List ℕ)) (input : Input) → IsInput words holds input
-    → (outcome : Result (Option Work) Fault) → Ends words holds outcome → (status_of outcome ≡ 0) ⊎ (status_of outcome ≡ 6) → IsAccepted input
+    → (outcome : Result (Option Work) Fault) → MayEndWith words holds outcome → (status_of outcome ≡ 0) ⊎ (status_of outcome ≡ 6) → IsAccepted input
 accepted-ended words holds input is _ (done c told has asked accepts both ends) status = (ends input is).0
 accepted-ended words holds input is _ (no_command usage) (inl e) = absurd (omega (arith, e))
 accepted-ended words holds input is _ (no_command usage) (inr e) = absurd (omega (arith, e))

@@ -23,7 +23,7 @@ use Rattle.mine_model.specs.Status.{fault_status}
 use Rattle.mine_model.specs.Ancestry.{Ancestry}
 use Rattle.command_line.specs.Words.{Command, Source, read, embed, make, merge, file_of}
 use Rattle.desq_run.specs.Said.{RefusesHierarchy, RefusesSequences}
-use Rattle.desq_run.specs.Ends.{bytes_named, HasSource, NamesKind, IsOfKind, Ends}
+use Rattle.desq_run.specs.Ends.{bytes_named, HasSource, NamesKind, IsOfKind, MayEndWith}
 use Rattle.desq_run.specs.Ends as ends
 use Rattle.desq_run.specs.Inputs.{FailsBy, refused, failed, no_memory, FailsInTurn, IsClosureOf, RefusesRows, AreRowsOf, IsHierarchyOf, IsHierarchySaid, IsDatabaseOf, IsDatabaseSaid}
 use Rattle.desq_run.proofs.ReadLemmas.{no-refusal}
@@ -124,7 +124,7 @@ sequences-said told weighted known names db (merge files) file has is = absurd (
 module _ (words : List (List ℕ)) (holds : List ℕ → Option (List ℕ)) (c : Command) (has : HasSource words c) (Faulty : Type 0) where
   -- how a run ends where reading the hierarchy fails
   pub hierarchy-ends : (fault : Fault) → FailsBy (bytes_named holds c.hierarchy) (RefusesHierarchy c.source) Hierarchy (IsSome c.hierarchy) Faulty fault
-      → Ends words holds (Err fault)
+      → MayEndWith words holds (Err fault)
   hierarchy-ends _ (refused fault named is of_kind) =
       hierarchy-refused words holds c has fault is (inl (Hierarchy, named-kind c named, of_kind))
       (λ of_proof. (let same : Hierarchy ≡ Proof = kind-same Hierarchy Proof fault of_kind of_proof in cc))
@@ -134,7 +134,7 @@ module _ (words : List (List ℕ)) (holds : List ℕ → Option (List ℕ)) (c :
   -- how a run ends where reading the sequences fails
   pub sequences-ends : (known : List (List ℕ)) (h : Ancestry) → IfSome (bytes_named holds c.hierarchy) (λ bytes. IsHierarchySaid c.source bytes known h)
       → (file : List ℕ) → file_of c.source ≡ Some file
-      → (fault : Fault) → FailsBy (bytes_named holds (file_of c.source)) (RefusesSequences c.source c.weighted known) Sequences (Unit {0}) Faulty fault → Ends words holds (Err fault)
+      → (fault : Fault) → FailsBy (bytes_named holds (file_of c.source)) (RefusesSequences c.source c.weighted known) Sequences (Unit {0}) Faulty fault → MayEndWith words holds (Err fault)
   sequences-ends known h found file here _ (refused fault named is of_kind) =
       sequences-refused words holds c has known h found fault is (inl (Sequences, (file, here), of_kind))
       (λ of_proof. (let same : Sequences ≡ Proof = kind-same Sequences Proof fault of_kind of_proof in cc))
@@ -214,9 +214,9 @@ module _ (words : List (List ℕ)) (holds : List ℕ → Option (List ℕ)) (c :
     (known : List (List ℕ)) (rows : Option OrderedRows) (are : IfSome (bytes_named holds c.hierarchy) (λ bytes. AreRowsOf bytes known rows))
     (file : List ℕ) (here : file_of c.source ≡ Some file) where
   pub turn-ends : (fault : Fault) → FailsInTurn rows (FailsBy (holds file) (IsSequencesRefusal c.weighted known) Sequences (Unit {0}) Faulty) fault
-      → Ends words holds (Err fault)
+      → MayEndWith words holds (Err fault)
   turn-ends fault (inl (e, is, same)) =
-      subst (λ f. Ends words holds (Err f)) (sym same)
+      subst (λ f. MayEndWith words holds (Err f)) (sym same)
       (hierarchy-ends words holds c has Faulty (fault_of_close e)
       (hierarchy-fails (bytes_named holds c.hierarchy) Hierarchy (IsSome c.hierarchy) Faulty (fault_of_close e) c.source file here
       (rows_refused holds c.hierarchy known rows Faulty are e is)))

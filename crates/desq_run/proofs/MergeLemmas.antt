@@ -19,7 +19,7 @@ use Rattle.desq_run.specs.Sources.{IsSourceRefusal}
 use Rattle.desq_run.specs.Said.{RefusesHierarchy}
 use Rattle.desq_run.specs.Merged.{fault_in, RefusesMerged}
 use Rattle.desq_run.specs.Merging.{WereMerged, IsCutShort}
-use Rattle.desq_run.specs.Ends.{Input, IsInput, AreRowsTo, HasSource, NamesKind, IsOfKind, AcceptsHierarchy, NeedsNoFile, Ends}
+use Rattle.desq_run.specs.Ends.{Input, IsInput, AreRowsTo, HasSource, NamesKind, IsOfKind, AcceptsHierarchy, NeedsNoFile, MayEndWith}
 use Rattle.desq_run.specs.Ends as ends
 use Rattle.desq_run.specs.Inputs.{IsMined, HasRanges}
 use Rattle.desq_run.proofs.EndLemmas.{kind-same, same_command, no-data}
@@ -116,7 +116,7 @@ module _ (words : List (List ℕ)) (holds : List ℕ → Option (List ℕ)) (c :
       ),
     )
 
-    refused-end : ((file : Which) → fault ≢ Read file) → fault ≢ NoMemory → IsOfKind (Merged number) fault → Ends words holds (Err fault)
+    refused-end : ((file : Which) → fault ≢ Read file) → fault ≢ NoMemory → IsOfKind (Merged number) fault → MayEndWith words holds (Err fault)
     refused-end read memory of_kind = ends.refused_file c fault has
         (λ input is. inl (inr (
           no-data input names (source_is input is),
@@ -129,26 +129,26 @@ module _ (words : List (List ℕ)) (holds : List ℕ → Option (List ℕ)) (c :
         })
 
     -- a fault of the file's text or rows
-    of_text : (why : Fault) → fault ≡ why → ((file : Which) → why ≢ Read file) → why ≢ NoMemory → IsOfKind (Merged number) why → Ends words holds (Err fault)
+    of_text : (why : Fault) → fault ≡ why → ((file : Which) → why ≢ Read file) → why ≢ NoMemory → IsOfKind (Merged number) why → MayEndWith words holds (Err fault)
     of_text why same read memory of_kind =
         refused-end (λ file e. read file (sym same ∙ e)) (λ e. memory (sym same ∙ e)) (subst (IsOfKind (Merged number)) (sym same) of_kind)
 
-    by_cause : (why : MergeFault) → fault ≡ fault_in (Merged number) why → Ends words holds (Err fault)
+    by_cause : (why : MergeFault) → fault ≡ fault_in (Merged number) why → MayEndWith words holds (Err fault)
     by_cause merges.ReadFault same =
-        subst (λ fault. Ends words holds (Err fault)) (sym same) (ends.read_fault c (Merged number) has file_named (λ other. accepts) (λ same. cc))
-    by_cause merges.NoMemory same = subst (λ fault. Ends words holds (Err fault)) (sym same) ends.no_memory
+        subst (λ fault. MayEndWith words holds (Err fault)) (sym same) (ends.read_fault c (Merged number) has file_named (λ other. accepts) (λ same. cc))
+    by_cause merges.NoMemory same = subst (λ fault. MayEndWith words holds (Err fault)) (sym same) ends.no_memory
     by_cause merges.TooLarge same = of_text (TooLarge (Merged number)) same (λ file e. cc) (λ e. cc) refl
     by_cause (merges.BadByte line column) same = of_text (BadByte (Merged number) line column) same (λ file e. cc) (λ e. cc) refl
     by_cause (merges.NameTooLong line column) same = of_text (NameTooLong (Merged number) line column) same (λ file e. cc) (λ e. cc) refl
     by_cause (merges.BadRow line) same = of_text (BadRow (Merged number) line) same (λ file e. cc) (λ e. cc) (refl, (number, refl))
     by_cause (merges.TooManyItems line) same = of_text (TooManyItems (Merged number) line) same (λ file e. cc) (λ e. cc) (refl, (λ e. cc))
 
-    pub cut-ends : Ends words holds (Err fault)
+    pub cut-ends : MayEndWith words holds (Err fault)
     cut-ends = by_cause cut.why cut.is
 
   -- want of memory, or a file that was refused or not read
-  pub merge-ends : (fault : Fault) → (fault ≡ NoMemory) ⊎ IsCutShort c.threshold holds names fault → Ends words holds (Err fault)
-  merge-ends fault (inl memory) = subst (λ fault. Ends words holds (Err fault)) (sym memory) ends.no_memory
+  pub merge-ends : (fault : Fault) → (fault ≡ NoMemory) ⊎ IsCutShort c.threshold holds names fault → MayEndWith words holds (Err fault)
+  merge-ends fault (inl memory) = subst (λ fault. MayEndWith words holds (Err fault)) (sym memory) ends.no_memory
   merge-ends fault (inr cut) = cut-ends fault cut
 
 -- a merge names files

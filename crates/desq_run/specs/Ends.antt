@@ -251,24 +251,24 @@ NeedsNoFile source = ((fault : Fault) × IsSourceRefusal source fault)
 -- What each outcome of a run says of the words, and of what the files hold where they tell it. A run that is
 -- done tells its work where the command asks for it. The hierarchy is read before the sequences, a proof
 -- behind them, and the files of a merge one after another.
-pub data Ends (words : List (List ℕ)) (holds : List ℕ → Option (List ℕ)) : Result (Option Work) Fault
+pub data MayEndWith (words : List (List ℕ)) (holds : List ℕ → Option (List ℕ)) : Result (Option Work) Fault
     → Type 0 where
   done : (command : Command) (told : Option Work) → HasSource words command → command.stats ≡ is_some told
       → AcceptsHierarchy holds command → AcceptsData holds command
       → ((input : Input) → IsInput words holds input → IsAccepted input × IfSome told (IsWork input))
-      → Ends words holds (Ok told)
-  no_command : IsUsage words → Ends words holds (Err Usage)
+      → MayEndWith words holds (Ok told)
+  no_command : IsUsage words → MayEndWith words holds (Err Usage)
   refused_source : (command : Command) (fault : Fault) → IsCommand words command
-      → IsSourceRefusal command.source fault → Ends words holds (Err fault)
+      → IsSourceRefusal command.source fault → MayEndWith words holds (Err fault)
   refused_file : (command : Command) (fault : Fault) → HasSource words command
       → ((input : Input) → IsInput words holds input → IsFirstRefusal input fault)
       → RefusesNoOther holds command fault → IsOfFiles command fault
-      → ComesInTurn holds command fault → Ends words holds (Err fault)
+      → ComesInTurn holds command fault → MayEndWith words holds (Err fault)
   read_fault : (command : Command) (file : Which) → HasSource words command → NamesKind command file
       → (file ≡ Sequences → AcceptsHierarchy holds command)
       → (file ≡ Proof → AcceptsHierarchy holds command × AcceptsData holds command)
-      → Ends words holds (Err (Read file))
+      → MayEndWith words holds (Err (Read file))
   write_fault : (command : Command) → HasSource words command → AcceptsHierarchy holds command
       → AcceptsData holds command
-      → ((input : Input) → IsInput words holds input → IsAccepted input) → Ends words holds (Err Write)
-  no_memory : Ends words holds (Err NoMemory)
+      → ((input : Input) → IsInput words holds input → IsAccepted input) → MayEndWith words holds (Err Write)
+  no_memory : MayEndWith words holds (Err NoMemory)

@@ -10,7 +10,7 @@ ghost use Rattle.mine_model.specs.AnswerText.{text_of};
 ghost use Rattle.made_input.specs.Summary.{summary_of};
 ghost use Rattle.command_line.specs.Words.{Command as CommandSaid, merge, mine, SuitsTask, IsCommand, IsUsage, NamesFile, IsNamed};
 ghost use Rattle.command_line.specs.Commands.{source_said, task_said, command_said};
-ghost use Rattle.desq_run.specs.Ends.{Input, IsInput, IsAnswerText, NeedsNoFile, Ends};
+ghost use Rattle.desq_run.specs.Ends.{Input, IsInput, IsAnswerText, NeedsNoFile, MayEndWith};
 ghost use Rattle.desq_run.specs.Said.{output_of};
 ghost use Rattle.desq_run.specs.Inputs.{HasRanges, IsMinedBy, HasShare, IsMined};
 ghost use Rattle.desq_run.specs.Tasks.{IsDone, Gains, GainsFirst};
@@ -65,7 +65,7 @@ fn mine_input<R: Threads + Wait + Sync, F: Files, G: Gate>(
     ensures named { IfOk result (λ mined. All
         (λ row. All (HasName mined.names) row.pattern) mined.rows.items) }
     ensures ends { (words : List (List ℕ)) → IsCommand words (command_said command.now)
-        → IfErr result (λ fault. Ends words (F.holds files.old) (Err fault)) }
+        → IfErr result (λ fault. MayEndWith words (F.holds files.old) (Err fault)) }
     ensures read_fault { (file : Which) → result ≡ Err (Read file)
         → Rose (F.faults files.old) (F.faults files.new) }
     ensures no_write { result ≢ Err Write }
@@ -110,7 +110,7 @@ fn merge_input<F: Files>(
     ensures named { IfOk result (λ mined. All
         (λ row. All (HasName mined.names) row.pattern) mined.rows.items) }
     ensures ends { (words : List (List ℕ)) → IsCommand words (command_said command.now)
-        → IfErr result (λ fault. Ends words (F.holds files.old) (Err fault)) }
+        → IfErr result (λ fault. MayEndWith words (F.holds files.old) (Err fault)) }
     ensures read_fault { (file : Which) → result ≡ Err (Read file)
         → Rose (F.faults files.old) (F.faults files.new) }
     ensures no_write { result ≢ Err Write }
@@ -153,7 +153,7 @@ fn find_rows<R: Threads + Wait + Sync, F: Files, G: Gate>(
     ensures named { IfOk result (λ mined. All
         (λ row. All (HasName mined.names) row.pattern) mined.rows.items) }
     ensures ends { (words : List (List ℕ)) → IsCommand words (command_said command.now)
-        → IfErr result (λ fault. Ends words (F.holds files.old) (Err fault)) }
+        → IfErr result (λ fault. MayEndWith words (F.holds files.old) (Err fault)) }
     ensures read_fault { (file : Which) → result ≡ Err (Read file)
         → Rose (F.faults files.old) (F.faults files.new) }
     ensures no_write { result ≢ Err Write }
@@ -281,7 +281,7 @@ fn give_answer<R: Threads + Wait + Sync, F: Files, O: Sink, G: Gate>(
     ensures done { (words : List (List ℕ)) → IsCommand words (command_said command.now)
         → IfOk result (λ work. IsDone words (F.holds files.old) (command_said command.now) work) }
     ensures ends { (words : List (List ℕ)) → IsCommand words (command_said command.now)
-        → IfErr result (λ fault. Ends words (F.holds files.old) (Err fault)) }
+        → IfErr result (λ fault. MayEndWith words (F.holds files.old) (Err fault)) }
     ensures written { OnOk result ((words : List (List ℕ)) (input : Input)
         → IsCommand words (command_said command.now) → IsInput words (F.holds files.old) input
         → Gains (IsAnswerText input) (O.written out.old) (O.written out.new)) }
@@ -322,7 +322,7 @@ fn carry_out<R: Threads + Wait + Sync, F: Files, O: Sink, G: Gate>(
     ensures done { (words : List (List ℕ)) → IsCommand words (command_said command.now)
         → IfOk result (λ work. IsDone words (F.holds files.old) (command_said command.now) work) }
     ensures ends { (words : List (List ℕ)) → IsCommand words (command_said command.now)
-        → IfErr result (λ fault. Ends words (F.holds files.old) (Err fault)) }
+        → IfErr result (λ fault. MayEndWith words (F.holds files.old) (Err fault)) }
     ensures written { OnOk result ((words : List (List ℕ)) (input : Input)
         → IsCommand words (command_said command.now) → IsInput words (F.holds files.old) input
         → Gains (IsAnswerText input) (O.written out.old) (O.written out.new)) }
@@ -356,7 +356,7 @@ pub(crate) fn attempt<R: Threads + Wait + Sync, F: Files, O: Sink, G: Gate>(
 ) -> Result<Option<Work>, Fault>
     requires { (file : List ℕ) → IsNamed (map string_bytes words.now) file
         → IsTrue (F.may files.old file) }
-    ensures ends { Ends (map string_bytes words.now) (F.holds files.old) result }
+    ensures ends { MayEndWith (map string_bytes words.now) (F.holds files.old) result }
     ensures written { OnOk result ((input : Input)
         → IsInput (map string_bytes words.now) (F.holds files.old) input
         → (text : List ℕ) × IsAnswerText input text

@@ -11,7 +11,7 @@ ghost use Rattle.proof_names.specs.Numberings.{fault_of};
 ghost use Rattle.command_line.specs.Words.{check as to_check, SuitsTask, IsCommand, NamesFile};
 ghost use Rattle.command_line.specs.Commands.{source_said, task_said, command_said};
 ghost use Rattle.desq_run.specs.Said.{checked_text};
-ghost use Rattle.desq_run.specs.Ends.{Input, IsInput, IsAnswerText, NeedsNoFile, Ends};
+ghost use Rattle.desq_run.specs.Ends.{Input, IsInput, IsAnswerText, NeedsNoFile, MayEndWith};
 ghost use Rattle.desq_run.specs.Tasks.{IsDone, IsJudged, Gains, GainsFirst};
 
 use super::jobs::{NamedJob, read_job};
@@ -89,7 +89,7 @@ fn judge<R: Threads + Sync, F: Files>(
     ensures judged { (words : List (List ℕ)) → IsCommand words (command_said command.now)
         → IfOk result (λ rows. IsJudged words (F.holds files.old) (command_said command.now) rows) }
     ensures ends { (words : List (List ℕ)) → IsCommand words (command_said command.now)
-        → IfErr result (λ fault. Ends words (F.holds files.old) (Err fault)) }
+        → IfErr result (λ fault. MayEndWith words (F.holds files.old) (Err fault)) }
     ensures read_fault { (file : Which) → result ≡ Err (Read file)
         → Rose (F.faults files.old) (F.faults files.new) }
     ensures no_write { result ≢ Err Write }
@@ -142,7 +142,7 @@ pub(crate) fn check<R: Threads + Sync, F: Files, O: Sink>(
     ensures done { (words : List (List ℕ)) → IsCommand words (command_said command.now)
         → IfOk result (λ work. IsDone words (F.holds files.old) (command_said command.now) work) }
     ensures ends { (words : List (List ℕ)) → IsCommand words (command_said command.now)
-        → IfErr result (λ fault. Ends words (F.holds files.old) (Err fault)) }
+        → IfErr result (λ fault. MayEndWith words (F.holds files.old) (Err fault)) }
     ensures written { OnOk result ((words : List (List ℕ)) (input : Input)
         → IsCommand words (command_said command.now) → IsInput words (F.holds files.old) input
         → Gains (IsAnswerText input) (O.written out.old) (O.written out.new)) }

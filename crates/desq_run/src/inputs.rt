@@ -12,7 +12,7 @@ ghost use Rattle.mine_model.specs.Refusal.{IsHierarchyRefusal, IsSequencesRefusa
 ghost use Rattle.made_input.specs.Made.{most_made};
 ghost use Rattle.command_line.specs.Words.{NamesFile, file_of, make, Command as CommandSaid};
 ghost use Rattle.command_line.specs.Commands.{source_said, command_said};
-ghost use Rattle.desq_run.specs.Ends.{bytes_named, HasSource, Ends};
+ghost use Rattle.desq_run.specs.Ends.{bytes_named, HasSource, MayEndWith};
 ghost use Rattle.desq_run.specs.Inputs.{IsClosureOf, RefusesRows, AreRowsOf, IsDatabaseOf, AreLinksWithin, AreInputs, FailsBy, FailsInTurn, HasRanges, IsMinedBy};
 
 use command_line::{Command, Source};
@@ -265,7 +265,7 @@ fn read_both<R: Threads + Sync, F: Files>(
     ensures named { IfOk result (λ both.
         AllByRecursion (λ s. AllByRecursion (HasName names.new) s.items) both.1) }
     ensures ends { (words : List (List ℕ)) → HasSource words (command_said command.now)
-        → IfErr result (λ fault. Ends words (F.holds files.old) (Err fault)) }
+        → IfErr result (λ fault. MayEndWith words (F.holds files.old) (Err fault)) }
     ensures read_fault { (file : Which) → result ≡ Err (Read file)
         → Rose (F.faults files.old) (F.faults files.new) }
     ensures no_write { result ≢ Err Write }
@@ -305,7 +305,7 @@ fn read_files<R: Threads + Sync, F: Files>(
     ensures named { IfOk result (λ inputs.
         AllByRecursion (λ s. AllByRecursion (HasName inputs.names) s.items) inputs.db) }
     ensures ends { (words : List (List ℕ)) → HasSource words (command_said command.now)
-        → IfErr result (λ fault. Ends words (F.holds files.old) (Err fault)) }
+        → IfErr result (λ fault. MayEndWith words (F.holds files.old) (Err fault)) }
     ensures read_fault { (file : Which) → result ≡ Err (Read file)
         → Rose (F.faults files.old) (F.faults files.new) }
     ensures no_write { result ≢ Err Write }
@@ -363,7 +363,7 @@ pub(crate) fn read_inputs<R: Threads + Sync, F: Files>(
     ensures named { IfOk result (λ inputs.
         AllByRecursion (λ s. AllByRecursion (HasName inputs.names) s.items) inputs.db) }
     ensures ends { (words : List (List ℕ)) → HasSource words (command_said command.now)
-        → IfErr result (λ fault. Ends words (F.holds files.old) (Err fault)) }
+        → IfErr result (λ fault. MayEndWith words (F.holds files.old) (Err fault)) }
     ensures read_fault { (file : Which) → result ≡ Err (Read file)
         → Rose (F.faults files.old) (F.faults files.new) }
     ensures no_write { result ≢ Err Write }

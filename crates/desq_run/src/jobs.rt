@@ -16,7 +16,7 @@ ghost use Rattle.patex_parser.specs.Parsing.{use_view, AreWithin, named_tree};
 ghost use Rattle.mining_job.specs.Problems.{data_of};
 ghost use Rattle.command_line.specs.Words.{IsCommand, NamesFile};
 ghost use Rattle.command_line.specs.Commands.{source_said, command_said};
-ghost use Rattle.desq_run.specs.Ends.{NeedsNoFile, Ends};
+ghost use Rattle.desq_run.specs.Ends.{NeedsNoFile, MayEndWith};
 ghost use Rattle.desq_run.specs.Inputs.{HasRanges, IsMinedBy, IsJobOf, IsJobFor};
 
 use super::inputs::{Inputs, read_inputs};
@@ -134,7 +134,7 @@ pub(crate) fn read_job<R: Threads + Sync, F: Files>(
     ensures job { IfOk result (λ read.
         IsJobFor (F.holds files.old) (command_said command.now) read.names read.job) }
     ensures ends { (words : List (List ℕ)) → IsCommand words (command_said command.now)
-        → IfErr result (λ fault. Ends words (F.holds files.old) (Err fault)) }
+        → IfErr result (λ fault. MayEndWith words (F.holds files.old) (Err fault)) }
     ensures read_fault { (file : Which) → result ≡ Err (Read file)
         → Rose (F.faults files.old) (F.faults files.new) }
     ensures no_write { result ≢ Err Write }

@@ -9,7 +9,7 @@ ghost use Rattle.mine_model.specs.Names.{HasName};
 ghost use Rattle.pattern_proof.specs.Writings.{AreOfAnswer, GainsProof, GainsPart};
 ghost use Rattle.command_line.specs.Words.{prove as to_prove, SuitsTask, IsCommand, NamesFile};
 ghost use Rattle.command_line.specs.Commands.{source_said, task_said, command_said};
-ghost use Rattle.desq_run.specs.Ends.{Input, IsInput, IsAnswerText, NeedsNoFile, Ends};
+ghost use Rattle.desq_run.specs.Ends.{Input, IsInput, IsAnswerText, NeedsNoFile, MayEndWith};
 ghost use Rattle.desq_run.specs.Inputs.{HasShare};
 ghost use Rattle.desq_run.specs.Tasks.{IsDone, Gains, GainsFirst};
 
@@ -72,7 +72,7 @@ pub(crate) fn prove<R: Threads + Wait + Sync, F: Files, O: Sink, G: Gate>(
     ensures done { (words : List (List ℕ)) → IsCommand words (command_said command.now)
         → IfOk result (λ work. IsDone words (F.holds files.old) (command_said command.now) work) }
     ensures ends { (words : List (List ℕ)) → IsCommand words (command_said command.now)
-        → IfErr result (λ fault. Ends words (F.holds files.old) (Err fault)) }
+        → IfErr result (λ fault. MayEndWith words (F.holds files.old) (Err fault)) }
     ensures written { OnOk result ((words : List (List ℕ)) (input : Input)
         → IsCommand words (command_said command.now) → IsInput words (F.holds files.old) input
         → Gains (IsAnswerText input) (O.written out.old) (O.written out.new)) }

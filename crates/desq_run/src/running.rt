@@ -8,7 +8,7 @@ ghost use Rattle.mine_model.specs.Status.{fault_status, status_of, message_of};
 ghost use Rattle.command_line.specs.Words.{Command, IsNamed, IsCommand, IsUsage, merged_in};
 ghost use Rattle.desq_run.specs.Sources.{IsSourceRefusal};
 ghost use Rattle.desq_run.specs.Said.{RefusesHierarchy};
-ghost use Rattle.desq_run.specs.Ends.{Input, IsInput, bytes_named, HoldsData, IsDataRefusal, IsFirstRefusal, IsAccepted, IsAnswerText, HasSource, NeedsNoFile, Ends};
+ghost use Rattle.desq_run.specs.Ends.{Input, IsInput, bytes_named, HoldsData, IsDataRefusal, IsFirstRefusal, IsAccepted, IsAnswerText, HasSource, NeedsNoFile, MayEndWith};
 ghost use Rattle.desq_run.specs.Reported.{IsReported};
 
 use super::attempts::attempt;
@@ -42,7 +42,7 @@ pub fn run<R: Threads + Wait + Sync, F: Files, O: Sink, E: Sink, G: Gate>(
 
     // Every end has its cause, and err gained its message, or after a fault of err the first bytes of it.
     ensures ends { (outcome : Result (Option Work) Fault) × (result ≡ status_of outcome)
-        × Ends (map string_bytes words.now) (F.holds files.old) outcome
+        × MayEndWith (map string_bytes words.now) (F.holds files.old) outcome
         × IsReported (E.written err.old) (E.written err.new) (Rose (E.faults err.old) (E.faults err.new))
         (message_of outcome) }
 

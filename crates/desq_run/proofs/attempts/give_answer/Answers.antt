@@ -3,7 +3,7 @@ use Rattle.mine_model.specs.declared.fault.Fault.TheVariants.{Write}
 use Rattle.mine_model.specs.Names.{named_row}
 use Rattle.command_line.specs.Words.{mine, check}
 use Rattle.command_line.specs.Commands.{command_said}
-use Rattle.desq_run.specs.Ends.{Ends, write_fault, no_memory}
+use Rattle.desq_run.specs.Ends.{MayEndWith, write_fault, no_memory}
 use Rattle.desq_run.specs.Said.{output_of}
 use Rattle.desq_run.proofs.TextLemmas.{mined-done, mined-text}
 use Rattle.desq_run.proofs.attempts.give_answer.Goals as goal
@@ -35,8 +35,8 @@ returns-in_err-write_answer-clause-ends g c = λ words is.
     (c.in_ok-mined.ensures.mined words is) (λ file own. (let other : mine ≡ check file = sym c.requires.task ∙ own in cc)) in
     rw same
     (elim c.in_err-write_answer.ensures.fails [
-      | inl written ↦ subst (λ fault. Ends words holds (Err fault)) (sym written) (write_fault (command_said c.args.command.now) done.source done.hierarchy done.mined done.accepted)
-      | inr memory ↦ subst (λ fault. Ends words holds (Err fault)) (sym memory) no_memory
+      | inl written ↦ subst (λ fault. MayEndWith words holds (Err fault)) (sym written) (write_fault (command_said c.args.command.now) done.source done.hierarchy done.mined done.accepted)
+      | inr memory ↦ subst (λ fault. MayEndWith words holds (Err fault)) (sym memory) no_memory
     ])
 
 pub returns-in_err-write_answer-clause-cut : goal.returns-in_err-write_answer-clause-cut

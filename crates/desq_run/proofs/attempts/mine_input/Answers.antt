@@ -1,7 +1,7 @@
 use Rattle.std.proofs.Common.{rules, ◌≡◌, ◌∙◌, sym, subst, Err}
 use Rattle.mine_model.specs.declared.fault.Fault.TheVariants.{Read, Write}
 use Rattle.command_line.specs.Commands.{command_said}
-use Rattle.desq_run.specs.Ends.{Ends, no_memory}
+use Rattle.desq_run.specs.Ends.{MayEndWith, no_memory}
 use Rattle.desq_run.proofs.FailLemmas.{memory≢read, memory≢write}
 use Rattle.desq_run.proofs.RowLemmas.{job-mined}
 use Rattle.desq_run.proofs.attempts.mine_input.Goals as goal
@@ -20,7 +20,7 @@ returns-in_err-names-clause-ends g c = λ words is.
 pub returns-in_err-rows-clause-ends : goal.returns-in_err-rows-clause-ends
 returns-in_err-rows-clause-ends g c = λ words is.
     let same : c.from_residual-in_err-rows.result ≡ Err c.in_err-rows.field-0.0 = search (rules, c.from_residual-in_err-rows.ensures) in
-    rw same (subst (λ fault. Ends words (g.F.Files.holds c.args.files.now) (Err fault)) (sym c.in_err-rows.ensures.fails) no_memory)
+    rw same (subst (λ fault. MayEndWith words (g.F.Files.holds c.args.files.now) (Err fault)) (sym c.in_err-rows.ensures.fails) no_memory)
 
 pub returns-in_err-rows-clause-read_fault : goal.returns-in_err-rows-clause-read_fault
 returns-in_err-rows-clause-read_fault g c = λ file is.

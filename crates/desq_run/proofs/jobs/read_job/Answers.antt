@@ -4,7 +4,7 @@ use Rattle.mine_model.specs.Numbered.{tree_of}
 use Rattle.mine_model.specs.Grammar.{Use}
 use Rattle.command_line.specs.Commands.{command_said}
 use Rattle.patex_parser.specs.Parsing.{use_view}
-use Rattle.desq_run.specs.Ends.{Ends, no_memory, refused_source}
+use Rattle.desq_run.specs.Ends.{MayEndWith, no_memory, refused_source}
 use Rattle.desq_run.proofs.EndLemmas.{unknown-refused}
 use Rattle.desq_run.proofs.MineLemmas.{no_other}
 use Rattle.desq_run.proofs.jobs.read_job.Goals as goal
@@ -15,7 +15,7 @@ returns-in_err-parsed-clause-ends g c = λ words is.
     let refused = c.in_err-parsed.ensures.refused in
     rw same
     (elim refused [
-      | inl memory ↦ subst (λ e. Ends words (g.F.Files.holds c.args.files.now) (Err e)) (sym memory) no_memory
+      | inl memory ↦ subst (λ e. MayEndWith words (g.F.Files.holds c.args.files.now) (Err e)) (sym memory) no_memory
       | inr refusal ↦ refused_source (command_said c.args.command.now) c.in_err-parsed.field-0.0 is refusal
     ])
 
@@ -34,7 +34,7 @@ returns-in_err-job-clause-ends g c = λ words is.
     let uses : List Use = map use_view c.in_ok-parsed.parsed.uses.items in
     rw same
     (elim c.in_err-job.ensures.refused [
-      | inl memory ↦ subst (λ e. Ends words (g.F.Files.holds c.args.files.now) (Err e)) (sym memory) no_memory
+      | inl memory ↦ subst (λ e. MayEndWith words (g.F.Files.holds c.args.files.now) (Err e)) (sym memory) no_memory
       | inr unknown ↦ unknown-refused words (g.F.Files.holds c.args.files.now) (command_said c.args.command.now) (is, accepted)
           inputs.known inputs.before inputs.hierarchy c.in_ok-inputs.inputs.names c.in_ok-inputs.inputs.db inputs.sequences uses (tree_of c.in_ok-parsed.parsed.tree) is_read
           c.in_err-job.field-0.0 unknown

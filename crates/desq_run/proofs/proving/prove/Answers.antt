@@ -4,7 +4,7 @@ use Rattle.mine_model.specs.declared.fault.Fault.TheVariants.{Read, Write}
 use Rattle.mine_model.specs.PartitionWork.{IsNamedBefore}
 use Rattle.command_line.specs.Words.{prove, check}
 use Rattle.command_line.specs.Commands.{command_said}
-use Rattle.desq_run.specs.Ends.{Ends, write_fault, no_memory}
+use Rattle.desq_run.specs.Ends.{MayEndWith, write_fault, no_memory}
 use Rattle.desq_run.specs.Inputs.{IsMined}
 use Rattle.desq_run.proofs.FailLemmas.{memory≢read, memory≢write}
 use Rattle.desq_run.proofs.RowLemmas.{job-mined}
@@ -32,7 +32,7 @@ returns-in_err-names-clause-ends g c = λ words is.
 pub returns-in_err-rows-clause-ends : goal.returns-in_err-rows-clause-ends
 returns-in_err-rows-clause-ends g c = λ words is.
     let same : c.from_residual-in_err-rows.result ≡ Err c.in_err-rows.field-0.0 = search (rules, c.from_residual-in_err-rows.ensures) in
-    rw same (subst (λ fault. Ends words (g.F.Files.holds c.args.files.now) (Err fault)) (sym c.in_err-rows.ensures.fails) no_memory)
+    rw same (subst (λ fault. MayEndWith words (g.F.Files.holds c.args.files.now) (Err fault)) (sym c.in_err-rows.ensures.fails) no_memory)
 
 pub returns-in_err-rows-clause-read_fault : goal.returns-in_err-rows-clause-read_fault
 returns-in_err-rows-clause-read_fault g c = λ file is.
@@ -96,8 +96,8 @@ returns-in_err-write_proof-clause-ends g c = λ words is.
     let ended = mined-done words holds command names rows work mined (λ file own. (let other : prove ≡ check file = sym c.requires.task ∙ own in cc)) in
     rw same
     (elim c.in_err-write_proof.ensures.fails [
-      | inl written ↦ subst (λ fault. Ends words holds (Err fault)) (sym written) (write_fault command ended.source ended.hierarchy ended.mined ended.accepted)
-      | inr memory ↦ subst (λ fault. Ends words holds (Err fault)) (sym memory) no_memory
+      | inl written ↦ subst (λ fault. MayEndWith words holds (Err fault)) (sym written) (write_fault command ended.source ended.hierarchy ended.mined ended.accepted)
+      | inr memory ↦ subst (λ fault. MayEndWith words holds (Err fault)) (sym memory) no_memory
     ])
 
 pub returns-in_err-write_proof-clause-cut : goal.returns-in_err-write_proof-clause-cut
