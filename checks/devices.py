@@ -672,12 +672,13 @@ def address_space():
     line = write("line", b"a " * 10_000)
     pairs = write("pairs", "".join(f"x{number:04d} y{number:04d}\n" for number in range(4_000)))
     small = [*range(0, 1 << 20, 32 << 10)]
-    large = [more << 20 for more in (1, 2, 3, 4, 6, 8, 16, 64, 128, 256, 512)]
+    # The last holds the stacks of 64 workers, and the 64 MiB that the C library sets aside for each, many times.
+    large = [more << 20 for more in (1, 2, 3, 4, 6, 8, 16, 64, 128, 256, 512, 16 << 10)]
     for search, by in searches():
         for name, words, done, sizes in (
                 ("the running example", example(*search), DONE, [*small, *large]),
                 ("a long line", ["--support", "1", *search, "(a)*", line],
-                 (0, b"1\t" + b" ".join([b"a"] * 10_000) + b"\n", b""), [0, *large, 4 << 30]),
+                 (0, b"1\t" + b" ".join([b"a"] * 10_000) + b"\n", b""), [0, *large]),
                 ("a root with 4,000 kids, each with a kid", ["--support", "1", *search, "(.)(.)", pairs],
                  (0, b"".join(b"1\tx%04d y%04d\n" % (number, number) for number in range(4_000)), b""), [0, *large]),
                 ("made input", ["--support", "9000", *search, "--generated", "9000", ".*(top^=).*"],
