@@ -3,7 +3,7 @@ use Rattle.std.proofs.Common.{◌≡◌, ℕ, zero, suc, ◌+◌, ◌≤◌, ◌
 use Rattle.std.specs.List.{Contains}
 use Rattle.std.specs.Cmp.Lexicographic.{pointwise}
 use Rattle.std.proofs.lemmas.Bool.{cases_Bool, cases_eq}
-use Rattle.std.proofs.lemmas.List.{append-nil, length_push, take_all, get_or_append_left, get_or_default, get_or_push}
+use Rattle.std.proofs.lemmas.List.{append-nil, length_push, take_all, get_or_append_left, get_or_push}
 use Rattle.std.proofs.lemmas.List.Elements.{Contains-append_cases}
 use Rattle.std.proofs.lemmas.Option.{none-some, same_Some, slice_get_within, slice_get-get_or, get_or_from_slice_get}
 use Rattle.mine_model.specs.Names.{AreDistinct}
@@ -66,14 +66,13 @@ none-first (first ∷ lists) (s ∷ sums) is list =
 
 -- its parent has a number here, under which the list without its last rank stands
 pub parent-place : (here theirs : Prefixes) (numbers : List ℕ) (number : ℕ) (node : Node) (place : ℕ) → IsNodeOf theirs number node → number < length theirs.lists
-    → length numbers ≡ number → place ≡ get_or numbers node.parent place
+    → place ≡ get_or numbers node.parent 0
     → ((k : ℕ) → k < number → slice_get here.lists (get_or numbers k 0) ≡ slice_get theirs.lists k)
     → (list : List ℕ) × (slice_get here.lists place ≡ Some list) × (slice_get theirs.lists number ≡ Some (list ++ node.rank ∷ []))
-parent-place here theirs numbers number node place is within long at held =
+parent-place here theirs numbers number node place is within at held =
     let before = is.before in
     let (list, there) = get-some theirs.lists node.parent (omega (arith, before, within)) in
-    let same : place ≡ get_or numbers node.parent 0 = at ∙ get_or_default numbers node.parent place 0 (omega (arith, before, long)) in
-    (list, ap (λ (n : ℕ). slice_get here.lists n) same ∙ held node.parent before ∙ there, is.list list there)
+    (list, ap (λ (n : ℕ). slice_get here.lists n) at ∙ held node.parent before ∙ there, is.list list there)
 
 -- its sum is that of the list
 pub node-sum : (theirs : Prefixes) (number : ℕ) (node : Node) (list : List ℕ) → ArePrefixes theirs → IsNodeOf theirs number node → slice_get theirs.lists number ≡ Some list

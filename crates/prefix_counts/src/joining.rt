@@ -56,9 +56,17 @@ fn join_next(
     // Each list has one number.
     let _held = other.len();
     let node = other.node(number);
-    let before = numbers[node.parent as usize];
+    let before = number_at(numbers, node.parent);
     let place = add_longer(counts, before, node.rank, node.sum)?;
     Ok(place)
+}
+
+// The number here of the list with this number there.
+fn number_at(numbers: &[u32], number: u32) -> u32
+    requires { number < length numbers.now }
+    ensures { result ≡ slice_index numbers.now number }
+{
+    numbers[number as usize]
 }
 
 // The number of the list that has the rank behind that with this number. Its sum has the weight more.
