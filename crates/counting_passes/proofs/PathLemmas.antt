@@ -2,7 +2,6 @@
 use Rattle.std.proofs.Common.{◌≡◌, ◌≤◌, ◌↔◌, ℕ, inl, inr, IsTrue, Some, List, [], ◌∷◌, ◌++◌, length, slice_get, refl, sym, ◌∙◌, subst, append_assoc, arith}
 use Rattle.std.specs.List.{Contains}
 use Rattle.mine_model.specs.declared.item.Item.{Item}
-use Rattle.mine_model.specs.Ranks.{AreRanked}
 use Rattle.mine_model.proofs.AboveLemmas.{pattern-shorter}
 use Rattle.mine_model.proofs.RankedLemmas.{ranked-length}
 use Rattle.search_tree.proofs.SearchAnswerLemmas.{within-frequent, frequent-within}
@@ -58,8 +57,7 @@ module _ (part : GridList) (items : List Item) (nodes : List Node) (follows : Te
       let (node, edges, at, are) = known prefix rank (second ∷ rest) number is reaches in
       let there : GeneratesWithin part (prefix ++ rank ∷ second ∷ rest) items = subst (λ (xs : List ℕ). GeneratesWithin part xs items) is generates in
       let (edge, held, same) = (follows prefix number reaches node edges at are rank).1 (second ∷ rest, there) in
-      let further = reaches-more nodes 0 prefix rank number edge reaches (node, edges, at, are, held, same) in
-      (
+      let further = reaches-more nodes 0 prefix rank number edge reaches (node, edges, at, are, held, same) in (
         edge,
         (node, edges, at, are, held, same),
         inr (generated-accepted list known generates rest (prefix ++ rank ∷ []) second edge.next further (is ∙ sym (append_assoc prefix (rank ∷ []) (second ∷ rest)))),

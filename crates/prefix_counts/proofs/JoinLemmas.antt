@@ -1,11 +1,11 @@
 -- The sums of another, joined list by list.
-use Rattle.std.proofs.Common.{◌≡◌, ℕ, zero, suc, ◌+◌, ◌≤◌, ◌<◌, ◌^◌, ◌⊎◌, inl, inr, Bool, true, false, cond, nat_eq, Some, List, [], ◌∷◌, ◌++◌, length, take, get_or, slice_get, refl, sym, ap, subst, ◌∙◌, arith, append_assoc, true≢false}
+use Rattle.std.proofs.Common.{◌≡◌, ℕ, zero, suc, ◌+◌, ◌≤◌, ◌<◌, ◌^◌, inl, inr, Bool, true, cond, nat_eq, Some, List, [], ◌∷◌, ◌++◌, length, take, get_or, slice_get, refl, sym, ap, subst, ◌∙◌, arith, append_assoc, true≢false}
 use Rattle.std.specs.List.{Contains}
 use Rattle.std.specs.Cmp.Lexicographic.{pointwise}
 use Rattle.std.proofs.lemmas.Bool.{cases_Bool, cases_eq}
 use Rattle.std.proofs.lemmas.List.{append-nil, length_push, take_all, get_or_append_left, get_or_push}
 use Rattle.std.proofs.lemmas.List.Elements.{Contains-append_cases}
-use Rattle.std.proofs.lemmas.Option.{none-some, same_Some, slice_get_within, slice_get-get_or, get_or_from_slice_get}
+use Rattle.std.proofs.lemmas.Option.{none-some, same_Some, slice_get_within}
 use Rattle.mine_model.specs.Names.{AreDistinct}
 use Rattle.mine_model.proofs.ListLemmas.{Contains-none}
 use Rattle.mine_model.proofs.ElementLemmas.{get-some, get-held, get-place, get-left, decides}
@@ -133,8 +133,7 @@ module _ (mine theirs : Prefixes) (there : ArePrefixes theirs) where
     ];
     kept =
         let (new, all, alone) = taken.kept in
-        let (before, held, theirs_all) = so_far.kept in
-        (
+        let (before, held, theirs_all) = so_far.kept in (
           before ++ new,
           all ∙ ap (λ (ls : List (List ℕ)). ls ++ new) held ∙ append_assoc mine.lists before new,
           λ other there_is. elim (Contains-append_cases before new other there_is) [

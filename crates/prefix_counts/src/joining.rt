@@ -70,7 +70,12 @@ fn number_at(numbers: &[u32], number: u32) -> u32
 }
 
 // The number of the list that has the rank behind that with this number. Its sum has the weight more.
-fn add_longer(counts: &mut PrefixCounts, number: u32, rank: u32, weight: u64) -> Result<u32, NoMemory>
+fn add_longer(
+    counts: &mut PrefixCounts,
+    number: u32,
+    rank: u32,
+    weight: u64,
+) -> Result<u32, NoMemory>
     requires number { number < length counts.old.lists }
     requires room { (list : List ℕ) → slice_get counts.old.lists number ≡ Some list
         → sum_of counts.old (list ++ rank ∷ []) + weight < 2 ^ 64 }

@@ -1,4 +1,4 @@
-use Rattle.std.proofs.Common.{◌≡◌, ◌-◌, Some, length, ap, subst, arith, refl, slice_get}
+use Rattle.std.proofs.Common.{◌-◌, length, ap, subst, arith, refl}
 use Rattle.std.proofs.lemmas.Option.{slice_get_read}
 use Rattle.prefix_counts.specs.Nodes.{IsNodeOf}
 use Rattle.prefix_counts.specs.Prefixes.{Prefixes}

@@ -1,4 +1,4 @@
-use Rattle.std.proofs.Common.{◌≡◌, ◌∙◌, ◌≤◌, ◌<◌, ℕ, List, length, sym, ap, subst, arith, slice_get, slice_index}
+use Rattle.std.proofs.Common.{◌∙◌, ℕ, List, length, ap, arith, slice_get, slice_index}
 use Rattle.std.proofs.lemmas.Option.{slice_get_within}
 use Rattle.mine_model.proofs.ElementLemmas.{get-some}
 use Rattle.prefix_counts.proofs.JoinLemmas.{joined-none, next-room, joined-next, joined-all}
