@@ -1,1 +1,4 @@
 mod PathLemmas
+mod SumLemmas
+mod PartLemmas
+mod WorkerLemmas
