@@ -1,5 +1,5 @@
 -- Sums, sequence after sequence and worker after worker.
-use Rattle.std.proofs.Common.{◌≡◌, ℕ, ◌+◌, ◌*◌, ◌≤◌, ◌<◌, inl, inr, Bool, true, false, nat_eq, List, [], ◌∷◌, ◌++◌, length, zero, suc, refl, sym, ap, ◌∙◌, subst, arith, length-append}
+use Rattle.std.proofs.Common.{◌≡◌, ℕ, ◌+◌, ◌*◌, ◌≤◌, ◌<◌, inl, inr, Bool, true, false, nat_eq, List, [], ◌∷◌, ◌++◌, length, min, drop, zero, suc, refl, sym, ap, ◌∙◌, subst, arith, length-append}
 use Rattle.std.specs.Cmp.Lexicographic.{pointwise}
 use Rattle.std.proofs.lemmas.Bool.{cases_lt}
 use Rattle.std.proofs.lemmas.List.{append-nil, append_assoc, length_push, length-take}
@@ -76,7 +76,9 @@ taken-few takes sequences (suc block) =
     ] refl
   where
     in-few : (sequences : List (Sequence Item)) (block : ℕ) → length (sequences_in sequences block) ≤ block_size
-    in-few sequences block = grind (arith, length-take)
+    in-few sequences block =
+        let long : length (sequences_in sequences block) ≡ min block_size (length (drop (block_size * block) sequences)) = length-take block_size (drop (block_size * block) sequences) in
+        omega (arith, long)
 
 -- before any block a worker's sums have room for one block more
 pub share-few : (takes : ℕ → Bool) (sequences : List (Sequence Item)) (count : ℕ) → count ≤ block_count sequences

@@ -76,9 +76,9 @@ count_next-requires-clause-longest c =
     let first = block_size * c.args.block in
     let number = c.loop-number.number in
     let count = c.min-end.result - first in
-    part-number c.loop-number.space.branches.part c.args.job.now (range_with_len first count) c.loop-number.invariant.part (λ sequence. length sequence.items) (number - first) number c.len-longest.result
+    part-number c.loop-number.space.branches.part c.args.job.now (range_with_len first count) c.loop-number.invariant.part (λ sequence. length sequence.items) (number - first) number (length c.sequence-items.result.now)
     (range-at first count number c.loop-number.auto.number (omega (arith, c.loop-number-test.true, c.loop-number.auto.number)))
-    (c.len-longest.ensures ∙ ap length c.sequence-items.ensures.items ∙ ap (λ (ss : List (Sequence Item)). length (sequence_at ss number).items) c.db-db.ensures.sequences)
+    (ap length c.sequence-items.ensures.items ∙ ap (λ (ss : List (Sequence Item)). length (sequence_at ss number).items) c.db-db.ensures.sequences)
 
 pub count_next-requires-clause-room : goal.count_next-requires-clause-room
 count_next-requires-clause-room c = λ list.
