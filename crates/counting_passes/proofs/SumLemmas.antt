@@ -1,11 +1,10 @@
 -- Sums, sequence after sequence and worker after worker.
-use Rattle.std.proofs.Common.{◌≡◌, ℕ, ◌+◌, ◌*◌, ◌≤◌, ◌<◌, inl, inr, Bool, true, false, nat_eq, List, [], ◌∷◌, ◌++◌, length, min, drop, zero, suc, refl, sym, ap, ◌∙◌, subst, arith, length-append}
+use Rattle.std.proofs.Common.{◌≡◌, ℕ, ◌+◌, ◌*◌, ◌≤◌, inl, inr, Bool, true, false, nat_eq, List, [], ◌∷◌, ◌++◌, length, min, drop, zero, suc, refl, sym, ap, ◌∙◌, subst, arith, length-append}
 use Rattle.std.specs.Cmp.Lexicographic.{pointwise}
 use Rattle.std.proofs.lemmas.Bool.{cases_lt}
-use Rattle.std.proofs.lemmas.List.{append-nil, append_assoc, length_push, length-take}
+use Rattle.std.proofs.lemmas.List.{append-nil, append_assoc, length-take}
 use Rattle.mine_model.specs.declared.item.Item.{Item}
 use Rattle.mine_model.specs.Answer.{Data}
-use Rattle.mine_model.specs.Limits.{most_weight}
 use Rattle.mine_model.specs.Support.{Sequence}
 use Rattle.mining_job.specs.Problems.{Problem, data_of}
 use Rattle.candidate_graph.specs.Graphs.{Node}
@@ -14,7 +13,7 @@ use Rattle.prefix_counts.specs.Sums.{sum_of, AreJoined}
 use Rattle.prefix_counts.proofs.SumLemmas.{either-none}
 use Rattle.prefix_sieve.specs.Sieves.{AreDealt}
 use Rattle.sieved_counts.specs.Counted.{HasCounted, AreCounted}
-use Rattle.sieve_passes.specs.Sums.{block_size, block_count, sequences_in, taken_of, takes_of, share_of}
+use Rattle.sieve_passes.specs.Sums.{block_size, block_count, sequences_in, taken_of, share_of}
 use Rattle.sieve_passes.proofs.ShareLemmas.{shares_to, dealt-shares, taken-with, taken-without}
 use Rattle.counting_passes.specs.Counts.{AreSumsOf, CountsAll, GrowsUpTo}
 

@@ -1,17 +1,14 @@
-use Rattle.std.proofs.Common.{◌≡◌, ◌∙◌, ◌+◌, ◌-◌, ◌*◌, ◌<◌, ◌≤◌, ℕ, [], ◌∷◌, List, length, min, refl, sym, ap, subst, arith}
+use Rattle.std.proofs.Common.{◌≡◌, ◌∙◌, ◌+◌, ◌-◌, ◌*◌, ◌<◌, ◌≤◌, ℕ, [], ◌∷◌, List, length, min, sym, ap, subst, arith}
 use Rattle.std.specs.List.{AllByRecursion, AllPairs, range_with_len}
 use Rattle.std.proofs.lemmas.List.FromFn.{length-range_with_len}
 use Rattle.mine_model.specs.declared.item.Item.{Item}
 use Rattle.mine_model.specs.Database.{sequence_at}
-use Rattle.mine_model.specs.Limits.{most_weight}
 use Rattle.mine_model.specs.Support.{Sequence}
 use Rattle.mining_job.specs.Problems.{Problem}
 use Rattle.sieve_passes.specs.Branches.{part_of}
 use Rattle.sieve_passes.specs.Sums.{block_size}
 use Rattle.sieve_passes.proofs.NumberLemmas.{range-rising, range-within, range-at, part-again, part-whole, part-index, part-weight}
 use Rattle.sieve_passes.proofs.ShareLemmas.{sequences_between, between-none, between-more, between-block}
-use Rattle.prefix_counts.specs.Sums.{sum_of}
-use Rattle.counting_passes.specs.Counts.{GrowsUpTo}
 use Rattle.counting_passes.proofs.SumLemmas.{counts-none, counts-both, counts-same}
 use Rattle.counting_passes.proofs.PartLemmas.{part-number, part-counts}
 use Rattle.counting_passes.proofs.block.count_block.Goals as goal

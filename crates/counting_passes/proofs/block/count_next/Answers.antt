@@ -1,4 +1,4 @@
-use Rattle.std.proofs.Common.{◌≡◌, ◌∙◌, ◌+◌, ◌*◌, ◌≤◌, ◌∷◌, ◌++◌, [], ℕ, List, Option, length, sym, ap, subst, arith, slice_index}
+use Rattle.std.proofs.Common.{◌≡◌, ◌∙◌, ◌+◌, ◌∷◌, ◌++◌, [], ℕ, Option, length, sym, ap, subst, arith, slice_index}
 use Rattle.std.proofs.lemmas.List.{length_push}
 use Rattle.mine_model.specs.declared.item.Item.{Item}
 use Rattle.mine_model.specs.Database.{sequence_at}
@@ -7,11 +7,10 @@ use Rattle.mine_model.specs.Support.{Sequence}
 use Rattle.mining_job.specs.Problems.{data_of}
 use Rattle.sequence_grids.specs.Grids.{GridList}
 use Rattle.sequence_candidates.specs.Candidates.{AreCandidates}
-use Rattle.prefix_counts.specs.Sums.{sum_of}
 use Rattle.sieved_counts.specs.Counted.{HasCounted, AreShort}
 use Rattle.sieve_passes.specs.Branches.{part_of}
 use Rattle.sieve_passes.proofs.LeadLemmas.{begun-nodes}
-use Rattle.counting_passes.specs.Counts.{AreSumsOf, GrowsUpTo}
+use Rattle.counting_passes.specs.Counts.{GrowsUpTo}
 use Rattle.counting_passes.proofs.SumLemmas.{grown-by, grown-more}
 use Rattle.counting_passes.proofs.block.count_next.Goals as goal
 

@@ -1,4 +1,4 @@
-use Rattle.std.proofs.Common.{◌∙◌, ℕ, List, subst}
+use Rattle.std.proofs.Common.{ℕ, List, subst}
 use Rattle.worker_threads.specs.Doing.{AreDone}
 use Rattle.worker_threads.proofs.DoingLemmas.{done-weaker}
 use Rattle.counting_passes.proofs.WorkerLemmas.{IsCountedBy, all-numbers, all-counted, numbers-below}

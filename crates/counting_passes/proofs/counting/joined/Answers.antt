@@ -1,4 +1,4 @@
-use Rattle.std.proofs.Common.{◌≡◌, ◌∙◌, ◌∷◌, ◌≤◌, Bool, List, length, sym, subst, arith}
+use Rattle.std.proofs.Common.{◌∙◌, ◌∷◌, ◌≤◌, List, length, sym, subst, arith}
 use Rattle.prefix_counts.specs.Prefixes.{Prefixes}
 use Rattle.worker_threads.proofs.DoingLemmas.{first-apart}
 use Rattle.counting_passes.specs.Counts.{HaveAllCounted}
@@ -13,11 +13,10 @@ join_others-requires c =
     let shares : List Prefixes = c.args.shares.items in
     let first = c.remove-counts.result in
     let some : 1 ≤ length shares = omega (arith, have.all, c.requires.some) in
-    let apart = first-apart shares first some c.remove-counts.ensures.value in
-    (
+    let apart = first-apart shares first some c.remove-counts.ensures.value in (
       levels,
       subst (λ (others : List Prefixes). HaveAllCounted c.args.job.now levels c.args.workers (first ∷ others)) (sym (c.as_slice.ensures.value ∙ c.remove-counts.ensures.items))
-      (subst (HaveAllCounted c.args.job.now levels c.args.workers) (sym apart) have),
+          (subst (HaveAllCounted c.args.job.now levels c.args.workers) (sym apart) have),
     )
 
 pub returns : goal.returns
