@@ -84,7 +84,6 @@ fn join_others(
 {
     // There is room for the sums of all sequences.
     let _few = job.db().sequences();
-    let _workers = workers;
     joined_shares_are_counted();
     for share in others {
         counts.join(share)?;
