@@ -1,2 +1,4 @@
 mod TableLemmas
 mod NodeLemmas
+pub mod SumLemmas
+mod JoinLemmas

@@ -12,7 +12,7 @@ use Rattle.open_addressing.specs.Table.{IsTable}
 use Rattle.prefix_counts.specs.declared.node.Node.{Node}
 use Rattle.prefix_counts.specs.declared.table.Slot.{Slot}
 use Rattle.prefix_counts.specs.Prefixes.{ArePrefixes}
-use Rattle.prefix_counts.specs.Nodes.{list_behind, lists_with, lists_of, sums_of, prefixes_of, AreNodes}
+use Rattle.prefix_counts.specs.Nodes.{list_behind, lists_with, lists_of, sums_of, prefixes_of, AreNodes, IsNodeOf}
 use Rattle.prefix_counts.specs.Table.{key_of, layout, pairs_of}
 
 -- ---- one more node
@@ -53,6 +53,7 @@ module _ (nodes : List Node) (slots : List Slot) (are : AreNodes nodes slots) wh
       let sums = length-map nodes (λ node. node.sum) in
       record {
         first = slice_get-get_or (lists_of nodes) 0 [] (omega (arith, lists)) ∙ ap Some (first_is_empty nodes []);
+        nothing = refl;
         distinct = are.distinct;
         each = omega (arith, lists, sums);
       }
@@ -177,6 +178,25 @@ module _ (nodes : List Node) (i : ℕ) (node other : Node) (at : slice_get nodes
 -- the sum of a node
 pub sum_here : (nodes : List Node) (i number : ℕ) (node : Node) → slice_get nodes i ≡ Some node → number ≡ suc i → slice_get (sums_of nodes) number ≡ Some node.sum
 sum_here nodes i number node at is = ap (slice_get (sums_of nodes)) is ∙ slice_get-mapped_by (λ (node : Node). node.sum) nodes i node at
+
+-- what a node is made of
+pub node_here : (nodes : List Node) (slots : List Slot) → AreNodes nodes slots → (number : ℕ) (node : Node) → 0 < number → slice_get nodes (number - 1) ≡ Some node
+    → IsNodeOf (prefixes_of nodes) number node
+node_here nodes slots are number node some at =
+    let back : number - 1 + 1 ≡ number = omega (arith, some) in
+    let next : number ≡ suc (number - 1) = omega (arith, some) in
+    let low = are.before (number - 1) node at in
+    let inside = slice_get_within nodes (number - 1) node at in
+    let long = lists_of-length nodes in
+    record {
+      before = omega (arith, low, some);
+      list = λ list parent.
+          let own = are.each (number - 1) node at in
+          let whole : get_or (lists_of nodes) number [] ≡ list ++ node.rank ∷ [] =
+          sym (ap (λ k. get_or (lists_of nodes) k []) back) ∙ own ∙ ap (λ w. w ++ node.rank ∷ []) (get_or_from_slice_get (lists_of nodes) node.parent list [] parent) in
+          slice_get-get_or (lists_of nodes) number [] (omega (arith, inside, long, some)) ∙ ap Some whole;
+      sum = sum_here nodes (number - 1) number node at next;
+    }
 
 -- a weight more in a node's sum
 pub sums_added : (nodes : List Node) (i number weight : ℕ) (node : Node) → slice_get nodes i ≡ Some node → number ≡ suc i

@@ -1,5 +1,5 @@
 -- Lists as nodes, each behind an earlier one.
-use Rattle.std.specs.Prelude.{◌≡◌, ℕ, ◌+◌, ◌≤◌, List, [], ◌∷◌, ◌++◌, Some, length, map, slice_get, slice_index_or}
+use Rattle.std.specs.Prelude.{◌≡◌, ℕ, ◌+◌, ◌≤◌, ◌<◌, List, [], ◌∷◌, ◌++◌, Some, length, map, slice_get, slice_index_or}
 use Rattle.mine_model.specs.Names.{AreDistinct}
 use Rattle.open_addressing.specs.Table.{IsTable}
 use Rattle.prefix_counts.specs.declared.node.Node.{Node}
@@ -34,3 +34,10 @@ pub record AreNodes (nodes : List Node) (slots : List Slot) : Type 0 where
   pub distinct : AreDistinct (lists_of nodes)
   pub few : length nodes ≤ 4294967294
   pub table : IsTable layout (map key_of (pairs_of nodes)) slots
+
+-- the list with this number is that of the node, whose parent comes before, and the sum is the node's
+pub record IsNodeOf (prefixes : Prefixes) (number : ℕ) (node : Node) : Type 0 where
+  pub before : node.parent < number
+  pub list : (list : List ℕ) → slice_get prefixes.lists node.parent ≡ Some list
+      → slice_get prefixes.lists number ≡ Some (list ++ node.rank ∷ [])
+  pub sum : slice_get prefixes.sums number ≡ Some node.sum

@@ -11,8 +11,9 @@ pub record Prefixes : Type 0 where
 abbrev pub no_prefixes : Prefixes
 no_prefixes = record { lists = [] ∷ []; sums = 0 ∷ [] }
 
--- the empty list is the first, and each is there once and has a sum
+-- the empty list is the first, with the sum 0, and each is there once and has a sum
 pub record ArePrefixes (prefixes : Prefixes) : Type 0 where
   pub first : slice_get prefixes.lists 0 ≡ Some []
+  pub nothing : slice_get prefixes.sums 0 ≡ Some 0
   pub distinct : AreDistinct prefixes.lists
   pub each : length prefixes.sums ≡ length prefixes.lists

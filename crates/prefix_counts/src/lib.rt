@@ -1,12 +1,16 @@
 //! Sums of weights by lists of ranks, each list a prefix with one rank more.
 #![tactic(auto)]
 
+mod joining;
 mod node;
 mod table;
 
 ghost use Rattle.std.specs.Prelude.{◌≡◌, ℕ, ◌+◌, ◌^◌, ◌<◌, ◌⊎◌, [], ◌∷◌, ◌++◌, List, length, set, slice_get, slice_index, Some, IfOk, OnOk, OnErr};
+ghost use Rattle.prefix_counts.specs.Nodes.{IsNodeOf};
 ghost use Rattle.prefix_counts.specs.Prefixes.{no_prefixes, ArePrefixes};
+ghost use Rattle.prefix_counts.specs.Sums.{sum_of, AreJoined};
 
+use joining::join_all;
 use mine_model::NoMemory;
 use node::Node;
 use std::alloc::Global;
@@ -126,6 +130,31 @@ impl PrefixCounts {
         ensures { slice_get self.now.sums number ≡ Some result }
     {
         self.nodes[number as usize - 1].sum
+    }
+
+    // What the list with this number, which is not the empty one, was made of.
+    pub(crate) fn node(&self, number: usize) -> Node
+        requires some { 0 < number }
+        requires within { number < length self.now.lists }
+        ensures { IsNodeOf self.now number result }
+    {
+        self.nodes[number - 1]
+    }
+
+    /// Adds each list's sum of the other to its sum here. What is new here gets the next numbers. Each list
+    /// is found by its prefix and its last rank, so none is hashed whole. After want of memory some may have
+    /// been added.
+    pub fn join(&mut self, other: &PrefixCounts) -> Result<(), NoMemory>
+        requires { (list : List ℕ) → sum_of self.old list + sum_of other.now list < 2 ^ 64 }
+        ensures { OnOk result (AreJoined self.old other.now self.new) }
+    {
+        let alloc = self.allocator();
+        join_all(alloc, self, other)
+    }
+
+    // What new memory is taken from.
+    fn allocator(&self) -> Global {
+        *self.nodes.allocator()
     }
 
     /// Leaves the list with this number.

@@ -1,6 +1,6 @@
-mod ShareLemmas
+pub mod ShareLemmas
 mod SumLemmas
 mod LevelLemmas
-mod LeadLemmas
-mod NumberLemmas
+pub mod LeadLemmas
+pub mod NumberLemmas
 mod WorkerLemmas

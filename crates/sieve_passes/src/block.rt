@@ -14,8 +14,8 @@ use mining_job::Job;
 use prefix_sieve::{Buckets, Room, Sieve, a_pass_raises_what_it_has_to, one_more_sequence, pass};
 use std::alloc::Global;
 
-// How many sequences a block has; the last one may have fewer.
-const BLOCK: u32 = 256;
+/// How many sequences a block has; the last one may have fewer.
+pub const BLOCK: u32 = 256;
 
 /// A worker's room for a pass, used again for each block.
 #[derive(Drop)]
@@ -40,7 +40,7 @@ impl<'a> Workspace<'a> {
 }
 
 /// How many blocks the sequences of the job make.
-pub(crate) fn block_count(job: &Job) -> u32
+pub fn block_count(job: &Job) -> u32
     ensures { result ≡ block_count job.now.sequences }
 {
     job.db().sequences().div_ceil(BLOCK)
@@ -81,8 +81,8 @@ pub(crate) fn pass_over_block(
     Ok(())
 }
 
-// The numbers from the first to before the end, in place of those before.
-fn set_numbers(numbers: &mut Vec<u32>, first: u32, end: u32) -> Result<(), NoMemory>
+/// The numbers from the first to before the end, in place of those before.
+pub fn set_numbers(numbers: &mut Vec<u32>, first: u32, end: u32) -> Result<(), NoMemory>
     requires { first ≤ end }
     ensures { OnOk result (numbers.new.items ≡ range_with_len first (end - first)) }
 {

@@ -9,6 +9,7 @@ mod making;
 mod share;
 mod sums;
 
+pub use block::{BLOCK, block_count, set_numbers};
 pub use branches::PartBranches;
 pub use laws::candidates_lead_to_all;
 pub use making::sieve_of;

@@ -15,8 +15,8 @@ use Rattle.prefix_sieve.specs.Sieves.{lets_pass}
 use Rattle.prefix_sieve.proofs.PathLemmas.{at_place, last_or_before, grows-within, grows-expanded, edge-back}
 use Rattle.prefix_counts.specs.Prefixes.{Prefixes}
 use Rattle.sieved_counts.specs.declared.fronts.Front.{Front}
-use Rattle.sieved_counts.specs.Sums.{sum_of}
-use Rattle.sieved_counts.specs.Fronts.{IsFrontOf, AreFronts, AreWithin, IsLonger, IsBehind, IsTaken, HasGone, HasGoneBehind, HasGoneOn}
+use Rattle.prefix_counts.specs.Sums.{sum_of, IsTaken}
+use Rattle.sieved_counts.specs.Fronts.{IsFrontOf, AreFronts, AreWithin, IsLonger, IsBehind, HasGone, HasGoneBehind, HasGoneOn}
 
 -- ---- fronts
 

@@ -23,9 +23,9 @@ use Rattle.prefix_sieve.specs.Sieves.{HasCandidate, lets_pass, PassesAll}
 use Rattle.prefix_sieve.proofs.PathLemmas.{passes-before}
 use Rattle.pattern_counts.specs.Tally.{sum_in}
 use Rattle.prefix_counts.specs.Prefixes.{Prefixes, no_prefixes, ArePrefixes}
-use Rattle.sieved_counts.specs.Sums.{sum_of}
+use Rattle.prefix_counts.specs.Sums.{sum_of}
 use Rattle.sieved_counts.specs.Counted.{HasCounted, IsKnownAlong, LeadsToCandidates, AreShort, AreCounted}
-use Rattle.sieved_counts.proofs.SumLemmas.{either-none, sum-at}
+use Rattle.prefix_counts.proofs.SumLemmas.{either-none, sum-at}
 use Rattle.sieved_counts.proofs.LevelLemmas.{passes-none, passes-last, passes-more}
 
 -- ---- what can be decided

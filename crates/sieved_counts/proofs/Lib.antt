@@ -1,4 +1,4 @@
-mod SumLemmas
 mod GoneLemmas
 mod LevelLemmas
 mod LawLemmas
+mod DealtLemmas

@@ -8,7 +8,7 @@ use Rattle.candidate_graph.specs.Paths.{Reaches, Accepts}
 use Rattle.prefix_sieve.specs.Hashes.{hash_of}
 use Rattle.prefix_sieve.specs.Sieves.{HasCandidate, PassesAll}
 use Rattle.prefix_counts.specs.Prefixes.{Prefixes}
-use Rattle.sieved_counts.specs.Sums.{sum_of}
+use Rattle.prefix_counts.specs.Sums.{sum_of}
 
 -- ---- one sequence
 

@@ -7,7 +7,7 @@ use Rattle.prefix_sieve.specs.Hashes.{start, hash_of}
 use Rattle.prefix_sieve.specs.Sieves.{lets_pass, PassesAll}
 use Rattle.prefix_counts.specs.Prefixes.{Prefixes}
 use Rattle.sieved_counts.specs.declared.fronts.Front.{Front}
-use Rattle.sieved_counts.specs.Sums.{sum_of}
+use Rattle.prefix_counts.specs.Sums.{sum_of}
 
 -- ---- fronts
 
@@ -55,15 +55,6 @@ abbrev pub IsBehind : Option (List Bool) → List Node → List (List ℕ) → L
 IsBehind level nodes lists here longer edge =
     (front : Front) × (list : List ℕ) × Contains here front × IsFrontOf lists list front
     × HasEdge nodes front.node edge.rank edge × IsLonger level list longer edge
-
--- the number is that of the list, which had the weight added if it ends so, and no other had
-pub record IsTaken (list : List ℕ) (ends : Bool) (weight place : ℕ) (before after : Prefixes) : Type 0 where
-  pub number : slice_get after.lists place ≡ Some list
-  pub kept : (more : List (List ℕ)) × (after.lists ≡ before.lists ++ more)
-      × ((other : List ℕ) → Contains more other → other ≡ list)
-  pub counted : IsTrue ends → sum_of after list ≡ sum_of before list + weight
-  pub others : (other : List ℕ) → (other ≡ list → IsTrue ends → ⊥)
-      → sum_of after other ≡ sum_of before other
 
 -- The walk went on to these lists, by these last edges: their fronts stand behind the old ones, those that
 -- can end with the edge had the weight added, and no other list had.

@@ -1,5 +1,4 @@
 -- the words of the promise
-pub mod Sums
 pub mod Counted
 -- what the proofs keep
 pub mod Fronts

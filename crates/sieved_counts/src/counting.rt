@@ -1,6 +1,6 @@
 ghost use Rattle.std.specs.Prelude.{◌≡◌, ℕ, ◌+◌, ◌^◌, ◌<◌, List, length, OnOk};
 ghost use Rattle.candidate_graph.specs.Graphs.{Grows};
-ghost use Rattle.sieved_counts.specs.Sums.{sum_of};
+ghost use Rattle.prefix_counts.specs.Sums.{sum_of};
 ghost use Rattle.sieved_counts.specs.Counted.{HasCounted};
 
 use super::fronts::{Front, go_down};

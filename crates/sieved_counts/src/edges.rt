@@ -1,8 +1,8 @@
 //! What a walk adds to the sums.
 
 ghost use Rattle.std.specs.Prelude.{◌≡◌, ℕ, ◌+◌, ◌^◌, ◌<◌, [], ◌∷◌, ◌++◌, List, Some, length, slice_get, AllPairs, Contains, IfOk, OnOk};
-ghost use Rattle.sieved_counts.specs.Sums.{sum_of};
-ghost use Rattle.sieved_counts.specs.Fronts.{IsFrontOf, IsLonger, IsTaken, HasGone};
+ghost use Rattle.prefix_counts.specs.Sums.{sum_of, IsTaken};
+ghost use Rattle.sieved_counts.specs.Fronts.{IsFrontOf, IsLonger, HasGone};
 
 use super::fronts::Front;
 use candidate_graph::Edge;

@@ -2,7 +2,7 @@
 
 ghost use Rattle.std.specs.Prelude.{◌≡◌, ℕ, ◌+◌, ◌^◌, ◌<◌, [], ◌∷◌, ◌++◌, List, Some, length, slice_get, OnOk};
 ghost use Rattle.candidate_graph.specs.Graphs.{Grows};
-ghost use Rattle.sieved_counts.specs.Sums.{sum_of};
+ghost use Rattle.prefix_counts.specs.Sums.{sum_of};
 ghost use Rattle.sieved_counts.specs.Counted.{HasCounted};
 ghost use Rattle.sieved_counts.specs.Fronts.{root_front, IsFrontOf, AreFrontsAt, HasGoneBehind, HasGoneOn};
 

@@ -8,9 +8,9 @@ ghost use Rattle.mine_model.specs.Ranks.{AreRanked};
 ghost use Rattle.mine_model.specs.Support.{Sequence, Counts};
 ghost use Rattle.candidate_graph.specs.Graphs.{Node};
 ghost use Rattle.prefix_sieve.specs.Hashes.{hash_of};
-ghost use Rattle.prefix_sieve.specs.Sieves.{HasCandidate, AreLevels};
+ghost use Rattle.prefix_sieve.specs.Sieves.{HasCandidate, AreDealt, AreLevels};
 ghost use Rattle.prefix_counts.specs.Prefixes.{Prefixes, no_prefixes, ArePrefixes};
-ghost use Rattle.sieved_counts.specs.Sums.{sum_of};
+ghost use Rattle.prefix_counts.specs.Sums.{sum_of, AreJoined};
 ghost use Rattle.sieved_counts.specs.Counted.{HasCounted, LeadsToCandidates, AreShort, AreCounted};
 
 use prefix_sieve::each_prefix_of_a_frequent_pattern_passes;
@@ -39,6 +39,16 @@ pub fn sums_are_counted_or_none()
         (sequences : List (Sequence Item)) (prefixes : Prefixes)
         → AreCounted d order levels sequences prefixes → (list : List ℕ)
         → (sum_of prefixes list ≡ 0) ⊎ Counts (HasCandidate d order list) sequences (sum_of prefixes list) }
+{}
+
+/// Where sequences were dealt to two workers, who may take them in any order, and what both counted is
+/// joined, all are counted.
+pub fn joined_shares_are_counted()
+    ensures { (d : Data Item) (order : List Item) (levels : List (List Bool))
+        (all some others : List (Sequence Item)) (mine theirs joined : Prefixes)
+        → AreDealt all some others → AreCounted d order levels some mine
+        → AreCounted d order levels others theirs → AreJoined mine theirs joined
+        → AreCounted d order levels all joined }
 {}
 
 /// Where all sequences were counted behind a sieve in which nothing was lost, each pattern whose support

@@ -9,6 +9,6 @@ mod laws;
 
 pub use counting::{Room, count};
 pub use laws::{
-    frequent_patterns_are_counted, nothing_is_counted_of_no_sequences,
+    frequent_patterns_are_counted, joined_shares_are_counted, nothing_is_counted_of_no_sequences,
     one_more_sequence_is_counted, sums_are_counted_or_none,
 };

@@ -1,7 +1,7 @@
 use Rattle.std.proofs.Common.{◌≡◌, ℕ, ◌+◌, ◌^◌, ◌<◌, ◌++◌, ◌∷◌, List, [], inl, inr, Some, get_or, refl, arith, slice_get}
 use Rattle.std.proofs.lemmas.Option.{slice_get-get_or, slice_get_within}
-use Rattle.sieved_counts.specs.Sums.{sum_of}
-use Rattle.sieved_counts.proofs.SumLemmas.{not-first, taken-value, taken}
+use Rattle.prefix_counts.specs.Sums.{sum_of}
+use Rattle.prefix_counts.proofs.SumLemmas.{not-first, taken-value, taken}
 use Rattle.sieved_counts.proofs.edges.take.Goals as goal
 
 pub add-requires-clause-some : goal.add-requires-clause-some

@@ -5,7 +5,7 @@ use Rattle.std.specs.List.{slice_get}
 use Rattle.candidate_graph.specs.Graphs.{Node}
 use Rattle.prefix_sieve.proofs.PathLemmas.{grows-same, grows-both}
 use Rattle.sieved_counts.specs.declared.fronts.Front.{Front}
-use Rattle.sieved_counts.specs.Sums.{sum_of}
+use Rattle.prefix_counts.specs.Sums.{sum_of}
 use Rattle.sieved_counts.specs.Counted.{HasCounted}
 use Rattle.sieved_counts.specs.Fronts.{AreFrontsAt, HasGoneOn}
 use Rattle.sieved_counts.proofs.LevelLemmas.{counted-first, fronts-first, fronts-next, counted-next, counted-early}

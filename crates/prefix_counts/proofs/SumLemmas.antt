@@ -9,15 +9,14 @@ use Rattle.mine_model.proofs.ListLemmas.{Contains-cases, Contains-none}
 use Rattle.mine_model.proofs.ElementLemmas.{get_set_same, decides}
 use Rattle.prefix_counts.specs.Prefixes.{Prefixes, ArePrefixes}
 use Rattle.pattern_counts.specs.Tally.{sum_in}
-use Rattle.sieved_counts.specs.Sums.{sum_of}
-use Rattle.sieved_counts.specs.Fronts.{IsTaken}
+use Rattle.prefix_counts.specs.Sums.{sum_of, IsTaken}
 
 -- ---- beside a list
 
-test-same : (xs ys : List ℕ) → xs ≡ ys → pointwise nat_eq xs ys ≡ true
+pub test-same : (xs ys : List ℕ) → xs ≡ ys → pointwise nat_eq xs ys ≡ true
 test-same xs ys is = (decides xs ys).1 is
 
-test-apart : (xs ys : List ℕ) → (xs ≡ ys → ⊥) → pointwise nat_eq xs ys ≡ false
+pub test-apart : (xs ys : List ℕ) → (xs ≡ ys → ⊥) → pointwise nat_eq xs ys ≡ false
 test-apart xs ys apart =
     elim (pointwise nat_eq xs ys) as (λ b. (pointwise nat_eq xs ys ≡ b) → b ≡ false) [
       | true ↦ λ e. absurd (apart ((decides xs ys).0 e))
@@ -37,6 +36,17 @@ sum-new (first ∷ lists) [] new list long = absurd (omega (arith, long))
 sum-new (first ∷ lists) (sum ∷ sums) new list long =
     ap (λ (n : ℕ). cond (pointwise nat_eq first list) sum n) (sum-new lists sums new list (omega (arith, long)))
 
+-- of lists that are different the first is no later one, and the others are different
+pub distinct-first : (first : List ℕ) (lists : List (List ℕ)) (k : ℕ) (list : List ℕ) → AreDistinct (first ∷ lists) → slice_get lists k ≡ Some list → first ≡ list → ⊥
+distinct-first first lists k list distinct at same =
+    let inside : k < length lists = slice_get_within lists k list at in
+    let one : 0 ≡ suc k = distinct 0 (suc k) (omega arith) (omega (arith, inside)) (same ∙ sym (get_or_from_slice_get lists k list [] at)) in
+    omega (arith, one)
+
+pub distinct-rest : (first : List ℕ) (lists : List (List ℕ)) → AreDistinct (first ∷ lists) → AreDistinct lists
+distinct-rest first lists distinct = λ i j i_in j_in same.
+    (let next : suc i ≡ suc j = distinct (suc i) (suc j) (omega (arith, i_in)) (omega (arith, j_in)) same in omega (arith, next))
+
 sum-here : (lists : List (List ℕ)) (sums : List ℕ) (k : ℕ) (list : List ℕ) (sum : ℕ) → AreDistinct lists → slice_get lists k ≡ Some list → slice_get sums k ≡ Some sum
     → sum_in lists sums list ≡ sum
 sum-here [] sums k list sum distinct at is = absurd (none-some list at)
@@ -44,12 +54,8 @@ sum-here (first ∷ lists) [] k list sum distinct at is = absurd (none-some sum 
 sum-here (first ∷ lists) (s ∷ sums) zero list sum distinct at is =
     ap (λ (b : Bool). cond b s (sum_in lists sums list)) (test-same first list (same_Some first list at)) ∙ same_Some s sum is
 sum-here (first ∷ lists) (s ∷ sums) (suc k) list sum distinct at is =
-    let inside : k < length lists = slice_get_within lists k list at in
-    let other : first ≡ list → ⊥ = λ same.
-    (let one : 0 ≡ suc k = distinct 0 (suc k) (omega arith) (omega (arith, inside)) (same ∙ sym (get_or_from_slice_get lists k list [] at)) in omega (arith, one)) in
-    let rest : AreDistinct lists = λ i j i_in j_in same.
-    (let next : suc i ≡ suc j = distinct (suc i) (suc j) (omega (arith, i_in)) (omega (arith, j_in)) same in omega (arith, next)) in
-    ap (λ (b : Bool). cond b s (sum_in lists sums list)) (test-apart first list other) ∙ sum-here lists sums k list sum rest at is
+    ap (λ (b : Bool). cond b s (sum_in lists sums list)) (test-apart first list (distinct-first first lists k list distinct at))
+    ∙ sum-here lists sums k list sum (distinct-rest first lists distinct) at is
 
 sum-other : (lists : List (List ℕ)) (sums : List ℕ) (k : ℕ) (here list : List ℕ) (sum : ℕ) → slice_get lists k ≡ Some here → (list ≡ here → ⊥)
     → sum_in lists (set sums k sum) list ≡ sum_in lists sums list

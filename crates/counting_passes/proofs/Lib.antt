@@ -1,0 +1,4 @@
+mod PathLemmas
+mod SumLemmas
+mod PartLemmas
+mod WorkerLemmas
