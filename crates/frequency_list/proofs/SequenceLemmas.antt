@@ -42,13 +42,6 @@ AddsWeight-counts Has sequences s old new (inr (not_has, is)) counted =
 abbrev pub AreCounted : List (Link Item) → List (Sequence Item) → ℕ → (ℕ → ℕ) → Type 0
 AreCounted links sequences size sum = (w : Item) → w.0 < size → HasFrequency links sequences w (sum w.0)
 
-pub AreCounted-none : (links : List (Link Item)) (sequences : List (Sequence Item)) (from size : ℕ) (sum : ℕ → ℕ) → ((k : ℕ) → sum k ≡ 0)
-    → AreCounted links (slice_range sequences from from) size sum
-AreCounted-none links sequences from size sum zero w within =
-    let nothing : from - from ≡ 0 = omega arith in
-    let none : slice_range sequences from from ≡ [] = ap (λ n. take n (drop from sequences)) nothing in
-    subst (λ part. HasFrequency links part w (sum w.0)) (sym none) (zero w.0)
-
 pub AreCounted-more : (links : List (Link Item)) (sequences : List (Sequence Item)) (from i size : ℕ) (old new : ℕ → ℕ) (items : List Item) (weight : ℕ)
     → from ≤ i → i < length sequences → items ≡ (sequence_at sequences i).items → weight ≡ (sequence_at sequences i).weight
     → ((w : Item) → AddsWeight (HoldsUnder links w items) weight (old w.0) (new w.0))

@@ -1,9 +1,9 @@
 -- Cells, and what they say of the items of a sequence.
-use Rattle.std.proofs.Common.{◌≡◌, ℕ, ◌+◌, ◌<◌, ◌≤◌, ◌⊎◌, ◌↔◌, inl, inr, true, cond, eqb, List, [], ◌∷◌, length, get_or, set, take, replicate, sym, ap, ◌∙◌, subst, arith, get_or-set_same, get_or-set_other}
+use Rattle.std.proofs.Common.{◌≡◌, ℕ, ◌+◌, ◌<◌, ◌≤◌, ◌⊎◌, ◌↔◌, inl, inr, true, cond, eqb, List, [], ◌∷◌, length, get_or, set, take, sym, ap, ◌∙◌, subst, arith, get_or-set_same, get_or-set_other}
 use Rattle.std.specs.List.{slice_index, Contains}
-use Rattle.std.proofs.lemmas.List.{take_more, get_or_past, get_or-replicate, length-replicate}
+use Rattle.std.proofs.lemmas.List.{take_more, get_or_past}
 use Rattle.std.proofs.lemmas.List.Elements.{Contains-append_cases, Contains-append_left, Contains-append_right}
-use Rattle.std.proofs.lemmas.Bool.{cases_eq, cases_lt, eq-eqb, eqb-true, cases_Bool}
+use Rattle.std.proofs.lemmas.Bool.{cases_eq, eq-eqb, eqb-true, cases_Bool}
 use Rattle.mine_model.specs.declared.item.Item.{Item}
 use Rattle.mine_model.specs.Hierarchy.{Link, IsAncestor}
 use Rattle.mine_model.specs.Support.{HoldsUnder}
@@ -190,20 +190,3 @@ sum-past cells apart size k whole whole' past =
     let rest : slice_index apart k ≡ 0 = get_or_past apart k 0 (omega (arith, whole', past)) in
     let own_sum : (cell_at cells k).sum ≡ 0 = ap (λ (c : Cell). c.sum) own in
     omega (arith, own_sum, rest)
-
--- at first all are stamped with 0, and have the sum 0
-get_or-same : {X : Type 0} (size k : ℕ) (x : X) → get_or (replicate size x) k x ≡ x
-get_or-same size k x = elim (cases_lt k size) [
-  | inl below ↦ get_or-replicate size k x x below
-  | inr past ↦ get_or_past (replicate size x) k x (omega (arith, length-replicate size x, past))
-]
-
-module _ (cells : List Cell) (size : ℕ) (are : cells ≡ replicate size (record { stamp = 0; sum = 0 })) where
-  pub cell-first : (k : ℕ) → cell_at cells k ≡ record { stamp = 0; sum = 0 }
-  cell-first k = ap (λ cells. cell_at cells k) are ∙ get_or-same size k (record { stamp = 0; sum = 0 })
-
-  pub sum-first : (apart : List ℕ) → apart ≡ replicate size 0 → (k : ℕ) → sum_at cells apart k ≡ 0
-  sum-first apart zeros k =
-      let own : (cell_at cells k).sum ≡ 0 = ap (λ (c : Cell). c.sum) (cell-first k) in
-      let rest : slice_index apart k ≡ 0 = ap (λ xs. slice_index xs k) zeros ∙ get_or-same size k 0 in
-      omega (arith, own, rest)

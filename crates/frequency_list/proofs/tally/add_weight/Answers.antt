@@ -7,8 +7,8 @@ use Rattle.frequency_list.proofs.TallyLemmas.{AreStampedBy, owned-new, owned-mor
 use Rattle.frequency_list.proofs.tally.add_weight.Goals as goal
 use Rattle.frequency_list.proofs.tally.add_weight.Goals.{then-cells-number, else-cells-number}
 
-pub add-requires-clause-room : goal.add-requires-clause-room
-add-requires-clause-room c =
+pub add-requires : goal.add-requires
+add-requires c =
     let item : Item = get_or c.args.items.now c.loop-w.w-index (item_at 0) in
     let new : owned c.args.stamp c.args.weight c.loop-w.cells c.loop-w.apart item.0 ≡ sum_at c.loop-w.cells c.loop-w.apart item.0 + c.args.weight =
     owned-new c.args.stamp c.args.weight c.loop-w.cells c.loop-w.apart item.0 c.if-cells-number.true in

@@ -1,6 +1,5 @@
-use Rattle.std.proofs.Common.{◌≡◌, ℕ, ◌+◌, ◌*◌, ◌^◌, ◌≤◌, ◌<◌, ◌++◌, List, length, take, drop, replicate, sym, ap, ◌∙◌, subst, arith, rules}
+use Rattle.std.proofs.Common.{◌≡◌, ℕ, ◌+◌, ◌*◌, ◌^◌, ◌≤◌, ◌<◌, ◌++◌, List, length, take, drop, sym, ap, ◌∙◌, subst, arith}
 use Rattle.std.specs.List.{All, AllByRecursion, slice_index, slice_range}
-use Rattle.std.proofs.lemmas.List.{length-replicate}
 use Rattle.std.proofs.lemmas.List.Elements.{All-from_recursion}
 use Rattle.mine_model.specs.declared.item.Item.{Item}
 use Rattle.mine_model.specs.Limits.{most_sequences, most_weight}
@@ -10,8 +9,8 @@ use Rattle.mine_model.specs.Ranks.{AreFrequencies}
 use Rattle.mine_model.proofs.ListLemmas.{written_back}
 use Rattle.frequency_list.specs.declared.tally.Cell.{Cell}
 use Rattle.frequency_list.specs.Tallies.{cell_at, sum_at, AddsWeight}
-use Rattle.frequency_list.proofs.SequenceLemmas.{at_number, AreCounted, AreCounted-none, AreCounted-more, AreCounted-room, part-limits, part-few}
-use Rattle.frequency_list.proofs.TallyLemmas.{sum-past, cell-first, sum-first}
+use Rattle.frequency_list.proofs.SequenceLemmas.{at_number, AreCounted-more, AreCounted-room, part-limits, part-few}
+use Rattle.frequency_list.proofs.TallyLemmas.{sum-past}
 use Rattle.frequency_list.proofs.tally.tally.Goals as goal
 
 pub add_sequence-requires-clause-items : goal.add_sequence-requires-clause-items
@@ -59,3 +58,17 @@ loop-number-preserved c =
       whole_cells = whole_cells ∙ c.loop-number.invariant.whole_cells;
       whole_apart = whole_apart ∙ c.loop-number.invariant.whole_apart;
     })
+
+pub join-requires-clause-room : goal.join-requires-clause-room
+join-requires-clause-room c k =
+    let part : List (Sequence Item) = slice_range c.args.db.now c.args.from c.loop-number.number in
+    let few : length c.args.db.now ≤ most_sequences = omega (arith, c.sequences-sequences.ensures.count, c.sequences-sequences.ensures.most) in
+    let most : sum_at c.loop-number.cells.items c.loop-number.apart.items k ≤ most_sequences * most_weight =
+    AreCounted-room c.args.hierarchy.now.links part c.args.hierarchy.now.items (sum_at c.loop-number.cells.items c.loop-number.apart.items)
+    (part-limits c.args.db.now c.args.from c.loop-number.number c.sequences-sequences.ensures.limits)
+    (part-few c.args.db.now c.args.from c.loop-number.number few)
+    (λ n past. sum-past c.loop-number.cells.items c.loop-number.apart.items c.args.hierarchy.now.items n c.loop-number.invariant.whole_cells c.loop-number.invariant.whole_apart past)
+    c.loop-number.invariant.counted k in
+    let same : sum_at c.as_slice.result.now c.as_mut_slice-2.result.now k ≡ sum_at c.loop-number.cells.items c.loop-number.apart.items k =
+    (λ i. sum_at (c.as_slice.ensures.value i) (c.as_mut_slice-2.ensures.value i) k) in
+    omega (arith, same, most)
