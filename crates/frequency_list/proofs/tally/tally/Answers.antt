@@ -47,9 +47,9 @@ loop-number-preserved c =
     let old : (k : ℕ) → sum_at c.as_mut_slice.result.now c.as_mut_slice-in-loop-number.result.now k ≡ sum_at c.loop-number.cells.items c.loop-number.apart.items k =
     λ k. (λ i. sum_at (c.as_mut_slice.ensures.value i) (c.as_mut_slice-in-loop-number.ensures.value i) k) in
     let added : (w : Item) → AddsWeight (HoldsUnder c.args.hierarchy.now.links w c.sequence.result.now) c.weight.result
-        (sum_at c.loop-number.cells.items c.loop-number.apart.items w.0) (sum_at c.add_sequence.new.cells c.add_sequence.new.apart w.0) =
+    (sum_at c.loop-number.cells.items c.loop-number.apart.items w.0) (sum_at c.add_sequence.new.cells c.add_sequence.new.apart w.0) =
     λ w. subst (λ n. AddsWeight (HoldsUnder c.args.hierarchy.now.links w c.sequence.result.now) c.weight.result n (sum_at c.add_sequence.new.cells c.add_sequence.new.apart w.0))
-        (old w.0) (c.add_sequence.ensures.added w) in
+    (old w.0) (c.add_sequence.ensures.added w) in
     rw (cells, apart) (record {
       counted = AreCounted-more c.args.hierarchy.now.links c.args.db.now c.args.from c.loop-number.number c.args.hierarchy.now.items
           (sum_at c.loop-number.cells.items c.loop-number.apart.items) (sum_at c.add_sequence.new.cells c.add_sequence.new.apart)
