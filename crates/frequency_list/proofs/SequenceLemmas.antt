@@ -38,20 +38,21 @@ AddsWeight-counts Has sequences s old new (inr (not_has, is)) counted =
     let e : new ≡ old + 0 = omega (arith, is) in
     rw e (Counts-append Has sequences (s ∷ []) old 0 counted (inr (not_has, refl)))
 
-pub AreFrequencies-more : (links : List (Link Item)) (sequences : List (Sequence Item)) (from i : ℕ) (old before new : List ℕ) (items : List Item) (weight : ℕ)
-    → from ≤ i → i < length sequences → length new ≡ length old → items ≡ (sequence_at sequences i).items → weight ≡ (sequence_at sequences i).weight → before ≡ old
-    → ((w : Item) → AddsWeight (HoldsUnder links w items) weight (slice_index before w.0) (slice_index new w.0))
-    → AreFrequencies links (slice_range sequences from i) old → AreFrequencies links (slice_range sequences from (i + 1)) new
-AreFrequencies-more links sequences from i old before new items weight rises below whole same_items same_weight same_sums adds are w within =
-    let added : AddsWeight (HoldsUnder links w items) weight (slice_index before w.0) (slice_index new w.0) = adds w in
-    let at_old : AddsWeight (HoldsUnder links w items) weight (slice_index old w.0) (slice_index new w.0) =
-    subst (λ sums. AddsWeight (HoldsUnder links w items) weight (slice_index sums w.0) (slice_index new w.0)) same_sums added in
-    let weighed : AddsWeight (HoldsUnder links w items) (sequence_at sequences i).weight (slice_index old w.0) (slice_index new w.0) =
-    subst (λ n. AddsWeight (HoldsUnder links w items) n (slice_index old w.0) (slice_index new w.0)) same_weight at_old in
-    let held : AddsWeight (HoldsUnder links w (sequence_at sequences i).items) (sequence_at sequences i).weight (slice_index old w.0) (slice_index new w.0) =
-    subst (λ xs. AddsWeight (HoldsUnder links w xs) (sequence_at sequences i).weight (slice_index old w.0) (slice_index new w.0)) same_items weighed in
-    let counted = AddsWeight-counts (HoldsUnder links w) (slice_range sequences from i) (sequence_at sequences i) (slice_index old w.0) (slice_index new w.0) held (are w (omega (arith, within, whole))) in
-    subst (λ part. HasFrequency links part w (slice_index new w.0)) (sym (slice_range-more sequences from i rises below)) counted
+-- the sums of so many numbers are the frequencies of the items with them
+abbrev pub AreCounted : List (Link Item) → List (Sequence Item) → ℕ → (ℕ → ℕ) → Type 0
+AreCounted links sequences size sum = (w : Item) → w.0 < size → HasFrequency links sequences w (sum w.0)
+
+pub AreCounted-more : (links : List (Link Item)) (sequences : List (Sequence Item)) (from i size : ℕ) (old new : ℕ → ℕ) (items : List Item) (weight : ℕ)
+    → from ≤ i → i < length sequences → items ≡ (sequence_at sequences i).items → weight ≡ (sequence_at sequences i).weight
+    → ((w : Item) → AddsWeight (HoldsUnder links w items) weight (old w.0) (new w.0))
+    → AreCounted links (slice_range sequences from i) size old → AreCounted links (slice_range sequences from (i + 1)) size new
+AreCounted-more links sequences from i size old new items weight rises below same_items same_weight adds are w within =
+    let weighed : AddsWeight (HoldsUnder links w items) (sequence_at sequences i).weight (old w.0) (new w.0) =
+    subst (λ n. AddsWeight (HoldsUnder links w items) n (old w.0) (new w.0)) same_weight (adds w) in
+    let held : AddsWeight (HoldsUnder links w (sequence_at sequences i).items) (sequence_at sequences i).weight (old w.0) (new w.0) =
+    subst (λ xs. AddsWeight (HoldsUnder links w xs) (sequence_at sequences i).weight (old w.0) (new w.0)) same_items weighed in
+    let counted = AddsWeight-counts (HoldsUnder links w) (slice_range sequences from i) (sequence_at sequences i) (old w.0) (new w.0) held (are w within) in
+    subst (λ part. HasFrequency links part w (new w.0)) (sym (slice_range-more sequences from i rises below)) counted
 
 -- no frequency wraps
 pub HasFrequency-most : (links : List (Link Item)) (sequences : List (Sequence Item)) (w : Item) (n : ℕ) → All IsWithinLimits sequences → length sequences ≤ most_sequences
@@ -60,11 +61,12 @@ HasFrequency-most links sequences w n limits few frequency =
     let most : n ≤ length sequences * most_weight = Counts-most (HoldsUnder links w) most_weight sequences n (λ k d below. (limits k d below).most) frequency in
     omega (arith, most, few)
 
-pub AreFrequencies-room : (links : List (Link Item)) (sequences : List (Sequence Item)) (sums : List ℕ) → All IsWithinLimits sequences → length sequences ≤ most_sequences
-    → AreFrequencies links sequences sums → (k : ℕ) → slice_index sums k ≤ most_sequences * most_weight
-AreFrequencies-room links sequences sums limits few are k = elim (cases_lt k (length sums)) [
-  | inl below ↦ HasFrequency-most links sequences (item_at k) (slice_index sums k) limits few (are (item_at k) below)
-  | inr past ↦ let zero : slice_index sums k ≡ 0 = get_or_past sums k 0 past in omega (arith, zero)
+pub AreCounted-room : (links : List (Link Item)) (sequences : List (Sequence Item)) (size : ℕ) (sum : ℕ → ℕ) → All IsWithinLimits sequences
+    → length sequences ≤ most_sequences → ((k : ℕ) → size ≤ k → sum k ≡ 0)
+    → AreCounted links sequences size sum → (k : ℕ) → sum k ≤ most_sequences * most_weight
+AreCounted-room links sequences size sum limits few past are k = elim (cases_lt k size) [
+  | inl below ↦ HasFrequency-most links sequences (item_at k) (sum k) limits few (are (item_at k) below)
+  | inr behind ↦ let zero : sum k ≡ 0 = past k behind in omega (arith, zero)
 ]
 
 pub part-limits : (sequences : List (Sequence Item)) (from to : ℕ) → All IsWithinLimits sequences → All IsWithinLimits (slice_range sequences from to)

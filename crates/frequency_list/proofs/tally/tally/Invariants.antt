@@ -1,12 +1,13 @@
 use Rattle.std.proofs.Common.{◌≡◌, ℕ, ◌≤◌, length}
-use Rattle.std.specs.List.{slice_index, slice_range}
-use Rattle.mine_model.specs.Ranks.{AreFrequencies}
+use Rattle.std.specs.List.{slice_range}
+use Rattle.frequency_list.specs.Tallies.{cell_at, sum_at}
+use Rattle.frequency_list.proofs.SequenceLemmas.{AreCounted}
 use Rattle.frequency_list.proofs.tally.tally.Given as goal
 
 abbrev pub invariant-loop-number : goal.invariant-loop-number
 invariant-loop-number l = record {
-  sums : AreFrequencies l.hierarchy.links (slice_range l.db l.from l.number) l.sums.items;
-  stamped : (k : ℕ) → slice_index l.stamps.items k ≤ l.number;
-  whole_sums : length l.sums.items ≡ l.hierarchy.items;
-  whole_stamps : length l.stamps.items ≡ l.hierarchy.items;
+  counted : AreCounted l.hierarchy.links (slice_range l.db l.from l.number) l.hierarchy.items (sum_at l.cells.items l.apart.items);
+  stamped : (k : ℕ) → (cell_at l.cells.items k).stamp ≤ l.number;
+  whole_cells : length l.cells.items ≡ l.hierarchy.items;
+  whole_apart : length l.apart.items ≡ l.hierarchy.items;
 }
