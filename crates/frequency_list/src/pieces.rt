@@ -11,7 +11,7 @@ use rayon::prelude::*;
 use std::alloc::Global;
 use std::thread::Threads;
 
-/// The most pieces: each takes a sum and a stamp for each item.
+/// The most pieces: each takes a cell and a sum kept apart for each item.
 const MOST_PIECES: u32 = 16;
 
 /// So many sequences are a block. The first one stands for all of it where pieces are cut.
