@@ -11,7 +11,7 @@ ghost use Rattle.candidate_graph.specs.Graphs.{Standpoint, AreEdges};
 ghost use Rattle.candidate_graph.specs.Kept.{point_in, AreMade};
 
 use super::edge::Edge;
-use super::finding::{file, find, walk};
+use super::finding::{file, walk};
 use super::nodes::Nodes;
 use super::rooms::Rooms;
 use mine_model::NoMemory;
@@ -52,16 +52,18 @@ pub(crate) fn expand<const W: usize, T: Outputs>(
     }
     let alloc = *edges.allocator();
     walk(memo, places, stands, visits)?;
-    let found = find(alloc, table, aim, visits.as_slice(), &mut rooms.sums)?;
+    rooms.sums.clear();
+    rooms.sums.add(table, aim, &[], visits.as_slice())?;
+    rooms.sums.reaching_into(&mut rooms.found, 1, 1)?;
     let run = file(
         alloc,
         table,
         aim,
         visits.as_slice(),
-        found.as_slice(),
+        rooms.found.as_slice(),
         &mut rooms.files,
     )?;
-    push_edges(aim, found.as_slice(), &run.stands(), nodes, edges)
+    push_edges(aim, rooms.found.as_slice(), &run.stands(), nodes, edges)
 }
 
 /// Appends an edge for each of the ranks, whose stands are pieces of the run.
@@ -84,7 +86,7 @@ fn push_edges(
         (length edges.old.items) edges.new.items) }
 {
     for next in found {
-        let number = nodes.number(sees(aim, next.rank), &stands_of(run, *next))?;
+        let number = if next.first < next.last { nodes.number(sees(aim, next.rank), &stands_of(run, *next))? } else { 4_294_967_295 };
         edges.push(Edge {
             rank: next.rank,
             ends: next.support >= 1,

@@ -72,6 +72,7 @@ impl Graph {
             rooms: Rooms {
                 sums: Sums::new(alloc, ranks)?,
                 files: Files::new(alloc, ranks)?,
+                found: Vec::new(alloc),
             },
             stands: Vec::new(alloc),
         })

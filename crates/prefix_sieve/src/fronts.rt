@@ -97,6 +97,9 @@ fn add_front(
         (front_behind front edge) next.old.items next.new.items) }
 {
     let hash = mixed(front.hash, edge.rank);
+    if edge.next == 4_294_967_295 {
+        return Ok(());
+    }
     if !sieve.passes(before, hash) {
         return Ok(());
     }

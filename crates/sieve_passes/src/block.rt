@@ -15,7 +15,7 @@ use prefix_sieve::{Buckets, Room, Sieve, a_pass_raises_what_it_has_to, one_more_
 use std::alloc::Global;
 
 // How many sequences a block has; the last one may have fewer.
-const BLOCK: u32 = 256;
+const BLOCK: u32 = 8192;
 
 /// A worker's room for a pass, used again for each block.
 #[derive(Drop)]

@@ -30,6 +30,9 @@ pub(crate) fn count_edges(
         next.old.items next.new.items) }
 {
     for edge in edges {
+        counts.touch(front.number, edge.rank);
+    }
+    for edge in edges {
         count_edge(*edge, front, sieve, weight, before, next, counts)?;
     }
     Ok(())
@@ -58,6 +61,9 @@ fn count_edge(
         return Ok(());
     }
     let number = take(front.number, edge, weight, counts)?;
+    if edge.next == 4_294_967_295 {
+        return Ok(());
+    }
     next.push(Front {
         node: edge.next,
         number,

@@ -70,3 +70,23 @@ fn lay_out(found: &mut Vec<NextRank>) -> Result<(), NoMemory>
     }
     Ok(())
 }
+
+pub(crate) fn reaching_into(
+    sums: &[Sum],
+    touched: &[u32],
+    found: &mut Vec<NextRank>,
+    least: u64,
+    longer: u64,
+) -> Result<(), NoMemory>
+{
+    found.clear();
+    for rank in touched {
+        let sum = sums[*rank as usize];
+        if sum.weight >= least {
+            found.push(told(*rank, sum, longer))?;
+        }
+    }
+    found.sort_unstable_by_key(|next| next.rank);
+    lay_out(found)?;
+    Ok(())
+}

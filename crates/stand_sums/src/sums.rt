@@ -87,6 +87,12 @@ impl Sums {
         )
     }
 
+    /// Proto.
+    pub fn reaching_into(&self, found: &mut Vec<NextRank>, least: u64, longer: u64) -> Result<(), NoMemory>
+    {
+        super::reaching::reaching_into(self.sums.as_slice(), self.touched.as_slice(), found, least, longer)
+    }
+
     /// The ranks whose weight reaches the least. Those behind which what more follows weighs enough, too,
     /// have places for their stands in one run.
     pub fn reaching(
