@@ -15,7 +15,7 @@ import time
 
 DESQ = os.environ["DESQ"]
 WORK = os.environ["WORK"]
-LINE = re.compile(rb"\rdesq: (\d+) (nodes grown|blocks counted|parts counted)\x1b\[K")
+LINE = re.compile(rb"\rdesq: (\d+) (nodes grown|blocks gone over|parts counted)\x1b\[K")
 
 held = rows = 0
 
@@ -132,7 +132,7 @@ def check_engine(engine, what, least=0):
 
 
 def main():
-    check_engine("count", "blocks counted")
+    check_engine("count", "blocks gone over")
     check_engine("pivot", "nodes grown")
     check_engine("cand", "parts counted")
     # So long that on two processors, and on faster ones than now, it takes more than a second each time.

@@ -2,3 +2,5 @@
 pub mod Paths
 -- what the proofs keep
 pub mod Sums
+-- what the workers tell
+pub mod Shares

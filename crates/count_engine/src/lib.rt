@@ -1,9 +1,8 @@
-//! The count engine: workers count the candidates of blocks of sequences, and add the counts up in shards.
+//! The count engine: the candidates that pass a sieve of prefixes are counted, each worker's own first, and
+//! then together.
 #![tactic(auto)]
 
+mod depth;
 mod mining;
-mod starts;
-mod working;
 
 pub use mining::mine;
-pub use working::work;

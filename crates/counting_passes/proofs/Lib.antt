@@ -2,3 +2,4 @@ mod PathLemmas
 mod SumLemmas
 mod PartLemmas
 mod WorkerLemmas
+mod EmptyLemmas

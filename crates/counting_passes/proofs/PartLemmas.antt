@@ -1,4 +1,4 @@
--- A part of the job with the numbers of a block.
+-- A part of the job with these numbers.
 use Rattle.std.proofs.Common.{◌≡◌, ℕ, List, [], ◌∷◌, sym, ap, ◌∙◌, subst, Bool, slice_index}
 use Rattle.mine_model.specs.declared.item.Item.{Item}
 use Rattle.mine_model.specs.Database.{sequence_at}

@@ -1,8 +1,8 @@
 -- Sums, sequence after sequence and worker after worker.
-use Rattle.std.proofs.Common.{◌≡◌, ℕ, ◌+◌, ◌*◌, ◌≤◌, inl, inr, Bool, true, false, nat_eq, List, [], ◌∷◌, ◌++◌, length, min, drop, zero, suc, refl, sym, ap, ◌∙◌, subst, arith, length-append}
+use Rattle.std.proofs.Common.{◌≡◌, ℕ, ◌+◌, ◌*◌, ◌≤◌, inl, inr, Bool, nat_eq, List, [], ◌∷◌, ◌++◌, length, sym, ap, ◌∙◌, subst, arith, length-append}
 use Rattle.std.specs.Cmp.Lexicographic.{pointwise}
 use Rattle.std.proofs.lemmas.Bool.{cases_lt}
-use Rattle.std.proofs.lemmas.List.{append-nil, append_assoc, length-take}
+use Rattle.std.proofs.lemmas.List.{append-nil, append_assoc}
 use Rattle.mine_model.specs.declared.item.Item.{Item}
 use Rattle.mine_model.specs.Answer.{Data}
 use Rattle.mine_model.specs.Support.{Sequence}
@@ -13,8 +13,8 @@ use Rattle.prefix_counts.specs.Sums.{sum_of, AreJoined}
 use Rattle.prefix_counts.proofs.SumLemmas.{either-none}
 use Rattle.prefix_sieve.specs.Sieves.{AreDealt}
 use Rattle.sieved_counts.specs.Counted.{HasCounted, AreCounted}
-use Rattle.sieve_passes.specs.Sums.{block_size, block_count, sequences_in, taken_of, share_of}
-use Rattle.sieve_passes.proofs.ShareLemmas.{shares_to, dealt-shares, taken-with, taken-without}
+use Rattle.worker_shares.specs.Shares.{share_of}
+use Rattle.worker_shares.proofs.ShareLemmas.{shares_to, dealt-shares}
 use Rattle.counting_passes.specs.Counts.{AreSumsOf, CountsAll, GrowsUpTo}
 
 -- ---- one sequence
@@ -55,34 +55,6 @@ counts-both problem levels sequences more all first middle last is one other = �
 pub counts-same : (problem : Problem) (levels : List (List Bool)) (sequences others : List (Sequence Item)) (before after : Prefixes) → sequences ≡ others
     → CountsAll problem levels sequences before after → CountsAll problem levels others before after
 counts-same problem levels sequences others before after same counts = subst (λ (ss : List (Sequence Item)). CountsAll problem levels ss before after) same counts
-
--- ---- how many sequences a worker has
-
-taken-few : (takes : ℕ → Bool) (sequences : List (Sequence Item)) (count : ℕ) → length (taken_of takes sequences count) ≤ block_size * count
-taken-few takes sequences zero = omega arith
-taken-few takes sequences (suc block) =
-    let before = taken-few takes sequences block in
-    elim (takes block) as (λ b. takes block ≡ b → length (taken_of takes sequences (suc block)) ≤ block_size * suc block) [
-      | true ↦ λ is.
-          let whole : length (taken_of takes sequences (suc block)) ≡ length (taken_of takes sequences block) + length (sequences_in sequences block) =
-          ap (λ (ss : List (Sequence Item)). length ss) (taken-with takes sequences block is) ∙ length-append (taken_of takes sequences block) (sequences_in sequences block) in
-          let few = in-few sequences block in
-          omega (arith, before, whole, few)
-      | false ↦ λ is.
-          let whole : length (taken_of takes sequences (suc block)) ≡ length (taken_of takes sequences block) =
-          ap (λ (ss : List (Sequence Item)). length ss) (taken-without takes sequences block is) in
-          omega (arith, before, whole)
-    ] refl
-  where
-    in-few : (sequences : List (Sequence Item)) (block : ℕ) → length (sequences_in sequences block) ≤ block_size
-    in-few sequences block =
-        let long : length (sequences_in sequences block) ≡ min block_size (length (drop (block_size * block) sequences)) = length-take block_size (drop (block_size * block) sequences) in
-        omega (arith, long)
-
--- before any block a worker's sums have room for one block more
-pub share-few : (takes : ℕ → Bool) (sequences : List (Sequence Item)) (count : ℕ) → count ≤ block_count sequences
-    → length (taken_of takes sequences count) ≤ length sequences + 255
-share-few takes sequences count most = let few = taken-few takes sequences count in omega (arith, few, most)
 
 -- ---- worker after worker
 

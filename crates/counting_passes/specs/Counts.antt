@@ -7,7 +7,7 @@ use Rattle.mining_job.specs.Problems.{Problem, data_of}
 use Rattle.prefix_counts.specs.Prefixes.{Prefixes}
 use Rattle.prefix_counts.specs.Sums.{sum_of}
 use Rattle.sieved_counts.specs.Counted.{AreCounted}
-use Rattle.sieve_passes.specs.Sums.{share_of}
+use Rattle.worker_shares.specs.Shares.{share_of}
 
 -- the sums are those of these sequences, and none is more than as many sequences can weigh
 pub record AreSumsOf (problem : Problem) (levels : List (List Bool)) (sequences : List (Sequence Item))

@@ -1,15 +1,16 @@
 //! The counts of all workers together.
 
-ghost use Rattle.std.specs.Prelude.{◌≡◌, ◌≤◌, ◌<◌, Bool, List, ◌∷◌, IfOk, OnOk};
-ghost use Rattle.sieve_passes.specs.Sums.{share_of};
+ghost use Rattle.std.specs.Prelude.{ℕ, ◌≤◌, Bool, List, ◌∷◌, IfOk, OnOk};
+ghost use Rattle.worker_shares.specs.Shares.{share_of};
+ghost use Rattle.sieve_passes.specs.Shares.{AreShares, IsShareOf};
 ghost use Rattle.counting_passes.specs.Counts.{AreSumsOf, HaveAllCounted};
 
 use super::share::counted;
-use mine_model::NoMemory;
+use mine_model::{Gate, NoMemory};
 use mining_job::Job;
 use prefix_counts::PrefixCounts;
 use prefix_sieve::Sieve;
-use sieve_passes::set_numbers;
+use sieve_passes::Share;
 use sieved_counts::joined_shares_are_counted;
 use std::alloc::Global;
 use std::thread::Threads;
@@ -17,43 +18,48 @@ use worker_threads::done_by_each;
 
 /// The candidates of a job that pass the sieve, each with what its sequences weigh. Each worker has a thread
 /// of its own, where one can be made, and counts of its own, which are joined when all have ended.
-pub fn counts_of<R: Threads + Sync>(
+pub fn counts_of<'a, R: Threads + Sync, G: Gate>(
     rt: &R,
     alloc: Global,
     job: &Job,
     sieve: &Sieve,
     workers: u32,
+    shares: Vec<Share<'a>>,
+    gate: &G,
 ) -> Result<PrefixCounts, NoMemory>
-    requires { 1 ≤ workers }
+    requires workers { 1 ≤ workers }
+    requires shares { (buckets : ℕ) × AreShares job.now workers buckets shares.items }
     ensures { IfOk result (AreSumsOf job.now sieve.now job.now.sequences) }
 {
-    let shares = counted_by_all(rt, alloc, job, sieve, workers)?;
-    joined(job, workers, shares)
+    let counts = counted_by_all(rt, alloc, job, sieve, workers, shares, gate)?;
+    joined(job, workers, counts)
 }
 
 // What each worker counts, once all have ended.
-fn counted_by_all<R: Threads + Sync>(
+fn counted_by_all<'a, R: Threads + Sync, G: Gate>(
     rt: &R,
     alloc: Global,
     job: &Job,
     sieve: &Sieve,
     workers: u32,
+    shares: Vec<Share<'a>>,
+    gate: &G,
 ) -> Result<Vec<PrefixCounts>, NoMemory>
-    ensures { IfOk result (λ shares. HaveAllCounted job.now sieve.now workers shares.items) }
+    requires { (buckets : ℕ) × AreShares job.now workers buckets shares.items }
+    ensures { IfOk result (λ counts. HaveAllCounted job.now sieve.now workers counts.items) }
 {
-    let mut numbers: Vec<u32> = Vec::new(alloc);
-    set_numbers(&mut numbers, 0, workers)?;
-    let shares = done_by_each(
+    let counts = done_by_each(
         rt,
         alloc,
-        numbers,
-        &|worker: u32| -> Result<PrefixCounts, NoMemory>
-            requires { worker < workers }
-            ensures { IfOk result (AreSumsOf job.entry.now sieve.entry.now
+        shares,
+        &|share: Share| -> Result<PrefixCounts, NoMemory>
+            requires { (worker : ℕ) × IsShareOf job.now workers worker share }
+            ensures { (worker : ℕ) → IsShareOf job.entry.now workers worker share.entry
+                → IfOk result (AreSumsOf job.entry.now sieve.entry.now
                 (share_of job.entry.now.sequences workers worker)) }
-        { counted(alloc, job, sieve, workers, worker) },
+        { counted(alloc, job, sieve, workers, share, gate) },
     )?;
-    Ok(shares)
+    Ok(counts)
 }
 
 // Joins the counts of the workers from the second on to those of the first.

@@ -42,7 +42,7 @@ pub(crate) struct Progress<'a> {
 fn what_is_done(rt: &HostRuntime, words: &[String]) -> &'static str {
     match read_words(rt.alloc(), words) {
         Ok(Some(command)) => match command.engine {
-            Engine::Count => "blocks counted",
+            Engine::Count => "blocks gone over",
             Engine::Dfs | Engine::Pivot => "nodes grown",
             Engine::Cand => "parts counted",
         },

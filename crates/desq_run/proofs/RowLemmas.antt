@@ -66,7 +66,7 @@ module _ (words : List (List ℕ)) (holds : List ℕ → Option (List ℕ)) (c :
       → IfSome (bytes_named holds (file_of c.source)) (λ bytes. IsDatabaseSaid c.source c.weighted bytes known names db)
       → AllByRecursion (λ (s : Sequence Item). AllByRecursion (HasName names) s.items) db
       → ((fault : Fault) → IsUnknown names uses fault → ⊥)
-      → AreRows names before db (named_tree uses tree) c.threshold c.share c.engine rows work
+      → AreRows names before db (named_tree uses tree) c.threshold c.share c.engine c.stats rows work
       → IsMined words holds c names rows work
 
   mined-at : (added : List (List ℕ)) → AreLinksWithin before → IfSome (bytes_named holds c.hierarchy) (λ bytes. IsHierarchySaid c.source bytes known before)
@@ -96,7 +96,7 @@ module _ (words : List (List ℕ)) (holds : List ℕ → Option (List ℕ)) (c :
               (read_at words holds c has known before read input (held words holds c has input is)) within
               (found_at words holds c has known before read (known ++ added) db found input (held words holds c has input is)) numbered are.same are.named
               (subst (λ (d : Command). 1 ≤ d.threshold) same some)
-              (subst (λ (d : Command). IsWorkOf (IsNamedBefore (known ++ added)) c.share c.engine (record { links = before.links; sequences = db; expression = are.expression; threshold = d.threshold }) work) same are.work)),
+              (subst (λ (d : Command). IsWorkOf (IsNamedBefore (known ++ added)) c.share c.engine (record { links = before.links; sequences = db; expression = are.expression; threshold = d.threshold }) work) same (are.work asked))),
         );
   }
 
@@ -105,7 +105,7 @@ module _ (words : List (List ℕ)) (holds : List ℕ → Option (List ℕ)) (c :
       → AreDistinct names
       → AllByRecursion (λ (s : Sequence Item). AllByRecursion (HasName names) s.items) db
       → ((fault : Fault) → IsUnknown names uses fault → ⊥)
-      → AreRows names h db (named_tree uses tree) c.threshold c.share c.engine rows work
+      → AreRows names h db (named_tree uses tree) c.threshold c.share c.engine c.stats rows work
       → IsMined words holds c names rows work
   unfolding Mines
   mined names h inputs known_is before_is is_read ranges some distinct numbered known_all are =
@@ -116,20 +116,20 @@ module _ (words : List (List ℕ)) (holds : List ℕ → Option (List ℕ)) (c :
       let found : IfSome (bytes_named holds (file_of c.source)) (λ bytes. IsDatabaseSaid c.source c.weighted bytes known names db) =
       subst (λ k. IfSome (bytes_named holds (file_of c.source)) (λ bytes. IsDatabaseSaid c.source c.weighted bytes k names db)) known_is inputs.sequences in
       let links : h.links ≡ before.links = inputs.links ∙ ap (λ (b : Ancestry). b.links) before_is in
-      let are_before : AreRows names before db (named_tree uses tree) c.threshold c.share c.engine rows work = record {
+      let are_before : AreRows names before db (named_tree uses tree) c.threshold c.share c.engine c.stats rows work = record {
         expression = are.expression;
         same = are.same;
         named = are.named;
         found = subst (λ l. AreFound (IsNamedBefore names) c.share (record { links = l; sequences = db; expression = are.expression; threshold = c.threshold }) rows) links are.found;
         rises = are.rises;
-        work = subst (λ l. IsWorkOf (IsNamedBefore names) c.share c.engine (record { links = l; sequences = db; expression = are.expression; threshold = c.threshold }) work) links are.work;
+        work = λ asked. subst (λ l. IsWorkOf (IsNamedBefore names) c.share c.engine (record { links = l; sequences = db; expression = are.expression; threshold = c.threshold }) work) links (are.work asked);
       } in
       subst Mines (sym behind) (mined-at inputs.added (subst AreLinksWithin before_is inputs.within) read is_read ranges some) distinct found numbered known_all are_before
 
 -- what was found by the job of a command, in order, is mined
 pub job-mined : (words : List (List ℕ)) (holds : List ℕ → Option (List ℕ)) (c : Command) → IsCommand words c → (names : List (List ℕ)) (problem : Problem)
     → IsJobFor holds c names problem → HasRanges c.source → 1 ≤ c.threshold → (rows : List Row) (work : Work) → AreOrdered names c.share (data_of problem) rows
-    → IsWorkOf (IsNamedBefore names) c.share c.engine (data_of problem) work → IsMined words holds c names rows work
+    → (c.stats ≡ true → IsWorkOf (IsNamedBefore names) c.share c.engine (data_of problem) work) → IsMined words holds c names rows work
 job-mined words holds c said names problem job ranges some rows work ordered counted =
     mined words holds c (said, job.source) job.inputs.known job.inputs.before job.db job.uses job.tree rows work names job.h job.inputs refl refl job.read ranges some
     job.distinct job.numbered job.known (record {
@@ -138,7 +138,7 @@ job-mined words holds c said names problem job ranges some rows work ordered cou
       named = job.job.named;
       found = subst (λ d. AreFound (IsNamedBefore names) c.share d rows) job.job.sets ordered.found;
       rises = ordered.rises;
-      work = subst (λ d. IsWorkOf (IsNamedBefore names) c.share c.engine d work) job.job.sets counted;
+      work = λ asked. subst (λ d. IsWorkOf (IsNamedBefore names) c.share c.engine d work) job.job.sets (counted asked);
     })
 
 -- what is told is the work

@@ -157,9 +157,9 @@ AreFound Ties (Some share) d rows = (order : List Item) × IsRankList Ties d ord
     ↔ (IsFrequent d row.pattern row.support × IsOfShare share order row.pattern))
 
 -- The rows are the frequent patterns by numbers, all or those of the share, in the order of their names, and
--- the work is that of the engine; the tree is over names.
+-- where it is asked for, the work is that of the engine; the tree is over names.
 pub record AreRows (names : List (List ℕ)) (h : Ancestry) (db : List (Sequence Item)) (tree : Tree (List ℕ))
-    (threshold : ℕ) (share : Option Share) (engine : Engine)
+    (threshold : ℕ) (share : Option Share) (engine : Engine) (asked : Bool)
     (rows : List Row) (counted : Work) : Type 0 where
   pub expression : Tree Item
   pub same : tree_by (name_of names) expression ≡ tree
@@ -167,7 +167,7 @@ pub record AreRows (names : List (List ℕ)) (h : Ancestry) (db : List (Sequence
   pub found : AreFound (IsNamedBefore names) share
       (record { links = h.links; sequences = db; expression = expression; threshold = threshold }) rows
   pub rises : Rises (map (named_row names) rows)
-  pub work : IsWorkOf (IsNamedBefore names) share engine
+  pub work : asked ≡ true → IsWorkOf (IsNamedBefore names) share engine
       (record { links = h.links; sequences = db; expression = expression; threshold = threshold }) counted
 
 -- The rows are in the order of their names, the words name a source that is not refused, and where the files

@@ -33,8 +33,8 @@ use text_ports::{Failed, Files, Sink, write_all};
 /// How many bytes of the answer are gathered before they are written. Each write but the last has as many.
 const ROOM: usize = 65_536;
 
-/// The rows of the answer in their order, the names of their items, and the work of finding them, of which a
-/// merge has none.
+/// The rows of the answer in their order, the names of their items, and the work of finding them where it is
+/// asked for, of which a merge has none.
 #[derive(Debug, Drop)]
 struct Answer {
     names: Names,

@@ -1,6 +1,6 @@
 //! From a job to the rows of the answer.
 
-ghost use Rattle.std.specs.Prelude.{◌≡◌, ◌≤◌, ◌<◌, ℕ, List, None, length, All, IfOk, IfErr, Contains};
+ghost use Rattle.std.specs.Prelude.{◌≡◌, ◌≤◌, ◌<◌, ℕ, true, List, None, length, All, IfOk, IfErr, Contains};
 ghost use Rattle.std.specs.List.{AllByRecursion};
 ghost use Rattle.mine_model.specs.declared.fault.Fault.TheVariants.{NoMemory as OutOfMemory};
 ghost use Rattle.mine_model.specs.Limits.{most_workers};
@@ -49,7 +49,8 @@ fn searched<R: Threads + Wait + Sync, G: Gate>(
     }
 }
 
-/// The frequent patterns of the job, found by the engine of the command, in no stated order.
+/// The frequent patterns of the job, found by the engine of the command, in no stated order, and where the
+/// command asks for it the work.
 fn mined_by<R: Threads + Wait + Sync, G: Gate>(
     rt: &R,
     alloc: Global,
@@ -62,13 +63,16 @@ fn mined_by<R: Threads + Wait + Sync, G: Gate>(
     ensures frequent { IfOk result (λ mined. AreFrequent (data_of job.now) mined.rows.items) }
     ensures items { IfOk result (λ mined. (row : TheRow) → Contains mined.rows.items row
         → AllByRecursion (λ t. t.0 < job.now.hierarchy.items) row.pattern) }
-    ensures work { (names : List (List ℕ)) → AreTiesByName names job.now.ranking → IfOk result (λ mined.
+    ensures work { command.now.stats ≡ true → (names : List (List ℕ)) → AreTiesByName names job.now.ranking
+        → IfOk result (λ mined.
         IsWorkOf (IsNamedBefore names) None command.now.engine (data_of job.now) mined.work) }
 {
     // The contract of `items` says that no link leads out of the items, so each ranked item is one of them.
     let _items = job.hierarchy().items();
     match command.engine {
-        Engine::Count => count_engine::mine(rt, alloc, job, command.workers, gate),
+        Engine::Count => {
+            count_engine::mine(rt, alloc, job, command.workers, command.stats, gate)
+        }
         Engine::Dfs => searched(rt, alloc, job, Division::Whole, command, gate),
         Engine::Pivot => searched(rt, alloc, job, Division::ByPivots, command, gate),
         Engine::Cand => cand_automaton::mine(rt, alloc, job, command.workers, gate),
@@ -76,7 +80,7 @@ fn mined_by<R: Threads + Wait + Sync, G: Gate>(
 }
 
 /// The frequent patterns of the job that the command is to find, all or those of its share, in no stated
-/// order.
+/// order, and where the command asks for it the work.
 fn found<R: Threads + Wait + Sync, G: Gate>(
     rt: &R,
     alloc: Global,
@@ -92,8 +96,9 @@ fn found<R: Threads + Wait + Sync, G: Gate>(
         AreFound (IsNamedBefore names) command.now.share (data_of job.now) mined.rows.items) }
     ensures items { IfOk result (λ mined. (row : TheRow) → Contains mined.rows.items row
         → AllByRecursion (λ t. t.0 < job.now.hierarchy.items) row.pattern) }
-    ensures work { (names : List (List ℕ)) → AreTiesByName names job.now.ranking → IfOk result (λ mined.
-        IsWorkOf (IsNamedBefore names) command.now.share command.now.engine (data_of job.now) mined.work) }
+    ensures work { command.now.stats ≡ true → (names : List (List ℕ)) → AreTiesByName names job.now.ranking
+        → IfOk result (λ mined. IsWorkOf (IsNamedBefore names) command.now.share command.now.engine
+        (data_of job.now) mined.work) }
 {
     match command.share {
         Some(share) => mined_share(rt, alloc, job, share, command.workers, gate),
@@ -101,8 +106,8 @@ fn found<R: Threads + Wait + Sync, G: Gate>(
     }
 }
 
-/// The frequent rows of the job in order, all or those of a share, where its items have these names, and the
-/// work of finding them.
+/// The frequent rows of the job in order, all or those of a share, where its items have these names, and
+/// where the command asks for it the work of finding them.
 pub(crate) fn ordered_rows<R: Threads + Wait + Sync, G: Gate>(
     rt: &R,
     alloc: Global,
@@ -119,8 +124,8 @@ pub(crate) fn ordered_rows<R: Threads + Wait + Sync, G: Gate>(
     ensures rows { IfOk result (λ mined.
         AreOrdered names.now command.now.share (data_of job.now) mined.rows.items) }
     ensures named { IfOk result (λ mined. All (λ row. All (HasName names.now) row.pattern) mined.rows.items) }
-    ensures work { IfOk result (λ mined. IsWorkOf (IsNamedBefore names.now) command.now.share
-        command.now.engine (data_of job.now) mined.work) }
+    ensures work { command.now.stats ≡ true → IfOk result (λ mined. IsWorkOf (IsNamedBefore names.now)
+        command.now.share command.now.engine (data_of job.now) mined.work) }
     ensures fails { IfErr result (λ fault. fault ≡ OutOfMemory) }
 {
     let Mined { mut rows, work } = found(rt, alloc, job, command, gate)?;

@@ -25,7 +25,7 @@ use text_ports::{Files, Sink};
 ///
 /// 0 done, 2 the words are no command, 3 something is malformed, 4 a limit is exceeded, 5 a fault of reading,
 /// 6 a fault of writing, 7 not enough memory. A fault of `err` changes no status. A worker passes the gate
-/// before each block of sequences that it counts, or each node that it grows.
+/// before each block of sequences that it goes over, or each node that it grows.
 pub fn run<R: Threads + Wait + Sync, F: Files, O: Sink, E: Sink, G: Gate>(
     rt: &R,
     alloc: Global,

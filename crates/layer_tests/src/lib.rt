@@ -4,8 +4,6 @@
 #[cfg(test)]
 mod automata;
 #[cfg(test)]
-mod blocks;
-#[cfg(test)]
 mod compiling;
 #[cfg(test)]
 mod data;
@@ -17,8 +15,6 @@ mod grids;
 mod growing;
 #[cfg(test)]
 mod judging;
-#[cfg(test)]
-mod listing;
 #[cfg(test)]
 mod mining;
 #[cfg(test)]

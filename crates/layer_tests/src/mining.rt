@@ -35,15 +35,15 @@ const SHARED: [(u64, &[Item]); 4] = [
     (8, &[B, B, C]),
 ];
 
-// 1,500 sequences make six blocks.
+// Of 1,025 sequences the first of four workers has 257, and each other 256. A pattern has two items.
 const MANY: Case = Case {
-    shape: Shape::Climbing,
+    shape: Shape::Pair,
     lines: &RUNNING,
-    times: 300,
-    threshold: 601,
-    candidates: 2_400,
-    sets: 2,
-    rows: &[(900, &[A1, B])],
+    times: 205,
+    threshold: 205,
+    candidates: 205,
+    sets: 1,
+    rows: &[(205, &[A1, B])],
 };
 
 const ONE_ITEM_EACH: [(u64, &[Item]); 2] = [(1, &[B]), (1, &[C])];
@@ -60,7 +60,7 @@ const TWO: Case = Case {
 };
 
 // In SHARED all have the same set with `c` alone, two have different ones with `d`, and three with `b`.
-const FOUND: [Case; 6] = [
+const FOUND: [Case; 7] = [
     Case {
         shape: Shape::Climbing,
         lines: &RUNNING,
@@ -78,6 +78,15 @@ const FOUND: [Case; 6] = [
         candidates: 0,
         sets: 0,
         rows: &[],
+    },
+    Case {
+        shape: Shape::Climbing,
+        lines: &RUNNING,
+        times: 300,
+        threshold: 601,
+        candidates: 2_400,
+        sets: 2,
+        rows: &[(900, &[A1, B])],
     },
     MANY,
     TWO,
@@ -135,7 +144,7 @@ fn mined<R: Threads + Wait + Sync, G: Gate>(
     requires most { workers ≤ 64 }
 {
     match engine {
-        Engine::Count => count_engine::mine(rt, alloc, job, workers, gate),
+        Engine::Count => count_engine::mine(rt, alloc, job, workers, true, gate),
         Engine::Cand => cand_automaton::mine(rt, alloc, job, workers, gate),
     }
 }
@@ -200,21 +209,29 @@ fn sets_find_the_frequent_patterns(rt: HostRuntime) {
     assert_eq!(rt; wrong_workers(&rt, rt.alloc(), Engine::Cand), Ok(None));
 }
 
-/// How often each of four workers passed for each of its first two rounds, and how often anybody else did.
+/// How often each of four workers passed for each of its first four rounds, and how often for any other, or
+/// anybody else.
 #[derive(Drop)]
 struct Passed {
-    rounds: [[AtomicU64; 2]; 4],
+    rounds: [[AtomicU64; 4]; 4],
     others: AtomicU64,
 }
 
-fn no_rounds() -> [AtomicU64; 2] {
-    [AtomicU64::new(0), AtomicU64::new(0)]
+fn no_rounds() -> [AtomicU64; 4] {
+    [
+        AtomicU64::new(0),
+        AtomicU64::new(0),
+        AtomicU64::new(0),
+        AtomicU64::new(0),
+    ]
 }
 
-fn counts_of(rounds: &[AtomicU64; 2]) -> [u64; 2] {
+fn counts_of(rounds: &[AtomicU64; 4]) -> [u64; 4] {
     [
         rounds[0].load(Ordering::SeqCst),
         rounds[1].load(Ordering::SeqCst),
+        rounds[2].load(Ordering::SeqCst),
+        rounds[3].load(Ordering::SeqCst),
     ]
 }
 
@@ -226,8 +243,8 @@ impl Passed {
         }
     }
 
-    /// Whether these are the passes, and nobody else did.
-    fn are(&self, want: [[u64; 2]; 4]) -> bool {
+    /// Whether these are the passes, and there were no others.
+    fn are(&self, want: [[u64; 4]; 4]) -> bool {
         for (rounds, want) in self.rounds.iter().zip(&want) {
             if counts_of(rounds) != *want {
                 return false;
@@ -245,12 +262,14 @@ impl Gate for Passed {
     }
 }
 
+// Where patterns are short a worker goes over its sequences once for the sieve, and once more to count. Each
+// time it passes once for each 256 of them, or fewer at the end.
 #[test]
-fn each_block_passes_the_gate_once(rt: HostRuntime) {
+fn each_worker_passes_the_gate_once_in_each_round(rt: HostRuntime) {
     let gate = Passed::new();
     let is_found = is_found(&rt, rt.alloc(), Engine::Count, MANY, 4, &gate);
     assert_eq!(rt; is_found, Ok(true));
-    assert!(rt; gate.are([[1, 1], [1, 1], [1, 0], [1, 0]]));
+    assert!(rt; gate.are([[1, 1, 1, 1], [1, 1, 0, 0], [1, 1, 0, 0], [1, 1, 0, 0]]));
 }
 
 // Each worker has one part.
@@ -259,5 +278,5 @@ fn each_part_passes_the_gate_once(rt: HostRuntime) {
     let gate = Passed::new();
     let is_found = is_found(&rt, rt.alloc(), Engine::Cand, TWO, 2, &gate);
     assert_eq!(rt; is_found, Ok(true));
-    assert!(rt; gate.are([[1, 0], [1, 0], [0, 0], [0, 0]]));
+    assert!(rt; gate.are([[1, 0, 0, 0], [1, 0, 0, 0], [0, 0, 0, 0], [0, 0, 0, 0]]));
 }

@@ -86,16 +86,19 @@ fn is_shared<R: Threads + Wait + Sync>(
     Ok(is_left? && is_passed)
 }
 
-fn is_shared_by_blocks<R: Threads + Wait + Sync>(rt: &R, alloc: Global) -> Result<bool, NoMemory> {
+fn is_shared_by_sequences<R: Threads + Wait + Sync>(
+    rt: &R,
+    alloc: Global,
+) -> Result<bool, NoMemory> {
     let lines = "a b\n".repeat(alloc, 512)?;
     let words = "--support=512 --engine=count --workers=2 (a)(b) f";
-    is_shared(rt, alloc, words, lines.as_str(), "512\ta b\n", 0, 2)
+    is_shared(rt, alloc, words, lines.as_str(), "512\ta b\n", 0, 4)
 }
 
-// 512 sequences are two blocks.
+// Each worker has 256 sequences, and passes each time that it goes over them: for the sieve, and to count.
 #[test]
 fn a_second_worker_counts_while_the_first_is_held(rt: HostRuntime) {
-    assert_eq!(rt; is_shared_by_blocks(&rt, rt.alloc()), Ok(true));
+    assert_eq!(rt; is_shared_by_sequences(&rt, rt.alloc()), Ok(true));
 }
 
 // Each of the two items is the pivot of one part.

@@ -1,16 +1,12 @@
--- One level more, and levels where no item is frequent.
-use Rattle.std.proofs.Common.{◌≡◌, ◌≢◌, ℕ, ◌+◌, ◌-◌, ◌<◌, inl, inr, Bool, List, [], ◌∷◌, ◌++◌, length, take, slice_get, Some, refl, sym, ◌∙◌, subst, arith}
-use Rattle.std.proofs.lemmas.Bool.{cases_lt}
-use Rattle.std.proofs.lemmas.List.{take-append-le, take_at, nil_from_length}
+-- One level more.
+use Rattle.std.proofs.Common.{◌≡◌, ℕ, zero, suc, ◌+◌, ◌%◌, ◌^◌, ◌<◌, inl, inr, Bool, true, List, [], ◌∷◌, ◌++◌, length, replicate, take, slice_get, Some, refl, sym, ap, ◌∙◌, subst, arith}
+use Rattle.std.proofs.lemmas.List.{take-append-le, take_at, length-replicate, get_or-replicate}
 use Rattle.std.proofs.lemmas.Option.{slice_get_within}
-use Rattle.mine_model.specs.declared.item.Item.{Item}
-use Rattle.mine_model.specs.Ranks.{AreRanked}
-use Rattle.mine_model.proofs.AliveLemmas.{WeighAtLeast-some}
 use Rattle.mine_model.proofs.ElementLemmas.{get_snoc}
 use Rattle.mining_job.specs.Problems.{Problem, data_of}
-use Rattle.prefix_sieve.specs.Buckets.{flags_of}
+use Rattle.prefix_sieve.specs.Buckets.{top, bucket_of, sum_of, reaches, flags_of}
 use Rattle.prefix_sieve.specs.Hashes.{hash_of}
-use Rattle.prefix_sieve.specs.Sieves.{HasBehind, HasEnough}
+use Rattle.prefix_sieve.specs.Sieves.{HasEnough}
 use Rattle.sieve_passes.specs.Sums.{HasAll, AreLevelsOf}
 
 pub levels-none : (problem : Problem) → AreLevelsOf problem []
@@ -40,24 +36,30 @@ levels-more problem levels flags sums are is has = λ number other at. elim (get
       )
 ]
 
--- ---- no item is frequent
+-- ---- a level that lets all pass
 
-no-candidate : (order pattern : List Item) (ranks : List ℕ) → order ≡ [] → pattern ≢ [] → AreRanked order pattern ranks → ⊥
-no-candidate order [] ranks none some ranked = some refl
-no-candidate order (v ∷ items) [] none some ranked = ranked
-no-candidate order (v ∷ items) (rank ∷ ranks) none some ranked =
-    nothing (rank - 1) v (subst (λ (vs : List Item). slice_get vs (rank - 1) ≡ Some v) none ranked.0.place)
+pub open-enough : (problem : Problem) (levels : List (List Bool)) → HasAll problem levels problem.sequences (replicate 64 top)
+open-enough problem levels = λ prefix looked n most weigh.
+    let hash : ℕ = hash_of prefix in
+    let long : length (replicate 64 top) ≡ 64 = length-replicate 64 top in
+    let below : bucket_of (length (replicate 64 top)) hash < 64 = subst (λ (count : ℕ). bucket_of count hash < 64) (sym long) (inside hash) in
+    let full : sum_of (replicate 64 top) hash ≡ top = get_or-replicate 64 (bucket_of (length (replicate 64 top)) hash) top 0 below in
+    omega (arith, most, full)
   where
-    nothing : (k : ℕ) (v : Item) → slice_get [] k ≡ Some v → ⊥
-    nothing k v at = cc
+    inside : (hash : ℕ) → hash % 64 < 64
+    inside hash = omega arith
 
--- nothing is lost, whatever the sums are
-pub has-none : (problem : Problem) (levels : List (List Bool)) (sums : List ℕ) → length problem.ranking.order ≡ 0 → HasAll problem levels problem.sequences sums
-has-none problem levels sums none = λ prefix looked n most weigh. elim (cases_lt 0 n) [
-  | inl some ↦
-      let (sequence, held, behind) = WeighAtLeast-some (HasBehind (data_of problem) problem.ranking.order prefix) problem.sequences n (omega (arith, some)) weigh in
-      let (rest, has) = behind in
-      let (pattern, is, ranked) = has in
-      absurd (no-candidate problem.ranking.order pattern (prefix ++ rest) (nil_from_length problem.ranking.order none) is.generated.0 ranked)
-  | inr zero ↦ omega (arith, zero)
-]
+reaches-none : (threshold count : ℕ) → flags_of threshold (replicate count top) ≡ flags_of 0 (replicate count 0)
+reaches-none threshold zero = refl
+reaches-none threshold (suc count) =
+    ap (λ (b : Bool). b ∷ flags_of threshold (replicate count top)) (reached ∙ sym none)
+    ∙ ap (λ (bs : List Bool). reaches 0 0 ∷ bs) (reaches-none threshold count)
+  where
+    reached : reaches threshold top ≡ true
+    reached = grind arith
+
+    none : reaches 0 0 ≡ true
+    none = refl
+
+pub open-flags : (threshold : ℕ) → flags_of 0 (replicate (2 ^ 6) 0) ≡ flags_of threshold (replicate 64 top)
+open-flags threshold = sym (reaches-none threshold 64)

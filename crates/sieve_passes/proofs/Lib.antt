@@ -1,6 +1,6 @@
-pub mod ShareLemmas
 mod SumLemmas
-mod LevelLemmas
+pub mod LevelLemmas
 pub mod LeadLemmas
-pub mod NumberLemmas
+pub mod PartLemmas
 mod WorkerLemmas
+pub mod CrossingLemmas

@@ -8,8 +8,9 @@ use Rattle.mining_job.specs.Problems.{Problem, data_of}
 use Rattle.prefix_sieve.specs.Buckets.{AreJoined}
 use Rattle.prefix_sieve.specs.Hashes.{hash_of}
 use Rattle.prefix_sieve.specs.Sieves.{HasEnough, AreDealt}
-use Rattle.sieve_passes.specs.Sums.{HasAll, AddsAll, share_of}
-use Rattle.sieve_passes.proofs.ShareLemmas.{shares_to, dealt-shares}
+use Rattle.worker_shares.specs.Shares.{share_of}
+use Rattle.worker_shares.proofs.ShareLemmas.{shares_to, dealt-shares}
+use Rattle.sieve_passes.specs.Sums.{HasAll, AddsAll}
 
 -- ---- sequence after sequence
 

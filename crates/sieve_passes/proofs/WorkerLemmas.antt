@@ -1,83 +1,81 @@
 -- What the workers are given and give back.
-use Rattle.std.proofs.Common.{◌≡◌, ℕ, ◌+◌, ◌<◌, inl, inr, Bool, List, [], ◌∷◌, ◌++◌, length, slice_get, get_or, set, zero, suc, Some, refl, sym, ap, ◌∙◌, subst, arith, length-append}
-use Rattle.std.proofs.lemmas.Option.{same_Some}
-use Rattle.mine_model.proofs.ElementLemmas.{get_snoc}
+use Rattle.std.proofs.Common.{◌≡◌, ℕ, ◌+◌, ◌<◌, ◌≤◌, Bool, Some, List, ◌∷◌, length, slice_get, slice_index_or, get_or, remove, zero, suc, sym, ap, ◌∙◌, subst, arith}
+use Rattle.std.specs.List.{range_with_len}
+use Rattle.std.proofs.lemmas.List.FromFn.{length-range_with_len, get_or-range_with_len}
+use Rattle.std.proofs.lemmas.Option.{same_Some, slice_get_within, get_or_from_slice_get}
 use Rattle.mining_job.specs.Problems.{Problem}
+use Rattle.worker_shares.specs.Shares.{share_of}
 use Rattle.worker_threads.specs.Doing.{AreDone}
-use Rattle.worker_threads.proofs.DoingLemmas.{done-at, done-long}
+use Rattle.worker_threads.proofs.DoingLemmas.{done-at, done-long, first-apart}
 use Rattle.sieve_passes.specs.declared.share.Share.{Share}
-use Rattle.sieve_passes.specs.Shares.{AreShares, IsPassedBy, HaveAll}
-use Rattle.sieve_passes.specs.Sums.{share_of, HasAll}
+use Rattle.sieve_passes.specs.Shares.{IsShareOf, IsShareWith, AreShares, IsPassedBy, HaveAll}
+use Rattle.sieve_passes.specs.Sums.{HasAll}
 
-pub shares-none : (buckets : ℕ) (shares : List Share) → shares ≡ [] → AreShares 0 buckets shares
-shares-none buckets shares none = record {
-  all = ap (λ (ss : List Share). length ss) none;
-  each = λ k share at. absurd (nothing k share (subst (λ (ss : List Share). slice_get ss k ≡ Some share) none at));
-}
-  where
-    nothing : (k : ℕ) (share : Share) → slice_get [] k ≡ Some share → ⊥
-    nothing k share at = cc
+-- ---- shares are entered
 
-pub shares-more : (workers buckets : ℕ) (shares : List Share) (share : Share) → AreShares workers buckets shares → share.worker ≡ workers → length share.buckets ≡ buckets
-    → AreShares (workers + 1) buckets (shares ++ share ∷ [])
-shares-more workers buckets shares share are number long = record {
-  all = omega (arith, are.all, length-append shares (share ∷ []));
-  each = λ k other at. elim (get_snoc shares share k other at) [
-    | inl old ↦ are.each k other old
-    | inr (last, same) ↦ (
-      subst (λ (s : Share). s.worker ≡ k) same (number ∙ sym (last ∙ are.all)),
-      subst (λ (s : Share). length s.buckets ≡ buckets) same long,
-    )
-  ];
+-- a number of the workers is that of its place
+number-at : (workers k worker : ℕ) → slice_get (range_with_len 0 workers) k ≡ Some worker → worker ≡ k
+number-at workers k worker at =
+    let below : k < workers = omega (arith, slice_get_within (range_with_len 0 workers) k worker at, length-range_with_len 0 workers) in
+    let here : get_or (range_with_len 0 workers) k 0 ≡ 0 + k = get_or-range_with_len 0 workers k 0 below in
+    omega (arith, here, get_or_from_slice_get (range_with_len 0 workers) k worker 0 at)
+
+pub numbers-below : (workers : ℕ) (numbers : List ℕ) → numbers ≡ range_with_len 0 workers → (k d : ℕ) → k < length numbers → get_or numbers k d < workers
+numbers-below workers numbers is k d below =
+    let less : k < workers = omega (arith, below, ap (λ (ns : List ℕ). length ns) is, length-range_with_len 0 workers) in
+    let here : get_or numbers k d ≡ 0 + k = ap (λ (ns : List ℕ). get_or ns k d) is ∙ get_or-range_with_len 0 workers k d less in
+    omega (arith, here, less)
+
+pub shares-entered : (problem : Problem) (workers buckets : ℕ) (shares : List Share)
+    → AreDone (IsShareWith problem workers buckets) (range_with_len 0 workers) shares → AreShares problem workers buckets shares
+shares-entered problem workers buckets shares done = record {
+  all = done-long (IsShareWith problem workers buckets) (range_with_len 0 workers) shares done ∙ length-range_with_len 0 workers;
+  each = λ k share at.
+      let (worker, there, is) = done-at (IsShareWith problem workers buckets) (range_with_len 0 workers) shares done k share at in
+      subst (λ (w : ℕ). IsShareWith problem workers buckets w share) (number-at workers k worker there) is;
 }
+
+-- ---- shares are passed over
+
+-- a share is that of the worker whose number it has
+pub share-own : (problem : Problem) (workers buckets : ℕ) (shares : List Share) → AreShares problem workers buckets shares → (k : ℕ) (share : Share) → slice_get shares k ≡ Some share
+    → IsShareOf problem workers share.worker share
+share-own problem workers buckets shares are k share at =
+    let is : IsShareOf problem workers k share = (are.each k share at).own in
+    subst (λ (w : ℕ). IsShareOf problem workers w share) (sym is.number) is
 
 module _ (problem : Problem) (levels : List (List Bool)) (workers : ℕ) (starts dones : List Share) (done : AreDone (IsPassedBy problem levels workers) starts dones) where
-  pub shares-passed : (buckets : ℕ) → AreShares workers buckets starts → AreShares workers buckets dones
+  pub shares-passed : (buckets : ℕ) → AreShares problem workers buckets starts → AreShares problem workers buckets dones
   shares-passed buckets are = record {
     all = done-long (IsPassedBy problem levels workers) starts dones done ∙ are.all;
     each = λ k share at.
         let (start, there, passed) = done-at (IsPassedBy problem levels workers) starts dones done k share at in
-        let (number, long) = are.each k start there in
-        (passed.worker ∙ number, passed.long ∙ long);
+        let was = are.each k start there in
+        record {
+          own = subst (λ (w : ℕ). IsShareOf problem workers w share) was.own.number passed.own;
+          long = passed.long ∙ was.long;
+        };
   }
 
-  pub have-all : (buckets : ℕ) → AreShares workers buckets starts → HaveAll problem levels workers dones
+  pub have-all : (buckets : ℕ) → AreShares problem workers buckets starts → HaveAll problem levels workers dones
   have-all buckets are = λ k share at.
       let (start, there, passed) = done-at (IsPassedBy problem levels workers) starts dones done k share at in
-      let (number, long) = are.each k start there in
-      subst (λ (w : ℕ). HasAll problem levels (share_of problem.sequences workers w) share.buckets) number passed.has
-
--- each worker of the starts has a number below that of all
-pub share-below : (workers buckets : ℕ) (shares : List Share) → AreShares workers buckets shares → (k : ℕ) (share : Share) → slice_get shares k ≡ Some share → k < length shares
-    → share.worker < workers
-share-below workers buckets shares are k share at below =
-    let (number, long) = are.each k share at in
-    omega (arith, number, below, are.all)
+      let was = are.each k start there in
+      subst (λ (w : ℕ). HasAll problem levels (share_of problem.sequences workers w) share.buckets) was.own.number passed.has
 
 -- ---- the first worker's sums are those of all
 
-joined-at : (workers buckets : ℕ) (first new : Share) (back : List Share) → AreShares workers buckets (first ∷ back) → new.worker ≡ first.worker → length new.buckets ≡ length first.buckets
-    → (k : ℕ) (share : Share) → slice_get (new ∷ back) k ≡ Some share → (share.worker ≡ k) × (length share.buckets ≡ buckets)
-joined-at workers buckets first new back are number long zero share at =
-    let same : new ≡ share = same_Some new share at in
-    let (own, count) = are.each 0 first refl in (
-      subst (λ (s : Share). s.worker ≡ 0) same (number ∙ own),
-      subst (λ (s : Share). length s.buckets ≡ buckets) same (long ∙ count),
-    )
-joined-at workers buckets first new back are number long (suc k) share at = are.each (suc k) share at
+pub apart-from : (shares : List Share) (first : Share) (others : List Share) → 1 ≤ length shares → first ≡ slice_index_or shares 0 first → others ≡ remove shares 0 → first ∷ others ≡ shares
+apart-from shares first others some at rest = ap (λ (ss : List Share). first ∷ ss) rest ∙ first-apart shares first some at
 
-pub shares-joined : (workers buckets : ℕ) (shares front back : List Share) (first new : Share) → shares ≡ front ++ back → length front ≡ 1 → first ≡ get_or front 0 first
-    → new.worker ≡ first.worker → length new.buckets ≡ length first.buckets → AreShares workers buckets shares → AreShares workers buckets (set front 0 new ++ back)
-shares-joined workers buckets shares [] back first new is one at number long are = absurd (omega (arith, one))
-shares-joined workers buckets shares (x ∷ y ∷ front) back first new is one at number long are = absurd (omega (arith, one))
-shares-joined workers buckets shares (x ∷ []) back first new is one at number long are =
-    let here : AreShares workers buckets (first ∷ back) =
-    subst (λ (s : Share). AreShares workers buckets (s ∷ back)) (sym at) (subst (AreShares workers buckets) is are) in
-    record {
-      all = here.all;
-      each = joined-at workers buckets first new back here number long;
-    }
+joined-at : (problem : Problem) (workers buckets : ℕ) (first new : Share) (back : List Share) → AreShares problem workers buckets (first ∷ back) → IsShareWith problem workers buckets 0 new
+    → (k : ℕ) (share : Share) → slice_get (new ∷ back) k ≡ Some share → IsShareWith problem workers buckets k share
+joined-at problem workers buckets first new back are is zero share at = subst (IsShareWith problem workers buckets 0) (same_Some new share at) is
+joined-at problem workers buckets first new back are is (suc k) share at = are.each (suc k) share at
 
-pub first-there : (shares front back : List Share) (first : Share) → shares ≡ front ++ back → length front ≡ 1 → first ≡ get_or front 0 first → slice_get shares 0 ≡ Some first
-first-there shares [] back first is one at = absurd (omega (arith, one))
-first-there shares (x ∷ front) back first is one at = ap (λ (ss : List Share). slice_get ss 0) is ∙ ap (λ s. Some s) (sym at)
+pub shares-joined : (problem : Problem) (workers buckets : ℕ) (first new : Share) (back : List Share) → AreShares problem workers buckets (first ∷ back) → IsShareWith problem workers buckets 0 new
+    → AreShares problem workers buckets (new ∷ back)
+shares-joined problem workers buckets first new back are is = record {
+  all = are.all;
+  each = joined-at problem workers buckets first new back are is;
+}

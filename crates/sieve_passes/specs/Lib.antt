@@ -1,5 +1,4 @@
 -- the words of the promise
 pub mod Branches
-pub mod Sums
--- what the proofs keep
 pub mod Shares
+pub mod Sums

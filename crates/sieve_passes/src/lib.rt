@@ -2,14 +2,16 @@
 //! worker adds the prefixes of its own.
 #![tactic(auto)]
 
-mod block;
 mod branches;
 mod laws;
 mod making;
+mod passing;
+mod rounds;
 mod share;
 mod sums;
 
-pub use block::{BLOCK, block_count, set_numbers};
 pub use branches::PartBranches;
 pub use laws::candidates_lead_to_all;
-pub use making::sieve_of;
+pub use making::{shares_of, sieve_of};
+pub use rounds::pass_gate;
+pub use share::Share;

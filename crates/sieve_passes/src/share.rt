@@ -1,83 +1,102 @@
-//! A worker's pass over its share of the sequences.
+//! A worker's share of the sequences.
 
-ghost use Rattle.std.specs.Prelude.{◌≡◌, ◌<◌, length, IfOk, OnOk};
-ghost use Rattle.sieve_passes.specs.Shares.{IsPassedBy};
-ghost use Rattle.sieve_passes.specs.Sums.{share_of, AddsAll, HasAll};
+ghost use Rattle.std.specs.Prelude.{◌^◌, ◌≤◌, ◌<◌, IfOk};
+ghost use Rattle.sieve_passes.specs.Shares.{IsShareOf, IsShareWith, IsPassedBy, AreThoseOf};
 
-use super::block::{Workspace, block_count, pass_over_block};
-use mine_model::NoMemory;
+use super::branches::PartBranches;
+use super::passing::pass_over_all;
+use mine_model::{Gate, NoMemory};
 use mining_job::Job;
-use prefix_sieve::{Buckets, Sieve, one_more_sequence};
+use prefix_sieve::{Buckets, Room, Sieve, one_more_sequence};
 use std::alloc::Global;
+use worker_shares::numbers_of;
 
-/// A worker's number, and its sums.
+/// A worker's sequences, which are entered once for all passes, and its sums for the next level of a sieve.
 #[derive(Drop)]
-pub(crate) struct Share {
+pub struct Share<'a> {
     pub(crate) worker: u32,
+    pub(crate) numbers: Vec<u32>,
+    pub(crate) branches: PartBranches<'a>,
     pub(crate) buckets: Buckets,
 }
 
-/// A worker's pass for the next level, in place of what its buckets hold. Its blocks are those whose numbers,
-/// divided by the number of workers, leave its own.
-pub(crate) fn passed(
+impl<'a> Share<'a> {
+    /// The number of the worker, those of its sequences, and their branches.
+    pub fn into_parts(self) -> (u32, Vec<u32>, PartBranches<'a>)
+        ensures { AreThoseOf self.entry result.0 result.1.items result.2 }
+    {
+        let Share {
+            worker,
+            numbers,
+            branches,
+            buckets: _,
+        } = self;
+        (worker, numbers, branches)
+    }
+}
+
+/// A worker's share, with so many buckets, 2^`bits`. Its sequences are entered.
+pub(crate) fn entered<'a>(
+    alloc: Global,
+    job: &'a Job,
+    workers: u32,
+    worker: u32,
+    bits: u32,
+) -> Result<Share<'a>, NoMemory>
+    requires worker { worker < workers }
+    requires least { 6 ≤ bits }
+    requires most { bits ≤ 31 }
+    ensures { IfOk result (IsShareWith job.now workers (2 ^ bits) worker) }
+{
+    let numbers = numbers_of(alloc, job, workers, worker)?;
+    let mut branches = PartBranches::new(alloc, job)?;
+    branches.enter(numbers.as_slice())?;
+    let buckets = Buckets::new(alloc, bits)?;
+    Ok(Share {
+        worker,
+        numbers,
+        branches,
+        buckets,
+    })
+}
+
+/// A worker's pass for the next level, in place of what its buckets hold.
+pub(crate) fn passed<'a, G: Gate>(
     alloc: Global,
     job: &Job,
     sieve: &Sieve,
     workers: u32,
-    share: Share,
-) -> Result<Share, NoMemory>
-    requires { share.worker < workers }
-    ensures { IfOk result (IsPassedBy job.now sieve.now workers share) }
+    share: Share<'a>,
+    gate: &G,
+) -> Result<Share<'a>, NoMemory>
+    requires { IsShareOf job.now workers share.worker share }
+    ensures { IfOk result (IsPassedBy job.now sieve.now workers share.entry) }
 {
     let Share {
         worker,
+        numbers,
+        mut branches,
         mut buckets,
     } = share;
+    let mut room = Room::new(alloc);
     buckets.clear();
     one_more_sequence();
-    pass_over_share(alloc, job, sieve, worker, workers, &mut buckets)?;
-    Ok(Share { worker, buckets })
-}
-
-// Adds the worker's sequences to the sums.
-fn pass_over_share(
-    alloc: Global,
-    job: &Job,
-    sieve: &Sieve,
-    worker: u32,
-    workers: u32,
-    buckets: &mut Buckets,
-) -> Result<(), NoMemory>
-    requires { worker < workers }
-    ensures long { length buckets.new ≡ length buckets.old }
-    ensures added { OnOk result (AddsAll job.now sieve.now
-        (share_of job.now.sequences workers worker) buckets.old buckets.new) }
-{
-    let mut space = Workspace::new(alloc, job)?;
-    pass_over_blocks(job, sieve, worker, workers, &mut space, buckets)
-}
-
-// The same in this room, block by block.
-// It stands apart for the proof alone: who owns the room has to show at each exit that it is let go.
-fn pass_over_blocks(
-    job: &Job,
-    sieve: &Sieve,
-    worker: u32,
-    workers: u32,
-    space: &mut Workspace,
-    buckets: &mut Buckets,
-) -> Result<(), NoMemory>
-    requires worker { worker < workers }
-    requires problem { space.old.branches.part.problem ≡ job.now }
-    ensures long { length buckets.new ≡ length buckets.old }
-    ensures added { OnOk result (AddsAll job.now sieve.now
-        (share_of job.now.sequences workers worker) buckets.old buckets.new) }
-{
-    for block in 0..block_count(job) {
-        if block % workers != worker {
-            continue;
-        }
-        pass_over_block(job, sieve, block, space, buckets)?;
-    }
-    Ok(())
+    // There are no more sequences than numbers of 32 bits.
+    let _few = job.db().sequences();
+    pass_over_all(
+        job,
+        sieve,
+        worker,
+        numbers.as_slice(),
+        &mut branches,
+        &mut room,
+        &mut buckets,
+        gate,
+    )?;
+    Ok(Share {
+        worker,
+        numbers,
+        branches,
+        buckets,
+    })
 }

@@ -2,10 +2,10 @@ use Rattle.std.proofs.Common.{◌≡◌, ◌∙◌, ℕ, suc, ◌+◌, List, Som
 use Rattle.std.proofs.lemmas.Option.{slice_get-get_or}
 use Rattle.mine_model.specs.declared.item.Item.{Item}
 use Rattle.mine_model.specs.Support.{Sequence}
-use Rattle.sieve_passes.specs.Sums.{block_count, takes_of, share_of}
-use Rattle.sieve_passes.proofs.ShareLemmas.{takes_below, shares_to, share-first, shares-all}
+use Rattle.worker_shares.specs.Shares.{share_of}
+use Rattle.worker_shares.proofs.ShareLemmas.{takes_below, shares_to, share-first, shares-all, taken-few, share-few}
 use Rattle.counting_passes.specs.Counts.{AreSumsOf}
-use Rattle.counting_passes.proofs.SumLemmas.{share-few, sums-more}
+use Rattle.counting_passes.proofs.SumLemmas.{sums-more}
 use Rattle.counting_passes.proofs.counting.join_others.Goals as goal
 
 pub loop-share-init : goal.loop-share-init
@@ -23,8 +23,8 @@ join-requires c = λ list.
     let (levels, have) = c.requires in
     let mine = (c.loop-share.invariant levels have).most list in
     let theirs = (have.each (suc index) c.share-item.result at).most list in
-    let few = share-few (takes_below c.args.workers (index + 1)) sequences (block_count sequences) (omega arith) in
-    let also = share-few (takes_of c.args.workers (suc index)) sequences (block_count sequences) (omega arith) in
+    let few = taken-few (takes_below c.args.workers (index + 1)) sequences (length sequences) in
+    let also = share-few sequences c.args.workers (suc index) in
     let whole : length c.db.result.now ≡ length sequences = ap length c.db.ensures.sequences in
     omega (arith, mine, theirs, few, also, whole, c.sequences-few.ensures.count, c.sequences-few.ensures.most)
 

@@ -1,5 +1,5 @@
 use Rattle.std.proofs.Common.{◌+◌, ◌∷◌, Bool, List}
-use Rattle.sieve_passes.proofs.ShareLemmas.{shares_to}
+use Rattle.worker_shares.proofs.ShareLemmas.{shares_to}
 use Rattle.counting_passes.specs.Counts.{AreSumsOf, HaveAllCounted}
 use Rattle.counting_passes.proofs.counting.join_others.Given as goal
 

@@ -18,7 +18,7 @@ returns-in-None-clause-found g c = λ names ties.
     (λ mined is. is.frequent) c.mined_by.ensures.frequent)
 
 pub returns-in-Some-clause-work : goal.returns-in-Some-clause-work
-returns-in-Some-clause-work g c = rw c.in-Some.is c.mined_share.ensures.work
+returns-in-Some-clause-work g c = λ asked. rw c.in-Some.is c.mined_share.ensures.work
 
 pub returns-in-None-clause-work : goal.returns-in-None-clause-work
 returns-in-None-clause-work g c = rw c.in-None.is c.mined_by.ensures.work

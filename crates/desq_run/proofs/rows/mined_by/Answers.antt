@@ -10,8 +10,11 @@ use Rattle.desq_run.proofs.SetRankLemmas.{problem-set-work}
 use Rattle.desq_run.proofs.RowLemmas.{if_ok}
 use Rattle.desq_run.proofs.rows.mined_by.Goals as goal
 
+pub returns-in-Count-clause-work : goal.returns-in-Count-clause-work
+returns-in-Count-clause-work g c = λ asked names ties. rw c.in-Count.is (c.mine.ensures.work asked)
+
 pub returns-in-Pivot-clause-work : goal.returns-in-Pivot-clause-work
-returns-in-Pivot-clause-work g c = λ names ties.
+returns-in-Pivot-clause-work g c = λ asked names ties.
     let within = rw c.hierarchy.ensures.hierarchy at c.items-items.ensures.within in
     rw c.in-Pivot.is
     (if_ok (λ (mined : Mined). IsWorkFor ByPivots (data_of c.args.job.now) c.args.job.now.ranking.order mined.work)
@@ -19,7 +22,7 @@ returns-in-Pivot-clause-work g c = λ names ties.
     (λ mined is. problem-work c.args.job.now c.hierarchy.ensures.whole within names ties mined.work is) c.searched-in-Pivot.ensures.work)
 
 pub returns-in-Cand-clause-work : goal.returns-in-Cand-clause-work
-returns-in-Cand-clause-work g c = λ names ties.
+returns-in-Cand-clause-work g c = λ asked names ties.
     let within = rw c.hierarchy.ensures.hierarchy at c.items-items.ensures.within in
     rw c.in-Cand.is
     (if_ok (λ (mined : Mined). IsAutomatonWork (data_of c.args.job.now) c.args.job.now.ranking.order mined.work)

@@ -30,4 +30,4 @@ returns-clause-named g c =
     (rows-named c.args.names.now c.args.job.now.hierarchy.items c.in_ok-rows.field-0.rows.items c.requires.items c.in_ok-rows.ensures.items))
 
 pub returns-clause-work : goal.returns-clause-work
-returns-clause-work g c = c.in_ok-rows.ensures.work c.args.names.now c.requires.ties
+returns-clause-work g c = λ asked. c.in_ok-rows.ensures.work asked c.args.names.now c.requires.ties

@@ -1,21 +1,51 @@
-use Rattle.std.proofs.Common.{◌≡◌, ◌∙◌, ◌++◌, List, length, get_or, set, sym, ap, subst, arith}
-use Rattle.mine_model.proofs.ListLemmas.{written_back}
+use Rattle.std.proofs.Common.{◌≡◌, ◌≤◌, ◌∙◌, ◌+◌, ◌∷◌, ℕ, suc, Bool, List, Some, length, slice_get, refl, sym, ap, subst, arith}
+use Rattle.prefix_sieve.specs.Buckets.{flags_of}
 use Rattle.sieve_passes.specs.declared.share.Share.{Share}
-use Rattle.sieve_passes.specs.Shares.{AreShares}
-use Rattle.sieve_passes.proofs.WorkerLemmas.{shares-joined}
+use Rattle.worker_shares.specs.Shares.{share_of}
+use Rattle.sieve_passes.specs.Shares.{AreShares, HaveAll}
+use Rattle.sieve_passes.specs.Sums.{HasAll}
+use Rattle.sieve_passes.proofs.WorkerLemmas.{apart-from, shares-joined}
 use Rattle.sieve_passes.proofs.sums.level_of.Goals as goal
+
+pub join_all-requires : goal.join_all-requires
+join_all-requires c = λ k share at.
+    let (buckets, are) = c.requires.shares in
+    let problem = c.args.job.now in
+    let first = c.remove-first.result in
+    let others : List Share = c.as_slice.result.now in
+    let some : 1 ≤ length c.args.shares.items = omega (arith, are.all, c.requires.some) in
+    let apart : first ∷ others ≡ c.args.shares.items = apart-from c.args.shares.items first others some c.remove-first.ensures.value (c.as_slice.ensures.value ∙ c.remove-first.ensures.items) in
+    let here : AreShares problem c.args.workers buckets (first ∷ others) = subst (AreShares problem c.args.workers buckets) (sym apart) are in
+    (here.each (suc k) share at).long ∙ sym (here.each 0 first refl).long
 
 pub returns-clause-shares : goal.returns-clause-shares
 returns-clause-shares c = λ buckets are.
-    let shares = c.args.shares.now.items in
-    let front : List Share = c.split_at_mut-first.result.0.now in
-    let back : List Share = c.split_at_mut-first.result.1.now in
-    let first = c.index-first-0.result in
-    let item : Share = get_or front 0 first in
-    let same : item ≡ first = sym c.index-first-0.is in
-    let new : Share = record { worker = item.worker; buckets = c.join_all.new.sums } in
-    let parts : shares ≡ front ++ back = sym c.as_mut_slice.ensures.value ∙ c.split_at_mut-first.ensures.value in
-    let now : AreShares c.args.workers buckets (set front 0 new ++ back) =
-    shares-joined c.args.workers buckets shares front back first new parts c.split_at_mut-first.ensures.front_len c.index-first-0.is (ap (λ (s : Share). s.worker) same)
-    (c.join_all.ensures.long ∙ ap (λ (s : Share). length s.buckets) same) are in
-    subst (AreShares c.args.workers buckets) (sym (written_back (set front 0 new ++ back) shares c.args.shares.now.len (omega (arith, now.all, are.all, c.args.shares.now.ok.0)))) now
+    let problem = c.args.job.now in
+    let first = c.remove-first.result in
+    let others : List Share = c.remove-first.new.self.items in
+    let some : 1 ≤ length c.args.shares.items = omega (arith, are.all, c.requires.some) in
+    let apart : first ∷ others ≡ c.args.shares.items = apart-from c.args.shares.items first others some c.remove-first.ensures.value c.remove-first.ensures.items in
+    let here : AreShares problem c.args.workers buckets (first ∷ others) = subst (AreShares problem c.args.workers buckets) (sym apart) are in
+    let was = here.each 0 first refl in
+    subst (AreShares problem c.args.workers buckets) (sym c.in_ok-insert.ensures.items)
+    (shares-joined problem c.args.workers buckets first c.join_all.new.first others here (record {
+      own = c.join_all.ensures.own problem c.args.workers 0 was.own;
+      long = c.join_all.ensures.long ∙ was.long;
+    }))
+
+pub returns-clause-level : goal.returns-clause-level
+returns-clause-level c = λ levels have.
+    let problem = c.args.job.now in
+    let (buckets, are) = c.requires.shares in
+    let first = c.remove-first.result in
+    let others : List Share = c.as_slice.result.now in
+    let some : 1 ≤ length c.args.shares.items = omega (arith, are.all, c.requires.some) in
+    let apart : first ∷ others ≡ c.args.shares.items = apart-from c.args.shares.items first others some c.remove-first.ensures.value (c.as_slice.ensures.value ∙ c.remove-first.ensures.items) in
+    let all : HaveAll problem levels c.args.workers (first ∷ others) = subst (HaveAll problem levels c.args.workers) (sym apart) have in
+    let count : c.args.workers ≡ length others + 1 = omega (arith, are.all, ap (λ (ss : List Share). length ss) apart) in (
+      c.join_all.new.first.buckets,
+      c.in_ok-level.ensures ∙ ap (λ n. flags_of n c.join_all.new.first.buckets) c.threshold.ensures.threshold,
+      c.join_all.ensures.joined problem levels c.args.workers count (all 0 first refl) (λ k share at.
+          let next : suc k ≡ k + 1 = omega arith in
+          subst (λ (w : ℕ). HasAll problem levels (share_of problem.sequences c.args.workers w) share.buckets) next (all (suc k) share at)),
+    )

@@ -1,4 +1,0 @@
-mod ShareLemmas
-mod MadeLemmas
-mod WorkLemmas
-mod StartLemmas

@@ -1,0 +1,2 @@
+-- the words of the promise
+pub mod Shares
